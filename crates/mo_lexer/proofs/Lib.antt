@@ -1,0 +1,14 @@
+mod Comments
+mod Endings
+mod Fronts
+mod Marks
+mod Narrow
+mod Numbers
+mod OneKind
+mod Quoted
+mod Reached
+mod Refusals
+mod Shapes
+mod Stuck
+mod Unique
+mod Words
