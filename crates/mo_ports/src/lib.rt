@@ -33,3 +33,6 @@ pub use shelf::{Failed, Shelf};
 pub use sink::Sink;
 pub use standard::StdSink;
 pub use steps::Steps;
+
+#[cfg(test)]
+mod tests;

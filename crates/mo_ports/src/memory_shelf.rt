@@ -1,7 +1,9 @@
 //! A shelf that holds its files in memory, and fails where it is told to.
-ghost use Rattle.std.specs.Prelude.{◌≡◌, ℕ, ◌≤◌, ◌+◌, ◌-◌, ◌<◌, min, length, take, drop, Some, None};
+ghost use Rattle.std.specs.Prelude.{◌≡◌, ℕ, ◌≤◌, ◌+◌, ◌-◌, ◌<◌, min, length, take, drop, Some, None, is_err, IfOk, IfSome, OnErr};
 ghost use Rattle.std.specs.Option.{option_copied};
-ghost use Rattle.mo_ports.specs.Contents.{bytes_of};
+ghost use Rattle.mo_ports.specs.Contents.{bytes_of, ReadsAt};
+ghost use Rattle.mo_ports.specs.Counts.{raised};
+ghost use Rattle.mo_ports.specs.Memory.{read_fails};
 
 use crate::shelf::{Failed, ReadCounts, Shelf};
 use mo_syntax::{List, Text};
@@ -87,7 +89,17 @@ impl Shelf for MemoryShelf {
 
     ghost failed = { λ s. s.failed };
 
-    fn read_at(&mut self, name: &str, at: u64, buf: &mut [u8]) -> Result<usize, Failed> {
+    fn read_at(&mut self, name: &str, at: u64, buf: &mut [u8]) -> Result<usize, Failed>
+        ensures fails { is_err result ≡ read_fails self.old name.now }
+        ensures count { IfOk result (λ count. IfSome (bytes_of self.old.files name.now) (λ bytes. count ≡ min (min (length bytes - at) self.old.most) (length buf.old))) }
+        ensures within { IfOk result (λ count. count ≤ length buf.new) }
+        ensures bytes { IfOk result (λ count. ReadsAt (bytes_of self.old.files name.now) at buf.new count) }
+
+        ensures counts { IfOk result (λ count. self.new ≡ record self.old { calls = raised self.old.calls 1; taken = raised self.old.taken count }) }
+        ensures counts_fault { OnErr result (self.new ≡ record self.old { calls = raised self.old.calls 1; faults = raised self.old.faults 1; failed = Some name.now }) }
+        ensures taken_later { self.old.taken ≤ self.new.taken }
+        ensures faults_later { self.old.faults ≤ self.new.faults }
+    {
         self.calls = self.calls.saturating_add(1);
         if self.failing.as_slice().contains(&self.calls) {
             return Err(self.counts.fail(name));

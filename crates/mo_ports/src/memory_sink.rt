@@ -1,5 +1,7 @@
 //! A sink that keeps its bytes in memory, and fails where it is told to.
-ghost use Rattle.std.specs.Prelude.{◌≡◌, ◌<◌, [], IfOk, Some};
+ghost use Rattle.std.specs.Prelude.{◌≡◌, ◌<◌, ◌≤◌, ◌-◌, ◌++◌, [], min, length, take, IfOk, OnErr, is_err, Some};
+ghost use Rattle.mo_ports.specs.Counts.{raised};
+ghost use Rattle.mo_ports.specs.Memory.{write_fails};
 
 use crate::shelf::Failed;
 use crate::sink::Sink;
@@ -72,7 +74,15 @@ impl Sink for MemorySink {
 
     ghost faults = { λ s. s.faults };
 
-    fn write(&mut self, piece: &[u8]) -> Result<usize, Failed> {
+    fn write(&mut self, piece: &[u8]) -> Result<usize, Failed>
+        ensures fails { is_err result ≡ write_fails self.old piece.now }
+        ensures count { IfOk result (λ count. count ≡ min (min (length piece.now) self.old.most) (self.old.room - length self.old.bytes)) }
+        ensures some { IfOk result (λ count. 0 < length piece.now → 0 < count) }
+
+        ensures writes { IfOk result (λ count. self.new ≡ record self.old { bytes = self.old.bytes ++ take count piece.now; calls = raised self.old.calls 1 }) }
+        ensures writes_nothing { OnErr result (self.new ≡ record self.old { calls = raised self.old.calls 1; faults = raised self.old.faults 1 }) }
+        ensures faults_later { self.old.faults ≤ self.new.faults }
+    {
         self.calls = self.calls.saturating_add(1);
         let count = piece.len().min(self.most).min(self.room - self.bytes.len());
         if self.failing.as_slice().contains(&self.calls) || (count == 0 && !piece.is_empty()) {

@@ -7,7 +7,7 @@ use crate::sink::Sink;
 use thiserror::Error;
 
 /// A write failed.
-#[derive(Debug, Drop, Error)]
+#[derive(Clone, Copy, Debug, PartialEq, Eq, Error)]
 #[error("a write failed")]
 pub struct WriteFault;
 

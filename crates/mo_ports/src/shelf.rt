@@ -7,7 +7,7 @@ use crate::record::Record;
 use thiserror::Error;
 
 /// A read or a write failed outside of the program.
-#[derive(Debug, Drop, Error)]
+#[derive(Clone, Copy, Debug, PartialEq, Eq, Error)]
 #[error("an input or output failed")]
 pub struct Failed;
 
