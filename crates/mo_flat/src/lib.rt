@@ -1,0 +1,14 @@
+//! The flat model: the types that the meaning of a class ends in and that the structure of a model begins with, and its
+//! printed text.
+#![tactic(auto)]
+
+mod array;
+mod connect;
+mod copy;
+mod expr;
+mod model;
+
+pub use array::{ArrayExpr, ArrayNode, Subscript};
+pub use connect::{Connect, Connects, End, EndLeaf, Expanded, FaceSet, Side};
+pub use expr::FlatExpr;
+pub use model::{FlatAssert, FlatEquation, FlatModel, FlatVar};
