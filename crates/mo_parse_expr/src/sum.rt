@@ -348,42 +348,44 @@ mod tests {
         }
     }
 
+    // The place after the sum, its expressions and its terms.
+    fn read(alloc: Global, text: &str, at: usize) -> Result<(usize, u64, usize), Stop> {
+        let tokens = tokens(alloc, text)?;
+        if at >= tokens.len() {
+            return Ok((0, 0, 0));
+        }
+        let (found, end) = expression(alloc, tokens.as_slice(), at, 0)?;
+        Ok((end, nodes(&found), terms(&found)))
+    }
+
+    // The rule and the byte of a refusal.
+    fn refusal(alloc: Global, text: &str) -> (u8, u32) {
+        match read(alloc, text, 0) {
+            Err(Stop::Broken(broken)) => (broken.rule.number(), broken.place.byte),
+            _ => (0, 0),
+        }
+    }
+
     #[test]
     fn reads_the_longest_sum(rt: HostRuntime) -> Result<(), Stop> {
         let alloc = rt.alloc();
-        // a text, where to begin, the place after the sum, its expressions and its terms
         let table = [
-            ("x ", 0, 1, 1, 0),
-            ("+ x ", 0, 2, 1, 0),
-            ("- x * 2 ", 0, 4, 4, 1),
-            ("x + y - 1.5 * z = 3 ", 0, 7, 6, 3),
-            ("x * y + ", 0, 3, 3, 0),
-            ("x y ", 0, 1, 1, 0),
-            ("= 3 - 4 ", 1, 4, 3, 2),
-            ("9223372036854775807 * ", 0, 1, 1, 0),
+            ("x ", 0, (1, 1, 0)),
+            ("+ x ", 0, (2, 1, 0)),
+            ("- x * 2 ", 0, (4, 4, 1)),
+            ("x + y - 1.5 * z = 3 ", 0, (7, 6, 3)),
+            ("x * y + ", 0, (3, 3, 0)),
+            ("x y ", 0, (1, 1, 0)),
+            ("= 3 - 4 ", 1, (4, 3, 2)),
+            ("9223372036854775807 * ", 0, (1, 1, 0)),
         ];
-        for (text, at, after, count, most) in table {
-            let tokens = tokens(alloc, text)?;
-            let (found, end) = match expression(alloc, tokens.as_slice(), at, 0) {
-                Ok(found) => found,
-                Err(_) => {
-                    assert!(rt; false, "{text} is refused");
-                    return Ok(());
-                }
-            };
-            assert_eq!(rt; end, after, "after {text}");
-            assert_eq!(rt; nodes(&found), count, "in {text}");
-            assert_eq!(rt; terms(&found), most, "in {text}");
+        for (text, at, wanted) in table {
+            let found = read(alloc, text, at)?;
+            assert_eq!(rt; found, wanted, "in {text}");
         }
         for text in ["* x ", "- = ", "1e3 ", "1. ", "9223372036854775808 ", ""] {
-            let tokens = tokens(alloc, text)?;
-            match expression(alloc, tokens.as_slice(), 0, 0) {
-                Err(Stop::Broken(broken)) => {
-                    assert_eq!(rt; broken.rule.number(), 6);
-                    assert_eq!(rt; broken.place.byte, 0);
-                }
-                _ => assert!(rt; false, "{text} is read"),
-            }
+            let found = refusal(alloc, text);
+            assert_eq!(rt; found, (6, 0), "in {text}");
         }
         Ok(())
     }
