@@ -1,23 +1,21 @@
 -- The comment at the front.
-use Rattle.std.proofs.Common.{◌≡◌, ℕ, zero, suc, ◌+◌, ◌-◌, ◌<◌, ◌≤◌, ◌⊎◌, inl, inr, Bool, true, false, ◌&&◌, not, List, [], ◌∷◌, ◌++◌, length, take, drop, get_or, eqb, Option, Some, None, refl, sym, ap, subst, ◌∙◌, arith, length-append, append_assoc, take-append-drop, length-take-le}
+use Rattle.std.proofs.Common.{◌≡◌, ℕ, suc, ◌+◌, ◌-◌, ◌<◌, ◌≤◌, inl, inr, true, false, List, [], ◌∷◌, ◌++◌, length, take, drop, get_or, Some, None, refl, sym, ap, subst, ◌∙◌, arith, length-append, append_assoc, take-append-drop, length-take-le}
 use Rattle.std.specs.List.{list_all, prefix_len}
 use Rattle.std.specs.Str.{IsCharBoundary}
 use Rattle.std.proofs.lemmas.Bool.{cases_lt}
 use Rattle.std.proofs.lemmas.Bool.Decides.{nat_tests}
-use Rattle.std.proofs.lemmas.List.{drop_more, take_more, drop-drop, get_or_at, get_or-append-add, get_or-take, get_or_append_left}
+use Rattle.std.proofs.lemmas.List.{drop_more, take_more, get_or_at, get_or-append-add, get_or-take}
 use Rattle.std.proofs.lemmas.List.Sums.{prefix_len_stops, prefix_len-le-length}
 use Rattle.std.proofs.lemmas.Str.{IsCharBoundary-end, IsCharBoundary-before_ascii}
-use Rattle.mo_syntax.specs.declared.token.TokenKind.{TokenKind}
-use Rattle.mo_syntax.specs.declared.token.TokenKind.TheVariants.{Ident, Keyword, Operator, Whole, Decimal, Str, End}
 use Rattle.mo_lexer.specs.Bytes.{is_line_byte}
-use Rattle.mo_lexer.specs.Spelling.{Spells, IsWithinLimit, IsComment, line, block, IsSeparator, blank, comment, NeverCloses}
-use Rattle.mo_lexer.specs.Lexing.{Fits, opens_block, IsStuck, Breaks, cut_by_end, IsTooWide, IsCutByEnd, comment as cut_comment}
-use Rattle.mo_lexer.specs.Finding.{IsCut, opens_line, IsFirstClose, ClosesAt}
-use Rattle.mo_lexer.proofs.Fronts.{first_is, both_hold, both, run_passes, run_longest, tail_is}
+use Rattle.mo_lexer.specs.Spelling.{IsComment, line, block, IsSeparator, comment, NeverCloses}
+use Rattle.mo_lexer.specs.Lexing.{Fits, opens_block, IsStuck, Breaks, cut_by_end, IsTooWide, comment as cut_comment}
+use Rattle.mo_lexer.specs.Finding.{opens_line, IsFirstClose, ClosesAt}
+use Rattle.mo_lexer.proofs.Fronts.{first_is, run_passes, run_longest, tail_is}
 use Rattle.mo_lexer.proofs.Endings.{same_body}
-use Rattle.mo_lexer.proofs.Shapes.{some_of_separator, some_of_spelling, Marks, class, IsMarked, operator, number, comment', is_mark_text}
+use Rattle.mo_lexer.proofs.Shapes.{some_of_separator, some_of_spelling, Marks, class, IsMarked, operator, number, comment'}
 use Rattle.mo_lexer.proofs.OneKind.{slash_mark}
-use Rattle.mo_lexer.proofs.Stuck.{fits_from, bounded, cut_after, opens_with_slash}
+use Rattle.mo_lexer.proofs.Stuck.{fits_from, bounded, cut_after}
 use Rattle.mo_lexer.proofs.Words.{Front}
 
 -- ---- up to the end of the line

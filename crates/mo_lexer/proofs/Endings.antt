@@ -1,11 +1,10 @@
 -- What stands between quotes ends in one place, and so does a comment.
-use Rattle.std.proofs.Common.{◌≡◌, ℕ, zero, suc, ◌+◌, ◌<◌, ◌≤◌, ◌⊎◌, inl, inr, Bool, true, false, List, [], ◌∷◌, ◌++◌, length, take, drop, get_or, Option, Some, None, refl, sym, ap, subst, ◌∙◌, arith, append_assoc}
+use Rattle.std.proofs.Common.{◌≡◌, ℕ, ◌+◌, ◌<◌, inl, inr, Bool, true, false, List, [], ◌∷◌, ◌++◌, length, take, get_or, refl, arith, append_assoc}
 use Rattle.std.proofs.lemmas.List.{take_more}
 use Rattle.mo_lexer.specs.Bytes.{is_escaped, is_quotable, is_string_byte}
 use Rattle.mo_lexer.specs.Spelling.{AreContents, nothing, plain, escape, NeverCloses}
 use Rattle.mo_lexer.specs.Lexing.{begins_escaped}
-use Rattle.mo_lexer.specs.Finding.{IsContentsEnd, IsFirstClose, ClosesAt}
-use Rattle.mo_lexer.proofs.Fronts.{overlap, GoesOn}
+use Rattle.mo_lexer.proofs.Fronts.{overlap}
 
 -- neither a plain character nor an escape stands at the front
 abbrev pub Stops : (ℕ → Bool) → List ℕ → Type 0

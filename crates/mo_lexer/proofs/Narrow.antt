@@ -1,11 +1,10 @@
 -- The value of digits only grows with more of them.
-use Rattle.std.proofs.Common.{◌≡◌, ℕ, ◌+◌, ◌-◌, ◌*◌, ◌<◌, ◌≤◌, Bool, true, false, IsTrue, List, [], ◌∷◌, length, drop, get_or, refl, sym, ap, ◌∙◌, arith}
+use Rattle.std.proofs.Common.{◌≡◌, ℕ, ◌+◌, ◌-◌, ◌*◌, ◌<◌, ◌≤◌, true, false, IsTrue, List, [], ◌∷◌, length, drop, get_or, ap, arith}
 use mathlib.Core.Bool.{false≢true}
 use Rattle.std.specs.Char.{digit_value}
 use Rattle.std.specs.Str.Parse.{digits_value, digits_value_after}
 use Rattle.std.proofs.lemmas.Bool.Decides.{nat_tests}
 use Rattle.std.proofs.lemmas.List.{drop_more}
-use Rattle.mo_syntax.specs.declared.token.TokenKind.TheVariants.{Whole}
 use Rattle.mo_lexer.specs.Bytes.{is_digit}
 use Rattle.mo_lexer.specs.Spelling.{are_digits}
 use Rattle.mo_lexer.proofs.Numbers.{passes_at}

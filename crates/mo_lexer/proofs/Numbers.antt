@@ -1,5 +1,5 @@
 -- The longest number at the front.
-use Rattle.std.proofs.Common.{◌≡◌, ℕ, zero, suc, ◌+◌, ◌-◌, ◌*◌, ◌<◌, ◌≤◌, ◌⊎◌, inl, inr, Bool, true, false, ◌&&◌, ◌||◌, not, List, [], ◌∷◌, ◌++◌, length, take, drop, get_or, eqb, ltb, refl, sym, ap, subst, ◌∙◌, arith, length-append, append_assoc, append-nil, take-append-drop, length-take-le}
+use Rattle.std.proofs.Common.{◌≡◌, ℕ, zero, suc, ◌+◌, ◌-◌, ◌<◌, ◌≤◌, ◌⊎◌, inl, inr, Bool, true, false, ◌&&◌, not, List, [], ◌∷◌, ◌++◌, length, take, drop, get_or, eqb, ltb, refl, sym, ap, subst, ◌∙◌, arith, length-append, append_assoc, append-nil, length-take-le}
 use Rattle.std.specs.List.{list_all, prefix_len}
 use mathlib.Core.Bool.{false≢true}
 use Rattle.std.specs.Str.Parse.{digits_value}
@@ -7,14 +7,13 @@ use Rattle.std.proofs.lemmas.Bool.Decides.{nat_tests}
 use Rattle.std.proofs.Math.Seq.{take-add}
 use Rattle.std.proofs.lemmas.List.{drop_at, length-drop, get_or-take}
 use Rattle.std.proofs.lemmas.List.Sums.{prefix_len-le-length}
-use Rattle.mo_syntax.specs.declared.token.TokenKind.{TokenKind}
 use Rattle.mo_syntax.specs.declared.token.TokenKind.TheVariants.{Whole, Decimal}
 use Rattle.mo_lexer.specs.Bytes.{is_digit, is_exponent_mark, is_sign}
 use Rattle.mo_lexer.specs.Spelling.{are_digits, IsExponent, IsWhole, IsDecimal, pointed, unpointed, Spells, line, block}
 use Rattle.mo_lexer.specs.Lexing.{IsPiece, opens_block, Fits, IsStuck, Breaks}
 use Rattle.mo_lexer.specs.Finding.{point_len, mark_len, exponent_len, begins_number, is_mark, number_kind, IsCut, IsNumberFront}
 use Rattle.mo_lexer.proofs.Fronts.{first_is, both_hold, both, first_passes, later_pass, all_joined, run_passes, run_longest, run_ends, tail_is}
-use Rattle.mo_lexer.proofs.Shapes.{IsNumber, whole, decimal, Digits, Marks, class, class_digit, IsMarked, operator, number, comment', is_mark_text, some_of_spelling}
+use Rattle.mo_lexer.proofs.Shapes.{IsNumber, whole, decimal, Digits, Marks, class, class_digit, IsMarked, operator, number, comment', some_of_spelling}
 use Rattle.mo_lexer.proofs.Stuck.{fits_from, bounded, cut_after, opens_with_slash, wide_front}
 
 -- ---- the exponent

@@ -1,5 +1,5 @@
 -- A text is the spelling of one kind of token at most, and no separator.
-use Rattle.std.proofs.Common.{◌≡◌, ℕ, zero, suc, ◌+◌, ◌<◌, ◌≤◌, ◌⊎◌, inl, inr, Bool, true, false, ◌&&◌, ◌||◌, not, List, [], ◌∷◌, ◌++◌, length, Option, Some, None, if◌then◌else◌, eqb, ltb, refl, sym, ap, subst, ◌∙◌, arith}
+use Rattle.std.proofs.Common.{◌≡◌, ℕ, ◌<◌, inl, inr, Bool, true, false, ◌&&◌, ◌||◌, not, List, [], ◌∷◌, ◌++◌, length, Option, Some, None, if◌then◌else◌, eqb, ltb, refl, sym, ap, subst, ◌∙◌, arith}
 use Rattle.std.specs.List.{list_all}
 use Rattle.std.proofs.lemmas.Bool.Decides.{nat_tests}
 use Rattle.mo_syntax.specs.declared.token.TokenKind.{TokenKind}
@@ -7,7 +7,7 @@ use Rattle.mo_syntax.specs.declared.token.TokenKind.TheVariants.{Ident, Keyword,
 use Rattle.mo_tables.specs.Words.{code_in, keywords, operators}
 use Rattle.mo_lexer.specs.Bytes.{is_blank, is_letter, is_digit, is_word_byte}
 use Rattle.mo_lexer.specs.Finding.{is_mark}
-use Rattle.mo_lexer.specs.Spelling.{is_word, are_digits, IsWhole, IsDecimal, pointed, unpointed, Spells, IsComment, line, block, IsSeparator, blank, comment}
+use Rattle.mo_lexer.specs.Spelling.{is_word, are_digits, IsDecimal, pointed, unpointed, Spells, IsComment, line, block, IsSeparator, blank, comment}
 use Rattle.mo_lexer.proofs.Fronts.{first_is, both_hold, first_passes, all_back}
 use Rattle.mo_lexer.proofs.Shapes.{Class, Blanks, Letters, Digits, SingleQuotes, DoubleQuotes, Marks, class, is_mark_text, operator_is_mark, mark_first, class_letter, class_digit, class_mark, some_of_spelling, some_of_separator}
 

@@ -1,12 +1,12 @@
 -- The text in quotes at the front.
-use Rattle.std.proofs.Common.{◌≡◌, ℕ, zero, suc, ◌+◌, ◌-◌, ◌<◌, ◌≤◌, ◌⊎◌, inl, inr, Bool, true, false, List, [], ◌∷◌, ◌++◌, length, take, drop, get_or, refl, sym, ap, subst, ◌∙◌, arith, length-append, append_assoc, append-nil, take-append-drop, length-take-le}
+use Rattle.std.proofs.Common.{◌≡◌, ℕ, suc, ◌+◌, ◌-◌, ◌<◌, ◌≤◌, ◌⊎◌, inl, inr, Bool, false, List, [], ◌∷◌, ◌++◌, length, take, drop, get_or, refl, sym, ap, subst, ◌∙◌, arith, length-append, append_assoc, append-nil, take-append-drop, length-take-le}
 use Rattle.std.proofs.lemmas.List.{drop_more, take_all, take_more}
 use Rattle.std.proofs.lemmas.Bool.Decides.{nat_tests}
 use Rattle.mo_syntax.specs.declared.token.TokenKind.TheVariants.{Ident}
 use Rattle.mo_lexer.specs.Bytes.{is_quotable, is_string_byte}
 use Rattle.mo_lexer.specs.Spelling.{AreContents, IsQuoted, IsString}
-use Rattle.mo_lexer.specs.Lexing.{Fits, opens_block, IsStuck, Breaks, cut_by_end, bad_byte, IsTooWide, IsCutByEnd, comment, string, quoted, IsBadAt, in_string, in_quoted, begins_escaped}
-use Rattle.mo_lexer.specs.Finding.{IsCut, IsContentsEnd}
+use Rattle.mo_lexer.specs.Lexing.{IsStuck, Breaks, cut_by_end, bad_byte, IsCutByEnd, comment, string, quoted, in_string, in_quoted}
+use Rattle.mo_lexer.specs.Finding.{IsContentsEnd}
 use Rattle.mo_lexer.proofs.Fronts.{first_is, tail_is}
 use Rattle.mo_lexer.proofs.Endings.{Stops, same_contents, stop_at_single, stop_at_double}
 use Rattle.mo_lexer.proofs.Shapes.{SingleQuotes, DoubleQuotes, class}
@@ -216,6 +216,6 @@ pub quoted_too_wide : (rest : List ℕ) (m rule : ℕ) → rule ≡ 5 → Front 
 quoted_too_wide rest m rule is front wide =
     wide_front rest m Ident rule is (omega (arith, front.cut.within)) (inr front.is) front.fits (λ short. omega (arith, short, length-take-le m rest front.cut.within))
 
-pub unless_either : {A B : Type 0} → (A → ⊥) ⊎ B → A → B
-unless_either (inl none) a = absurd (none a)
-unless_either (inr b) a = b
+pub unless_either : {A B : Type 0} (n : ℕ) → (A → ⊥) ⊎ (B × (n < 1)) → A → n ≡ 0
+unless_either n (inl none) a = absurd (none a)
+unless_either n (inr b) a = omega (arith, b.1)

@@ -1,7 +1,7 @@
 -- How far the tokens of a text have been read.
-use Rattle.std.proofs.Common.{◌≡◌, ℕ, zero, suc, ◌+◌, ◌-◌, ◌<◌, ◌≤◌, ◌⊎◌, inl, inr, Bool, true, false, ◌&&◌, List, [], ◌∷◌, ◌++◌, length, take, drop, map, get_or, eqb, if◌then◌else◌, refl, sym, ap, subst, ◌∙◌, arith, append_assoc, append-nil, take-append-drop, length-drop}
+use Rattle.std.proofs.Common.{◌≡◌, ℕ, ◌+◌, ◌-◌, ◌≤◌, Bool, true, false, ◌&&◌, List, [], ◌∷◌, ◌++◌, length, take, drop, get_or, eqb, refl, sym, ap, subst, ◌∙◌, arith, append_assoc, append-nil, take-append-drop, length-drop}
 use Rattle.std.specs.Str.{IsUtf8, IsCharBoundary}
-use Rattle.std.proofs.lemmas.List.{map-append, nil_from_length}
+use Rattle.std.proofs.lemmas.List.{map-append}
 use Rattle.std.proofs.lemmas.Bool.Decides.{nat_tests}
 use Rattle.std.proofs.lemmas.Str.{IsUtf8-past_char, IsCharBoundary-at_seam}
 use lib.Utf8.{encode}
@@ -11,7 +11,8 @@ use Rattle.mo_syntax.specs.declared.token.Token.{Token}
 use Rattle.mo_syntax.specs.declared.token.TokenKind.{TokenKind}
 use Rattle.mo_syntax.specs.declared.token.TokenKind.TheVariants.{End}
 use Rattle.mo_lexer.specs.Spelling.{Spells, IsWithinLimit, IsSeparator}
-use Rattle.mo_lexer.specs.Lexing.{Lexeme, lexeme, lexemes, Fits, Reads, stops, skips, takes, after_mark, end_of, Lexes, IsStuck, Breaks, place_before, IsRefused}
+use Rattle.mo_syntax.specs.Lexeme.{Lexeme, lexeme, lexemes}
+use Rattle.mo_lexer.specs.Lexing.{Fits, Reads, stops, skips, takes, after_mark, end_of, Lexes, IsStuck, Breaks, place_before, IsRefused}
 
 unfoldable pub placed : ℕ → ℕ → Place
 placed file byte = record { file = file; byte = byte }

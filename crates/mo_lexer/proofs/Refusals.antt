@@ -1,9 +1,10 @@
 -- A text is refused in one way, and not where it has tokens.
-use Rattle.std.proofs.Common.{◌≡◌, ℕ, ◌+◌, ◌-◌, ◌<◌, ◌≤◌, ◌⊎◌, inl, inr, Bool, true, false, List, [], ◌∷◌, ◌++◌, length, refl, sym, ap, subst, ◌∙◌, arith}
+use Rattle.std.proofs.Common.{◌≡◌, ℕ, ◌+◌, ◌-◌, inl, inr, List, [], ◌∷◌, ◌++◌, length, refl, sym, ap, subst, ◌∙◌, arith}
 use Rattle.mo_syntax.specs.declared.place.Broken.{Broken}
 use Rattle.mo_syntax.specs.declared.place.Place.{Place}
 use Rattle.mo_lexer.specs.Bytes.{is_quotable, is_string_byte}
-use Rattle.mo_lexer.specs.Lexing.{Lexeme, Reads, after_mark, Lexes, IsStuck, IsBadAt, in_string, in_quoted, Breaks, too_wide, cut_by_end, bad_byte, no_token, IsRefused}
+use Rattle.mo_syntax.specs.Lexeme.{Lexeme}
+use Rattle.mo_lexer.specs.Lexing.{after_mark, Lexes, IsBadAt, in_string, in_quoted, Breaks, too_wide, cut_by_end, bad_byte, no_token, IsRefused}
 use Rattle.mo_lexer.proofs.Fronts.{first_is, tail_is}
 use Rattle.mo_lexer.proofs.Endings.{same_contents}
 use Rattle.mo_lexer.proofs.Unique.{same_reading}

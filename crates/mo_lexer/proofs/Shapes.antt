@@ -1,14 +1,14 @@
 -- What the first byte of a piece says of the piece.
-use Rattle.std.proofs.Common.{◌≡◌, ℕ, zero, suc, ◌+◌, ◌<◌, ◌≤◌, ◌⊎◌, inl, inr, Bool, true, false, ◌&&◌, ◌||◌, not, List, [], ◌∷◌, ◌++◌, length, Option, Some, None, if◌then◌else◌, eqb, ltb, refl, sym, ap, subst, ◌∙◌, arith}
+use Rattle.std.proofs.Common.{◌≡◌, ℕ, ◌+◌, ◌<◌, inl, inr, Bool, true, false, ◌&&◌, not, List, [], ◌∷◌, length, Some, if◌then◌else◌, eqb, ltb, refl, sym, ap, subst, arith}
 use Rattle.std.specs.List.{list_all, position_from}
 use Rattle.std.specs.Str.{bytes_eq}
 use Rattle.std.proofs.lemmas.Bool.Decides.{nat_tests}
 use Rattle.std.proofs.lemmas.Slice.Eq.{bytes_eq-Decides}
 use Rattle.mo_syntax.specs.declared.token.TokenKind.{TokenKind}
 use Rattle.mo_syntax.specs.declared.token.TokenKind.TheVariants.{Ident, Keyword, Operator, Whole, Decimal, Str, End}
-use Rattle.mo_tables.specs.Words.{code_in, keywords, operators}
-use Rattle.mo_lexer.specs.Bytes.{is_blank, is_letter, is_digit, is_word_byte, is_escaped, is_quotable, is_string_byte, is_line_byte, is_exponent_mark, is_sign}
-use Rattle.mo_lexer.specs.Spelling.{is_word, IsQuoted, IsString, are_digits, IsWhole, IsDecimal, pointed, unpointed, Spells, IsWithinLimit, IsComment, line, block, IsSeparator, blank, comment}
+use Rattle.mo_tables.specs.Words.{code_in, operators}
+use Rattle.mo_lexer.specs.Bytes.{is_blank, is_letter, is_digit, is_word_byte}
+use Rattle.mo_lexer.specs.Spelling.{is_word, IsQuoted, IsString, IsWhole, IsDecimal, pointed, unpointed, Spells, IsComment, line, block, IsSeparator, blank, comment}
 use Rattle.mo_lexer.specs.Finding.{is_mark}
 use Rattle.mo_lexer.specs.Lexing.{IsPiece}
 use Rattle.mo_lexer.proofs.Fronts.{both_hold}

@@ -1,11 +1,11 @@
 -- A text is read in one way.
-use Rattle.std.proofs.Common.{◌≡◌, ℕ, ◌+◌, ◌-◌, ◌<◌, ◌≤◌, ◌⊎◌, inl, inr, List, [], ◌∷◌, ◌++◌, length, refl, sym, ap, subst, ◌∙◌, arith}
-use Rattle.mo_syntax.specs.declared.place.Broken.{Broken}
+use Rattle.std.proofs.Common.{◌≡◌, ℕ, ◌⊎◌, inl, inr, List, [], ◌∷◌, ◌++◌, refl, sym, ap, subst, ◌∙◌, arith}
 use Rattle.mo_syntax.specs.declared.place.Place.{Place}
 use Rattle.mo_syntax.specs.declared.token.TokenKind.{TokenKind}
 use Rattle.mo_lexer.specs.Spelling.{Spells, IsWithinLimit, IsSeparator}
-use Rattle.mo_lexer.specs.Lexing.{Lexeme, IsPiece, Fits, Reads, stops, skips, takes, after_mark, end_of, Lexes, IsStuck, place_before}
-use Rattle.mo_lexer.proofs.Fronts.{overlap, GoesOn}
+use Rattle.mo_syntax.specs.Lexeme.{Lexeme}
+use Rattle.mo_lexer.specs.Lexing.{IsPiece, Fits, Reads, stops, skips, takes, end_of, Lexes, IsStuck}
+use Rattle.mo_lexer.proofs.Fronts.{overlap}
 use Rattle.mo_lexer.proofs.Shapes.{some_of_piece}
 use Rattle.mo_lexer.proofs.OneKind.{same_kind, separator_is_no_token}
 

@@ -1,18 +1,16 @@
 -- The longest word at the front, a blank, and a comment.
-use Rattle.std.proofs.Common.{◌≡◌, ℕ, zero, suc, ◌+◌, ◌-◌, ◌<◌, ◌≤◌, ◌⊎◌, inl, inr, Bool, true, false, ◌&&◌, ◌||◌, not, List, [], ◌∷◌, ◌++◌, length, take, drop, get_or, eqb, None, refl, sym, ap, subst, ◌∙◌, arith, length-append, append_assoc, take-append-drop, length-take-le}
-use Rattle.std.specs.List.{list_all, prefix_len}
+use Rattle.std.proofs.Common.{◌≡◌, ℕ, suc, ◌+◌, ◌-◌, ◌<◌, ◌≤◌, inl, true, List, [], ◌∷◌, length, take, drop, get_or, None, refl, arith, length-take-le}
+use Rattle.std.specs.List.{prefix_len}
 use Rattle.std.proofs.lemmas.Bool.Decides.{nat_tests}
-use Rattle.std.proofs.lemmas.List.Sums.{prefix_len_passes, prefix_len_stops, prefix_len-le-length}
-use Rattle.std.proofs.lemmas.Str.{IsCharBoundary-end, IsCharBoundary-before_ascii}
+use Rattle.std.proofs.lemmas.List.Sums.{prefix_len_passes, prefix_len-le-length}
 use Rattle.mo_syntax.specs.declared.token.TokenKind.TheVariants.{Ident}
 use Rattle.mo_tables.specs.Words.{code_in, keywords}
-use Rattle.mo_lexer.specs.Bytes.{is_blank, is_letter, is_word_byte, is_line_byte}
-use Rattle.mo_lexer.specs.Spelling.{is_word, IsComment, line, block, IsSeparator, blank, comment, NeverCloses}
-use Rattle.mo_lexer.specs.Lexing.{Fits, opens_block, IsStuck, Breaks}
-use Rattle.mo_lexer.specs.Finding.{IsCut, opens_line}
-use Rattle.mo_lexer.proofs.Fronts.{first_is, both_hold, both, run_passes, run_longest}
-use Rattle.mo_lexer.proofs.Shapes.{Blanks, Letters, Marks, class, class_letter, IsMarked, operator, number, comment', is_mark_text}
-use Rattle.mo_lexer.proofs.OneKind.{slash_mark}
+use Rattle.mo_lexer.specs.Bytes.{is_blank, is_letter, is_word_byte}
+use Rattle.mo_lexer.specs.Spelling.{is_word, IsSeparator, blank}
+use Rattle.mo_lexer.specs.Lexing.{Fits, IsStuck, Breaks}
+use Rattle.mo_lexer.specs.Finding.{IsCut}
+use Rattle.mo_lexer.proofs.Fronts.{both, run_passes, run_longest}
+use Rattle.mo_lexer.proofs.Shapes.{Blanks, Letters, class, class_letter}
 use Rattle.mo_lexer.proofs.Stuck.{fits_from, bounded, cut_after, opens_with_slash, wide_front}
 
 -- so many bytes are a piece that fits

@@ -1,12 +1,12 @@
 -- What the parts of the lexer find at the front of what is left of a text.
-use Rattle.std.specs.Prelude.{◌≡◌, ℕ, ◌+◌, ◌-◌, ◌<◌, ◌≤◌, Bool, true, false, ◌==◌, ◌&&◌, ◌||◌, not, List, [], ◌∷◌, ◌++◌, length, take, drop, slice_index, Option, Some, None, if◌then◌else◌}
+use Rattle.std.specs.Prelude.{◌≡◌, ℕ, ◌+◌, ◌<◌, ◌≤◌, Bool, true, false, ◌==◌, ◌&&◌, ◌||◌, not, List, [], ◌∷◌, length, take, drop, slice_index, Option, Some, None, if◌then◌else◌}
 use Rattle.std.specs.List.{prefix_len}
 use Rattle.std.specs.Str.{IsUtf8, IsCharBoundary}
 use Rattle.mo_syntax.specs.declared.token.TokenKind.{TokenKind}
 use Rattle.mo_syntax.specs.declared.token.TokenKind.TheVariants.{Whole, Decimal}
 use Rattle.mo_lexer.specs.Bytes.{is_blank, is_letter, is_digit, is_quotable, is_string_byte, is_exponent_mark, is_sign}
 use Rattle.mo_lexer.specs.Spelling.{AreContents, Spells, IsWithinLimit, IsSeparator}
-use Rattle.mo_lexer.specs.Lexing.{Fits, IsStuck, Breaks, begins_escaped, opens_block}
+use Rattle.mo_lexer.specs.Lexing.{Fits, IsStuck, Breaks, begins_escaped}
 use Rattle.mo_lexer.specs.declared.contents.Quotes.{Quotes}
 use Rattle.mo_lexer.specs.declared.contents.Quotes.TheVariants.{Single, Double}
 use Rattle.mo_lexer.specs.declared.piece.Found.{Found}

@@ -1,26 +1,14 @@
 -- Which tokens a text has, or which rule it breaks and where (Modelica Language Specification 3.5, chapter 2).
-use Rattle.std.specs.Prelude.{◌≡◌, ℕ, ◌+◌, ◌-◌, ◌<◌, Bool, true, false, ◌==◌, ◌&&◌, List, [], ◌∷◌, ◌++◌, length, map, ◌⊎◌, if◌then◌else◌, Result, Ok, Err}
+use Rattle.std.specs.Prelude.{◌≡◌, ℕ, ◌+◌, ◌-◌, ◌<◌, Bool, true, false, ◌==◌, ◌&&◌, List, [], ◌∷◌, ◌++◌, length, ◌⊎◌, if◌then◌else◌, Result, Ok, Err}
+use Rattle.mo_syntax.specs.Lexeme.{Lexeme}
 use Rattle.mo_syntax.specs.declared.place.Broken.{Broken}
 use Rattle.mo_syntax.specs.declared.place.Stop.{Stop}
 use Rattle.mo_syntax.specs.declared.place.Stop.TheVariants.{Broken as broken_by, NoMemory as no_memory}
 use Rattle.mo_syntax.specs.declared.place.Place.{Place}
-use Rattle.mo_syntax.specs.declared.token.Token.{Token}
 use Rattle.mo_syntax.specs.declared.token.TokenKind.{TokenKind}
 use Rattle.mo_syntax.specs.declared.token.TokenKind.TheVariants.{End}
 use Rattle.mo_lexer.specs.Bytes.{is_escaped, is_quotable, is_string_byte}
 use Rattle.mo_lexer.specs.Spelling.{AreContents, Spells, IsWithinLimit, IsSeparator, IsComment, NeverCloses}
-
--- a token as contracts see it: its text by its bytes
-pub record Lexeme : Type 0 where
-  pub kind : TokenKind
-  pub text : List ℕ
-  pub place : Place
-
-abbrev pub lexeme : Token → Lexeme
-lexeme token = record { kind = token.kind; text = token.text.now; place = token.place }
-
-abbrev pub lexemes : List Token → List Lexeme
-lexemes = map lexeme
 
 -- what may stand as one piece of a text: a separator or a spelling
 abbrev pub IsPiece : List ℕ → Type 0

@@ -19,8 +19,11 @@ pub(crate) const TEXT_WITHOUT_END: u8 = 4;
 
 pub(crate) const LITERAL_TOO_WIDE: u8 = 5;
 
-// The most bytes that an identifier may have.
+// The most bytes that an identifier may have, its quotes included.
 const IDENTIFIER_MAX: usize = 256;
+
+// The fewest bytes that may stand in single quotes.
+const QUOTED_MIN: usize = 1;
 
 /// What stands at the front of what is left of a text.
 #[derive(Drop)]
@@ -77,7 +80,7 @@ fn quoted(rest: &[u8]) -> Found
     let close = 1 + body;
     if close == rest.len() {
         Found::Unfit(Rule::new(TEXT_WITHOUT_END), 0)
-    } else if rest[close] != b'\'' || body == 0 {
+    } else if rest[close] != b'\'' || body < QUOTED_MIN {
         Found::Unfit(Rule::new(BAD_CHARACTER), close)
     } else if close >= IDENTIFIER_MAX {
         Found::Unfit(Rule::new(LITERAL_TOO_WIDE), 0)

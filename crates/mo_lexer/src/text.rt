@@ -2,7 +2,8 @@
 
 ghost use Rattle.std.specs.Prelude.{◌≡◌, ◌<◌, ◌^◌, ◌≤◌, List as Seq, length, IfOk};
 ghost use Rattle.mo_syntax.specs.declared.place.Broken.{Broken as Refusal};
-ghost use Rattle.mo_lexer.specs.Lexing.{Lexeme, lexemes, Lexes, IsRefused, after_mark, place_before, IfBroken};
+ghost use Rattle.mo_syntax.specs.Lexeme.{Lexeme, lexemes};
+ghost use Rattle.mo_lexer.specs.Lexing.{Lexes, IsRefused, after_mark, place_before, IfBroken};
 
 use crate::piece::{Found, piece};
 use mo_syntax::{Broken, List, Place, Stop, Token, TokenKind};
@@ -29,9 +30,10 @@ fn after_mark(text: &str) -> &str
 pub fn tokens<'a>(alloc: Global, file: u32, text: &'a str) -> Result<List<Token<'a>>, Stop>
     requires { length text.now < 2 ^ 32 }
 
-    // What is answered are the tokens of the text, and no other list of tokens is.
+    // What is answered are the tokens of the text, no other list of tokens is, and the text breaks no rule.
     ensures lexes { IfOk result (λ tokens. Lexes file text.now (lexemes tokens)) }
     ensures only { IfOk result (λ tokens. (others : Seq Lexeme) → Lexes file text.now others → others ≡ lexemes tokens) }
+    ensures not_refused { IfOk result (λ _. (broken : Refusal) → IsRefused file text.now broken → ⊥) }
 
     // A refusal comes exactly where the text has no tokens, with the rule and the place that the definition gives.
     ensures refused { IfBroken result (λ broken. IsRefused file text.now broken) }

@@ -1,5 +1,3 @@
-use Rattle.std.proofs.Common.{refl, sym, ap, ◌∙◌, arith}
-use Rattle.std.proofs.lemmas.List.{nil_from_length}
 use Rattle.std.proofs.lemmas.Str.{IsUtf8-drop}
 use Rattle.mo_lexer.proofs.Unique.{same_tokens}
 use Rattle.mo_lexer.proofs.Refusals.{same_refusal, none_where_refused}
@@ -42,3 +40,6 @@ returns-clause-lexes c =
 
 pub returns-clause-only : goal.returns-clause-only
 returns-clause-only c others lexes = same_tokens _ _ _ others (returns-clause-lexes c) lexes
+
+pub returns-clause-not_refused : goal.returns-clause-not_refused
+returns-clause-not_refused c broken refused = none_where_refused _ _ broken _ refused (returns-clause-lexes c)
