@@ -1,0 +1,13 @@
+use Rattle.std.proofs.Common.{◌≤◌, ◌-◌, length}
+use Rattle.mo_parse_expr.specs.Sums.{from}
+use Rattle.mo_front.specs.Reading.{ReadsEquations}
+use Rattle.mo_front.proofs.reader.equations.Given as goal
+
+abbrev pub invariant-loop-found : goal.invariant-loop-found
+invariant-loop-found l = record {
+  so_far : ReadsEquations (from l.tokens l.at) (from l.tokens l.end) l.found;
+  within : l.end ≤ length l.tokens;
+}
+
+abbrev pub decreases-loop-found : goal.decreases-loop-found
+decreases-loop-found l = length l.tokens - l.end

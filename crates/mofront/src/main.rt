@@ -1,0 +1,26 @@
+//! The program on the files and the output of the system.
+#![tactic(auto)]
+
+use mo_front::{Status, run};
+use mo_ports::{FileShelf, StdSink};
+use std::process::ExitCode;
+use std::rt::Env;
+use std::{env, io};
+
+/// The words of the command line, without the program's own name.
+fn words_of<R: Env + AllocGlobal>(rt: &R) -> io::Result<Vec<String>> {
+    Ok(env::args(rt)?.skip(1).collect(rt.alloc())?)
+}
+
+fn main(rt: HostRuntime) -> ExitCode {
+    let Ok(words) = words_of(&rt) else {
+        return ExitCode::from(Status::NoMemory.number());
+    };
+    let mut shelf = FileShelf::new(&rt);
+    let mut out = StdSink::new(io::writer(&rt));
+    let status = run(rt.alloc(), words.as_slice(), &mut shelf, &mut out);
+    if status == Status::Usage {
+        let _ = eprintln!(rt; "usage: mofront NAME FILE");
+    }
+    ExitCode::from(status.number())
+}
