@@ -1,2 +1,4 @@
 pub mod Nodes
+pub mod Roles
+pub mod Sound
 pub mod Text

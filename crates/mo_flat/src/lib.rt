@@ -10,6 +10,7 @@ mod expr_text;
 mod model;
 mod model_text;
 mod nodes;
+mod roles;
 mod words;
 
 pub use array::{ArrayExpr, ArrayNode, Subscript};
@@ -18,3 +19,4 @@ pub use expr::FlatExpr;
 pub use model::{FlatAssert, FlatEquation, FlatModel, FlatVar};
 pub use model_text::{flat_expr_text, flat_text};
 pub use nodes::flat_nodes;
+pub use roles::role_of;

@@ -1,7 +1,7 @@
 use Rattle.std.proofs.Common.{◌++◌, string_bytes}
 use Rattle.std.specs.Prelude.{codes}
 use Rattle.mo_flat.specs.Text.{branch_mark, factor_mark, operand, printed, term_mark}
-use Rattle.mo_flat.proofs.Printing.{row_step, not_first, at_Sum, at_Product, at_Power, at_Call, at_Relation, at_Not, at_If, after_two, after_four}
+use Rattle.mo_flat.proofs.Printing.{row_step, not_first, at_Sum, at_Product, at_If, after_two, after_four}
 use Rattle.mo_flat.proofs.expr_text.+text.Goals as goal
 
 pub write_expr-returns-in-Sum : goal.write_expr-returns-in-Sum
