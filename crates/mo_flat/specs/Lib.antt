@@ -1,3 +1,4 @@
+pub mod Grammar
 pub mod Nodes
 pub mod Roles
 pub mod Sound
