@@ -1,13 +1,13 @@
 -- The text of an expression by its parts, in the order in which it is written.
-use Rattle.std.proofs.Common.{◌≡◌, ℕ, zero, suc, add-one, Result, ◌+◌, ◌<◌, Bool, true, false, eqb, cond, List, [], ◌∷◌, ◌++◌, map, take, get_or, length, refl, ap, ◌∙◌, sym, append_assoc, arith, length-take-le, OnOk, Ok, Err}
+use Rattle.std.proofs.Common.{◌≡◌, ℕ, zero, suc, add-one, Result, ◌+◌, ◌<◌, Bool, true, false, eqb, List, [], ◌∷◌, ◌++◌, map, take, get_or, length, ap, ◌∙◌, sym, append_assoc, arith, length-take-le, OnOk, Ok, Err}
 use Rattle.std.specs.Prelude.{codes, flat_map}
 use Rattle.std.proofs.lemmas.Grind.{common_steps, flat_map-append}
 use Rattle.std.proofs.lemmas.List.{take_more, map-append, append-nil, length-map}
 use Rattle.mo_syntax.specs.declared.expr.RelOp.{RelOp}
 use Rattle.mo_flat.specs.declared.expr.FlatExpr.{FlatExpr, FlatExpr-F, fold_out-FlatExpr, map-FlatExpr, out-FlatExpr}
-use Rattle.mo_flat.specs.declared.expr.FlatExpr.TheVariants.{Sum, Product, Power, Call, Relation, Not, All, Any, If, Der, outs-Sum, outs-Product, outs-Power, outs-Call, outs-Relation, outs-Not, outs-All, outs-Any, outs-If, outs-Der}
+use Rattle.mo_flat.specs.declared.expr.FlatExpr.TheVariants.{Sum, Product, Power, Call, Relation, Not, All, Any, If, outs-Sum, outs-Product, outs-Power, outs-Call, outs-Relation, outs-Not, outs-All, outs-Any, outs-If}
 use Rattle.mo_flat.specs.declared.model.FlatVar.{FlatVar}
-use Rattle.mo_flat.specs.Text.{Printed, printed, print_node, expr_text, operand, in_row, terms_text, factors_text, chain_text, branches_text, relation_mark, function_name, level_of, node_level, derivative_text}
+use Rattle.mo_flat.specs.Text.{Printed, printed, print_node, expr_text, operand, in_row, terms_text, factors_text, chain_text, branches_text, relation_mark, function_name, derivative_text}
 
 -- an expression is printed as its node is, over its printed parts
 pub opened : (vars : List FlatVar) (e : FlatExpr) (node : FlatExpr-F FlatExpr) → out-FlatExpr e ≡ node → printed vars e ≡ print_node vars (map-FlatExpr FlatExpr Printed (printed vars) node)

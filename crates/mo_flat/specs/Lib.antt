@@ -1,2 +1,5 @@
+pub mod Grammar
 pub mod Nodes
+pub mod Roles
+pub mod Sound
 pub mod Text

@@ -1,5 +1,5 @@
 -- How many nodes a flat expression has, the measure by which the size of a flat model is bounded.
-use Rattle.std.specs.Prelude.{ℕ, ◌+◌, sum, sum_by}
+use Rattle.std.specs.Prelude.{ℕ, ◌+◌, sum_by}
 use Rattle.mo_flat.specs.declared.expr.FlatExpr.{FlatExpr, FlatExpr-F, fold-FlatExpr}
 
 -- one for the node itself and the nodes of its parts; a variable of order k stands for k derivatives around a name

@@ -1,6 +1,6 @@
 -- The printed text of flat expressions and models. It is Modelica text: the operators and the order in which they bind
 -- are those of the Modelica Language Specification 3.5, section 3.2 and appendix A.2.7.
-use Rattle.std.specs.Prelude.{ℕ, zero, suc, pos, int_lt, Bool, true, false, List, [], ◌∷◌, ◌++◌, Option, Some, None, codes, map, flat_map, if◌then◌else◌, nat_lt, slice_get, unwrap_or}
+use Rattle.std.specs.Prelude.{ℕ, zero, suc, pos, int_lt, Bool, true, false, List, [], ◌∷◌, ◌++◌, Option, Some, None, codes, flat_map, if◌then◌else◌, nat_lt, slice_get, unwrap_or}
 use Rattle.std.specs.Fmt.{signed_decimal}
 use Rattle.std.specs.Option.{option_map}
 use Rattle.mo_syntax.specs.declared.expr.RelOp.{RelOp}

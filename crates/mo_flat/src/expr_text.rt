@@ -1,5 +1,5 @@
 //! The text of expressions.
-ghost use Rattle.std.specs.Prelude.{◌≡◌, ◌++◌, codes, map, string_bytes, OnOk};
+ghost use Rattle.std.specs.Prelude.{◌≡◌, ◌++◌, codes, if◌then◌else◌, map, nat_lt, string_bytes, OnOk};
 ghost use Rattle.std.specs.Fmt.{signed_decimal};
 ghost use Rattle.mo_flat.specs.Text.{branches_text, chain_text, derivative_text, expr_text, factors_text, function_name, level_of, operand, printed, terms_text, variable_name};
 
@@ -162,7 +162,10 @@ pub(crate) fn write_operand(
     e: &FlatExpr,
     wanted: u8,
 ) -> Result<(), NoMemory>
-    ensures { OnOk result (string_bytes out.new ≡ string_bytes out.old ++ operand wanted (printed vars.now e.now)) }
+    ensures text { OnOk result (string_bytes out.new ≡ string_bytes out.old ++ operand wanted (printed vars.now e.now)) }
+
+    // Parentheses stand exactly where the expression's own level is below the wanted one.
+    ensures parentheses { OnOk result (string_bytes out.new ≡ string_bytes out.old ++ (if nat_lt (level_of e.now) wanted then codes "(" ++ expr_text vars.now e.now ++ codes ")" else expr_text vars.now e.now)) }
 {
     if level(e) < wanted {
         push(out, "(")?;

@@ -10,11 +10,13 @@ mod expr_text;
 mod model;
 mod model_text;
 mod nodes;
+mod roles;
 mod words;
 
 pub use array::{ArrayExpr, ArrayNode, Subscript};
 pub use connect::{Connect, Connects, End, EndLeaf, Expanded, FaceSet, Side};
 pub use expr::FlatExpr;
 pub use model::{FlatAssert, FlatEquation, FlatModel, FlatVar};
-pub use model_text::{flat_expr_text, flat_text};
+pub use model_text::{flat_expr_text, flat_text, write_equation_line};
 pub use nodes::flat_nodes;
+pub use roles::role_of;

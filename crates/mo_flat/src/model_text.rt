@@ -1,6 +1,7 @@
 //! The text of models: a line for each variable, equation and assert.
 ghost use Rattle.std.specs.Prelude.{◌≡◌, ◌++◌, string_bytes, flat_map, IfOk, OnOk};
-ghost use Rattle.mo_flat.specs.Text.{assert_level_text, assert_line, attributes_text, binding_text, equation_line, expr_text, model_text, section_text, variable_line};
+ghost use Rattle.mo_flat.specs.Text.{assert_level_text, assert_line, attributes_text, binding_text, equation_line, expr_text, level_of, model_text, section_text, variable_line};
+ghost use Rattle.mo_flat.specs.Grammar.{Spells, phrase};
 
 use crate::expr_text::{push, write_expr, write_operand};
 use crate::words::{mark_of_attribute, name_of_attribute, word_of_role};
@@ -20,7 +21,10 @@ pub fn flat_text(alloc: Global, m: &FlatModel) -> Result<Text, NoMemory>
 /// The text of an expression with the names of a model's variables. A number that is no variable of the model, or no
 /// function, has no name. `NoMemory` is the only other answer.
 pub fn flat_expr_text(alloc: Global, m: &FlatModel, e: &FlatExpr) -> Result<Text, NoMemory>
-    ensures { IfOk result (λ text. text ≡ expr_text m.now.vars e.now) }
+    ensures text { IfOk result (λ text. text ≡ expr_text m.now.vars e.now) }
+
+    // By the productions of Modelica expressions, this text is read as this expression.
+    ensures read { IfOk result (λ text. Spells m.now.vars (phrase (level_of e.now) e.now) text) }
 {
     let mut out = String::new(alloc);
     write_expr(&mut out, m.vars.as_slice(), e)?;
@@ -144,7 +148,12 @@ fn write_equations(
     Ok(())
 }
 
-fn write_equation_line(out: &mut String, vars: &[FlatVar], q: &FlatEquation) -> Result<(), NoMemory>
+/// Writes the line of an equation at the end, its line feed included. After `NoMemory` a front of it may stand there.
+pub fn write_equation_line(
+    out: &mut String,
+    vars: &[FlatVar],
+    q: &FlatEquation,
+) -> Result<(), NoMemory>
     ensures { OnOk result (string_bytes out.new ≡ string_bytes out.old ++ equation_line vars.now q.now) }
 {
     push(out, "  ")?;

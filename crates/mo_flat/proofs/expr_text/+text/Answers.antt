@@ -1,7 +1,7 @@
 use Rattle.std.proofs.Common.{◌++◌, string_bytes}
 use Rattle.std.specs.Prelude.{codes}
 use Rattle.mo_flat.specs.Text.{branch_mark, factor_mark, operand, printed, term_mark}
-use Rattle.mo_flat.proofs.Printing.{row_step, not_first, at_Sum, at_Product, at_Power, at_Call, at_Relation, at_Not, at_If, after_two, after_four}
+use Rattle.mo_flat.proofs.Printing.{row_step, not_first, at_Sum, at_Product, at_If, after_two, after_four}
 use Rattle.mo_flat.proofs.expr_text.+text.Goals as goal
 
 pub write_expr-returns-in-Sum : goal.write_expr-returns-in-Sum
@@ -20,7 +20,7 @@ write_terms-loop-term-preserved t c =
           (string_bytes c.args.out.now) (string_bytes c.loop-term.out) (string_bytes c.write_operand.new.out)
           c.loop-term-test.true c.term-item.is c.loop-term.invariant.1 c.loop-term.invariant.0
           (after_two (string_bytes c.loop-term.out) (string_bytes c.push.new.out) (string_bytes c.write_operand.new.out) (term_mark c.loop-term.first term.0) (operand 6 (printed vars term.1))
-          (rw c.mark_of_term.ensures at c.in_ok-push.ensures) c.in_ok-write_operand.ensures),
+          (rw c.mark_of_term.ensures at c.in_ok-push.ensures) c.in_ok-write_operand.ensures.text),
       not_first _,
     )
 
@@ -32,7 +32,7 @@ write_factors-loop-factor-preserved t c =
           (string_bytes c.args.out.now) (string_bytes c.loop-factor.out) (string_bytes c.write_operand.new.out)
           c.loop-factor-test.true c.factor-item.is c.loop-factor.invariant.1 c.loop-factor.invariant.0
           (after_two (string_bytes c.loop-factor.out) (string_bytes c.push.new.out) (string_bytes c.write_operand.new.out) (factor_mark c.loop-factor.first factor.0) (operand 7 (printed vars factor.1))
-          (rw c.mark_of_factor.ensures at c.in_ok-push.ensures) c.in_ok-write_operand.ensures),
+          (rw c.mark_of_factor.ensures at c.in_ok-push.ensures) c.in_ok-write_operand.ensures.text),
       not_first _,
     )
 
@@ -45,7 +45,7 @@ write_branches-loop-branch-preserved t c =
           c.loop-branch-test.true c.branch-item.is c.loop-branch.invariant.1 c.loop-branch.invariant.0
           (after_four (string_bytes c.loop-branch.out) (string_bytes c.push.new.out) (string_bytes c.write_operand.new.out) (string_bytes c.push-in-loop-branch.new.out) (string_bytes c.write_operand-in-loop-branch.new.out)
           (branch_mark c.loop-branch.first) (operand 0 (printed vars branch.0)) (codes " then ") (operand 0 (printed vars branch.1))
-          (rw c.mark_of_branch.ensures at c.in_ok-push.ensures) c.in_ok-write_operand.ensures c.in_ok-push-2.ensures c.in_ok-write_operand-2.ensures),
+          (rw c.mark_of_branch.ensures at c.in_ok-push.ensures) c.in_ok-write_operand.ensures.text c.in_ok-push-2.ensures c.in_ok-write_operand-2.ensures.text),
       not_first _,
     )
 

@@ -1,8 +1,8 @@
-use Rattle.std.proofs.Common.{◌≡◌, ◌++◌, ◌+◌, string_bytes, arith}
+use Rattle.std.proofs.Common.{arith}
 use Rattle.std.specs.Prelude.{codes}
 use Rattle.std.proofs.lemmas.Grind.{common_steps}
-use Rattle.mo_flat.specs.Text.{derivative_text, variable_name}
-use Rattle.mo_flat.proofs.Printing.{repeated, repeated-more, derivative_text-repeated}
+use Rattle.mo_flat.specs.Text.{variable_name}
+use Rattle.mo_flat.proofs.Printing.{repeated-more, derivative_text-repeated}
 use Rattle.mo_flat.proofs.expr_text.write_variable.Goals as goal
 
 pub loop-opened-preserved : goal.loop-opened-preserved

@@ -1,4 +1,4 @@
-use Rattle.std.proofs.Common.{◌++◌, string_bytes}
+use Rattle.std.proofs.Common.{string_bytes}
 use Rattle.std.specs.Prelude.{codes}
 use Rattle.mo_flat.specs.Text.{attribute_mark, attribute_name, attribute_text, expr_text}
 use Rattle.mo_flat.proofs.Printing.{row_step, not_first, after_four}
