@@ -117,6 +117,9 @@ module _ (u : ℕ) (s : List ℕ) (f : List (ℕ × ℕ)) (g : Signature) (view 
       pub table-unknown : (get_or f (get_or s (row - 1) 0 + k) (0, 0)).0 ≡ unknown_at g (row - 1) k
       table-unknown = rw (← view) (sym (unknown_at-signature u s f flat.cut (row - 1) below-row k k-row))
 
+      pub table-known : (0 < (get_or f (get_or s (row - 1) 0 + k) (0, 0)).0) × ((get_or f (get_or s (row - 1) 0 + k) (0, 0)).0 ≤ g.unknowns)
+      table-known = rw table-unknown (table-sound.known (row - 1) k (omega arith) k_in)
+
       pub table-order : (get_or f (get_or s (row - 1) 0 + k) (0, 0)).1 ≡ order_at g (row - 1) k
       table-order = rw (← view) (sym (order_at-signature u s f flat.cut (row - 1) below-row k k-row))
 

@@ -70,6 +70,7 @@ impl<'a, L: Ledger> Counted<'a, L> {
         requires k { k < row_len self.now (row - 1) }
         ensures unknown { result.0 ≡ unknown_at self.now (row - 1) k }
         ensures order { result.1 ≡ order_at self.now (row - 1) k }
+        ensures known { (0 < result.0) × (result.0 ≤ self.now.unknowns) }
         ensures cost { steps.new ≡ steps.old + 1 }
     {
         steps.tick();

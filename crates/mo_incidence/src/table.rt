@@ -63,6 +63,7 @@ impl Incidence {
         requires k { k < row_len self.now (row - 1) }
         ensures unknown { result.0 ≡ unknown_at self.now (row - 1) k }
         ensures order { result.1 ≡ order_at self.now (row - 1) k }
+        ensures known { (0 < result.0) × (result.0 ≤ self.now.unknowns) }
     {
         let place = self.starts[row as usize - 1] + k;
         self.flat[place as usize]

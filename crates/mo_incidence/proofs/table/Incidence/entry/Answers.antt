@@ -1,6 +1,6 @@
 use Rattle.std.proofs.Common.{◌+◌, ◌<◌, ◌-◌, ℕ, length, ap, ◌∙◌, arith, rules}
 use Rattle.std.proofs.lemmas.List.{get_or_read}
-use Rattle.mo_incidence.proofs.Rows.{row-start, table-place, table-small, table-unknown, table-order}
+use Rattle.mo_incidence.proofs.Rows.{row-start, table-place, table-small, table-unknown, table-order, table-known}
 use Rattle.mo_incidence.proofs.table.Incidence.entry.Goals as goal
 
 pub index-requires : goal.index-requires
@@ -33,3 +33,10 @@ returns-clause-order c =
     let place : c.index.result.now + c.args.k < length c.self.inside.flat.items = rw start (table-place _ _ _ _ c.self.view_is c.self.invariant _ c.requires.row _ c.requires.k) in
     let entry = get_or_read c.self.inside.flat.items _ _ place c.index-2.ensures (0, 0) in
     ap (λ (e : ℕ × ℕ). e.1) entry ∙ rw start (table-order _ _ _ _ c.self.view_is c.self.invariant _ c.requires.row _ c.requires.k)
+
+pub returns-clause-known : goal.returns-clause-known
+returns-clause-known c =
+    let start = get_or_read c.self.inside.starts.items _ _ (row-start _ _ _ _ c.self.view_is c.self.invariant _ c.requires.row) c.index.ensures 0 in
+    let place : c.index.result.now + c.args.k < length c.self.inside.flat.items = rw start (table-place _ _ _ _ c.self.view_is c.self.invariant _ c.requires.row _ c.requires.k) in
+    let entry = get_or_read c.self.inside.flat.items _ _ place c.index-2.ensures (0, 0) in
+    rw entry (rw start (table-known _ _ _ _ c.self.view_is c.self.invariant _ c.requires.row _ c.requires.k))

@@ -1,0 +1,13 @@
+//! A largest assignment of unknowns to the equations of an incidence.
+#![tactic(auto)]
+
+mod extend;
+mod graph;
+mod largest;
+mod lists;
+mod search;
+mod work;
+
+pub use graph::Graph;
+pub use largest::assign;
+pub use work::{Assigned, Work};
