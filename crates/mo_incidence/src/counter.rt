@@ -5,17 +5,16 @@ ghost use Rattle.mo_incidence.specs.Signature.{equations, row_len, unknown_at, o
 use crate::table::Incidence;
 use mo_ports::Steps;
 use std::marker::{Model, PhantomData};
-use std::sync::ledger::Ledger;
 
 /// A view of one incidence that only a counter of the ledger L can read, one step for each entry.
 /// Contracts see it as the signature matrix of the incidence.
 #[derive(Drop)]
-pub struct Counted<'a, L: Ledger> {
+pub struct Counted<'a, L> {
     incidence: &'a Incidence,
     ledger: PhantomData<L>,
 }
 
-impl<'a, L: Ledger> Model for Counted<'a, L> {
+impl<'a, L> Model for Counted<'a, L> {
     ghost use Rattle.mo_incidence.specs.Signature.{Signature};
 
     ghost Value = { Signature };
@@ -23,7 +22,7 @@ impl<'a, L: Ledger> Model for Counted<'a, L> {
     ghost view = { λ a. a.incidence.now };
 }
 
-impl<'a, L: Ledger> Counted<'a, L> {
+impl<'a, L> Counted<'a, L> {
     /// The view of this incidence for counters of the ledger.
     pub fn new(incidence: &'a Incidence, _ledger: &Steps<L>) -> Counted<'a, L>
         ensures { result ≡ incidence.now }

@@ -6,7 +6,6 @@ ghost use Rattle.mo_match.specs.Searching.{Uses, ClosedTo, Grows, IsFree, Matche
 
 use crate::graph::Graph;
 use mo_ports::Steps;
-use std::sync::ledger::Ledger;
 
 /// An equation at a place of the queue may have an unknown that no equation has.
 #[derive(Clone, Copy)]
@@ -36,7 +35,7 @@ fn unmark(queue: &[u32], mark: &mut [u32], base: usize, tail: usize)
     }
 }
 
-impl<'a, L: Ledger> Graph<'a, L> {
+impl<'a, L> Graph<'a, L> {
     /// Searches from an equation without unknown, behind the closed front of the queue, for an unknown that no equation has.
     fn search(
         &self,

@@ -6,18 +6,17 @@ ghost use Rattle.mo_match.specs.Searching.{UsesEntry};
 use mo_incidence::Counted;
 use mo_ports::Steps;
 use std::marker::Model;
-use std::sync::ledger::Ledger;
 
 /// Which equation may have which unknown: the bipartite graph of all entries, or of the tight ones alone.
 #[derive(Drop)]
-pub struct Graph<'a, L: Ledger> {
+pub struct Graph<'a, L> {
     incidence: &'a Counted<'a, L>,
     tight: bool,
     c: &'a [u32],
     d: &'a [u32],
 }
 
-impl<'a, L: Ledger> Model for Graph<'a, L> {
+impl<'a, L> Model for Graph<'a, L> {
     ghost use Rattle.mo_match.specs.Searching.{Bipartite, IsSized};
 
     ghost Value = { Bipartite };
@@ -27,7 +26,7 @@ impl<'a, L: Ledger> Model for Graph<'a, L> {
     ghost invariant = { λ a. IsSized (record { signature = a.incidence.now; tight = a.tight; c = a.c.now; d = a.d.now }) };
 }
 
-impl<'a, L: Ledger> Graph<'a, L> {
+impl<'a, L> Graph<'a, L> {
     /// Each equation may have each unknown that it mentions.
     pub fn of_entries(incidence: &'a Counted<'a, L>) -> Graph<'a, L>
         ensures signature { result.signature ≡ incidence.now }

@@ -14,7 +14,6 @@ use crate::lists::{count_missing, list_marked, list_reached};
 use crate::work::{Assigned, Work};
 use mo_incidence::Counted;
 use mo_ports::Steps;
-use std::sync::ledger::Ledger;
 
 /// Writes 0 to each place.
 pub fn clear(list: &mut [u32])
@@ -25,7 +24,7 @@ pub fn clear(list: &mut [u32])
     }
 }
 
-impl<'a, L: Ledger> Graph<'a, L> {
+impl<'a, L> Graph<'a, L> {
     /// Gives each equation in turn an unknown, if it can have one. The result is the end of the closed front of the queue.
     fn assign_pairs(
         &self,
@@ -63,7 +62,7 @@ impl<'a, L: Ledger> Graph<'a, L> {
 /// assignment leaves out, with the unknowns that they mention (Pantelides 1988). Both are left in the work space.
 /// `Missing(k)` exactly where the assignment leaves k > 0 equations out; the deficit then has k more equations than unknowns.
 /// With m equations and e entries it reads at most m times e entries. It takes no memory.
-pub fn assign<L: Ledger>(inc: &Counted<L>, work: &mut Work, steps: &mut Steps<L>) -> Assigned
+pub fn assign<L>(inc: &Counted<L>, work: &mut Work, steps: &mut Steps<L>) -> Assigned
     requires { IsMadeFor inc.now work.old }
     ensures largest { IsLargest inc.now (by_place work.new.assignment) }
     ensures length { length work.new.assignment ≡ equations inc.now }

@@ -6,7 +6,6 @@ ghost use Rattle.mo_match.specs.Searching.{Uses, IsPassed, IsSearched, ClosedTo,
 
 use crate::graph::Graph;
 use mo_ports::Steps;
-use std::sync::ledger::Ledger;
 
 /// Puts the equation at place x at the end of the queue, if it has no mark, and gives the queue's new end.
 fn reach(
@@ -32,7 +31,7 @@ fn reach(
     tail + 1
 }
 
-impl<'a, L: Ledger> Graph<'a, L> {
+impl<'a, L> Graph<'a, L> {
     /// Looks at one entry of the equation at the head of the queue: gives the queue's new end, and the entry's unknown if no
     /// equation has it.
     fn visit(

@@ -7,10 +7,12 @@
 
 mod boxed;
 mod class;
+mod count;
 mod equation;
 mod expr;
 mod list;
 mod meaning;
+mod nesting;
 mod place;
 mod text;
 mod token;
@@ -21,6 +23,7 @@ pub use class::{
     Component, ComponentOf, Element, ElementFlags, Extends, ExtendsOf, FileTree, Give, Import,
     Item, Mods, ModsOf, Prefix, Vary, What,
 };
+pub use count::nodes;
 pub use equation::{Equation, EquationKind, EquationOf, Statement, StatementKind, StatementOf};
 pub use expr::{
     Arg, Args, Branch, BranchOf, Callee, CalleeOf, Expr, Factor, FactorOf, Index, IndexOf, Node,
@@ -28,6 +31,7 @@ pub use expr::{
 };
 pub use list::List;
 pub use meaning::{ClassId, FrameId, InstancePath, Kind, Role};
+pub use nesting::depth;
 pub use place::{Broken, NoMemory, Place, Rule, Stop};
 pub use text::{Path, Text};
 pub use token::{Token, TokenKind};

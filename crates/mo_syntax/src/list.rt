@@ -89,4 +89,14 @@ impl<T: Drop> List<T> {
         self.0.push(item)?;
         Ok(())
     }
+
+    /// Moves the elements of `more` to the end. After `NoMemory` the list is as it was, and `more` is dropped.
+    pub fn append(&mut self, more: List<T>) -> Result<(), NoMemory>
+        ensures ok { OnOk result (self.new ≡ self.old ++ more) }
+        ensures err { OnErr result (self.new ≡ self.old) }
+    {
+        let List(mut items) = more;
+        self.0.append(&mut items)?;
+        Ok(())
+    }
 }

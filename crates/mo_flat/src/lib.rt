@@ -1,0 +1,20 @@
+//! The flat model: the types that the meaning of a class ends in and that the structure of a model begins with, and its
+//! printed text.
+#![tactic(auto)]
+
+mod array;
+mod connect;
+mod copy;
+mod expr;
+mod expr_text;
+mod model;
+mod model_text;
+mod nodes;
+mod words;
+
+pub use array::{ArrayExpr, ArrayNode, Subscript};
+pub use connect::{Connect, Connects, End, EndLeaf, Expanded, FaceSet, Side};
+pub use expr::FlatExpr;
+pub use model::{FlatAssert, FlatEquation, FlatModel, FlatVar};
+pub use model_text::{flat_expr_text, flat_text};
+pub use nodes::flat_nodes;

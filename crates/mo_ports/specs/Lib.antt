@@ -1,0 +1,4 @@
+pub mod Counts
+pub mod Contents
+pub mod Written
+pub mod Memory

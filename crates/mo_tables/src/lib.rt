@@ -1,0 +1,23 @@
+//! The words of the language: reserved words, operators and marks, and the names of predefined functions.
+//!
+//! - [`KEYWORDS`], [`OPERATORS`] and [`FUNCTIONS`] are the tables; a row's code is its place.
+//! - [`find`] gives the code of a word in any table whose names rise by their bytes.
+//! - [`keyword`], [`operator`] and [`function`] do so in the three tables.
+//! - [`keywords`], [`operators`] and [`functions`] name each code, as `keywords::MODEL`.
+#![tactic(auto)]
+
+macro_rules! rows {
+    ($($name:literal $code:ident),* $(,)?) => {
+        [$(Row { name: $name, code: $code }),*]
+    };
+}
+
+pub mod functions;
+pub mod keywords;
+pub mod operators;
+mod table;
+
+pub use functions::{FUNCTIONS, function};
+pub use keywords::{KEYWORDS, keyword};
+pub use operators::{OPERATORS, operator};
+pub use table::{Row, find};
