@@ -8,3 +8,6 @@ pub mod Deficit
 pub mod ListLemmas
 pub mod Excess
 pub mod Written
+pub mod Loose
+pub mod Threading
+pub mod SpreadLemmas

@@ -3,3 +3,5 @@ pub mod Lists
 pub mod Results
 pub mod Room
 pub mod Answer
+pub mod Threads
+pub mod Spreading

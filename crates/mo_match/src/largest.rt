@@ -3,7 +3,7 @@ ghost use Rattle.std.specs.Prelude.{◌≡◌, ◌≢◌, ℕ, ◌+◌, ◌-◌,
 ghost use Rattle.std.proofs.Common.{suc};
 ghost use Rattle.mo_incidence.specs.Counting.{count_below};
 ghost use Rattle.mo_incidence.specs.Signature.{equations, entries, IsSound};
-ghost use Rattle.mo_incidence.specs.Assignment.{IsLargest, IsDeficit};
+ghost use Rattle.mo_incidence.specs.Assignment.{CoversAll, IsLargest, IsDeficit};
 ghost use Rattle.mo_incidence.specs.Offsets.{by_place};
 ghost use Rattle.mo_match.specs.Searching.{IsAssignedTo};
 ghost use Rattle.mo_match.specs.Results.{IsMadeFor};
@@ -67,6 +67,7 @@ pub fn assign<L>(inc: &Counted<L>, work: &mut Work, steps: &mut Steps<L>) -> Ass
     ensures largest { IsLargest inc.now (by_place work.new.assignment) }
     ensures length { length work.new.assignment ≡ equations inc.now }
     ensures missing { count_below (by_place work.new.assignment) (equations inc.now) + left_out result ≡ equations inc.now }
+    ensures all { result ≡ Assigned.All → CoversAll inc.now (by_place work.new.assignment) }
     ensures some { (k : ℕ) → result ≡ Assigned.Missing k → 0 < k }
     ensures deficit { IsDeficit inc.now work.new.deficient work.new.mentioned (left_out result) }
     ensures rest { work.new ≡ record work.old { assignment = work.new.assignment; deficient = work.new.deficient; mentioned = work.new.mentioned } }

@@ -6,8 +6,14 @@ mod graph;
 mod largest;
 mod lists;
 mod search;
+mod spread;
+mod threads;
 mod work;
 
 pub use graph::Graph;
 pub use largest::assign;
+pub use spread::undetermined;
 pub use work::{Assigned, Work};
+
+#[cfg(test)]
+mod tests;

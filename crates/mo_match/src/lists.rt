@@ -61,6 +61,22 @@ pub(crate) fn list_reached(owner: &[u32], mark: &[u32], list: &mut Vec<u32>)
     }
 }
 
+/// Lists the unknowns with a mark. The marks of unknowns begin at place 1.
+pub(crate) fn list_unknowns(mark: &[u32], list: &mut Vec<u32>)
+    requires room { length mark.now ≤ suc (vec_capacity list.old) }
+    requires few { length mark.now ≤ 50001 }
+    requires some { 0 < length mark.now }
+    ensures items { list.new.items ≡ numbers_where (λ u. slice_index mark.now (u + 1)) (length mark.now - 1) }
+    ensures room { vec_capacity list.old ≤ vec_capacity list.new }
+{
+    list.clear();
+    for u in 0..mark.len() - 1 {
+        if mark[u + 1] != 0 {
+            put(list, u as u32 + 1);
+        }
+    }
+}
+
 /// How many equations have no unknown.
 pub(crate) fn count_missing(pairs: &[u32]) -> u32
     requires { length pairs.now ≤ 50000 }
