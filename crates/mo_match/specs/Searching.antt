@@ -15,6 +15,10 @@ pub record IsSized (b : Bipartite) : Type 0 where
   pub equations : b.tight ≡ true → length b.c ≡ equations b.signature
   pub unknowns : b.tight ≡ true → length b.d ≡ b.signature.unknowns
 
+-- the graph of the tight entries
+abbrev pub tight_of : Signature → List ℕ → List ℕ → Bipartite
+tight_of g c d = record { signature = g; tight = true; c = c; d = d }
+
 -- the entry may be used
 unfoldable pub UsesEntry : Bipartite → ℕ → ℕ → Type 0
 UsesEntry b i k = b.tight ≡ true → get_or b.d (unknown_at b.signature i k - 1) 0 ≡ get_or b.c i 0 + order_at b.signature i k

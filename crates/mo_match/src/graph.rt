@@ -1,7 +1,7 @@
 //! Which equation may have which unknown.
 ghost use Rattle.std.specs.Prelude.{◌≡◌, ◌≢◌, ◌+◌, ◌-◌, ◌<◌, ◌≤◌, ◌↔◌, [], length, true, false, IsTrue, IfSome, IfNone};
 ghost use Rattle.mo_incidence.specs.Signature.{equations, row_len, unknown_at, order_at, IsSound};
-ghost use Rattle.mo_match.specs.Searching.{UsesEntry};
+ghost use Rattle.mo_match.specs.Searching.{UsesEntry, tight_of};
 
 use mo_incidence::Counted;
 use mo_ports::Steps;
@@ -43,9 +43,7 @@ impl<'a, L> Graph<'a, L> {
     /// Each equation may have the unknowns at which it is tight: the unknown's number of d is the equation's of c and the order.
     pub fn of_tight(incidence: &'a Counted<'a, L>, c: &'a [u32], d: &'a [u32]) -> Graph<'a, L>
         requires sizes { (length c.now ≡ equations incidence.now) × (length d.now ≡ incidence.now.unknowns) }
-        ensures signature { result.signature ≡ incidence.now }
-        ensures tight { result.tight ≡ true }
-        ensures offsets { (result.c ≡ c.now) × (result.d ≡ d.now) }
+        ensures { result ≡ tight_of incidence.now c.now d.now }
     {
         Graph {
             incidence,

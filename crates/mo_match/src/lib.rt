@@ -11,7 +11,8 @@ mod threads;
 mod work;
 
 pub use graph::Graph;
-pub use largest::assign;
+pub use largest::{assign, clear};
+pub use lists::put;
 pub use spread::undetermined;
 pub use work::{Assigned, Work};
 

@@ -7,7 +7,7 @@ ghost use Rattle.mo_incidence.specs.Offsets.{by_place};
 ghost use Rattle.mo_match.specs.Lists.{numbers_where, reached};
 
 /// Puts a number at the end of a list that has room for it.
-pub(crate) fn put(list: &mut Vec<u32>, number: u32)
+pub fn put(list: &mut Vec<u32>, number: u32)
     requires { vec_len list.old < vec_capacity list.old }
     ensures items { list.new.items ≡ list.old.items ++ number ∷ [] }
     ensures room { vec_capacity list.old ≤ vec_capacity list.new }
