@@ -1,11 +1,11 @@
 -- A search in vain shows that each admissible rival is above the raised offsets.
-use Rattle.std.proofs.Common.{◌≡◌, ◌≢◌, ℕ, zero, suc, ◌+◌, ◌-◌, ◌<◌, ◌≤◌, ◌==◌, ◌⊎◌, inl, inr, if◌then◌else◌, List, length, get_or, refl, sym, ap, ◌∙◌, arith}
+use Rattle.std.proofs.Common.{◌≡◌, ◌≢◌, ℕ, zero, suc, ◌+◌, ◌-◌, ◌<◌, ◌≤◌, ◌==◌, inl, inr, if◌then◌else◌, List, get_or, sym, ap, ◌∙◌, arith}
 use Rattle.std.proofs.lemmas.Bool.Decides.{nat_tests, eqb_tells}
 use Rattle.mo_incidence.specs.Counting.{sign}
-use Rattle.mo_incidence.specs.Signature.{Signature, equations, row_len, unknown_at, order_at, IsSound}
-use Rattle.mo_incidence.specs.Offsets.{IsTight, Fits, IsAdmissible, AreBelow, by_place, by_number}
+use Rattle.mo_incidence.specs.Signature.{Signature, equations, order_at, IsSound}
+use Rattle.mo_incidence.specs.Offsets.{Fits, IsAdmissible, AreBelow, by_place, by_number}
 use Rattle.mo_incidence.proofs.Counting.{sign-zero, sign-some, onto}
-use Rattle.mo_match.specs.Searching.{Bipartite, tight_of, UsesEntry, Uses, IsMatching, IsTree, ClosedTo}
+use Rattle.mo_match.specs.Searching.{tight_of, Uses, IsMatching, IsTree, ClosedTo}
 use Rattle.mo_match.specs.Lists.{reached}
 use Rattle.mo_match.proofs.Deficit.{closed-marks}
 use Rattle.mo_match.proofs.Excess.{reached-some}

@@ -1,13 +1,13 @@
 -- What raising keeps, and that it brings the sums of the offsets closer.
-use Rattle.std.proofs.Common.{◌≡◌, ◌≢◌, ℕ, zero, suc, ◌+◌, ◌-◌, ◌*◌, ◌<◌, ◌≤◌, ◌⊎◌, inl, inr, List, length, get_or, set, refl, sym, ap, ◌∙◌, arith, length-set, get_or-set_other, get_or-set_same}
+use Rattle.std.proofs.Common.{◌≡◌, ◌≢◌, ℕ, suc, ◌+◌, ◌-◌, ◌*◌, ◌<◌, ◌≤◌, inl, inr, List, length, get_or, set, refl, sym, ap, ◌∙◌, arith, length-set, get_or-set_other, get_or-set_same}
 use Rattle.std.proofs.Math.ListN.{get_or-eq_default}
 use Rattle.std.proofs.lemmas.Bool.Decides.{nat_tests, eqb_tells, leb_tells}
 use Rattle.mo_incidence.specs.Counting.{sign, sum_below, count_below}
 use Rattle.mo_incidence.specs.Signature.{Signature, equations, row_len, unknown_at, order_at, IsSound}
-use Rattle.mo_incidence.specs.Assignment.{Mentions, CanCoverAll, CoversAll}
-use Rattle.mo_incidence.specs.Offsets.{IsTight, Fits, IsAdmissible, AreBelow, IsBelowAll, BoundsOrders, sum_unknowns, by_place, by_number}
+use Rattle.mo_incidence.specs.Assignment.{Mentions, CanCoverAll}
+use Rattle.mo_incidence.specs.Offsets.{Fits, IsBelowAll, by_place, by_number}
 use Rattle.mo_incidence.proofs.Counting.{sign-zero, sign-some, sum-same, sum-add, sum-injection, without, without-other, count-without}
-use Rattle.mo_match.specs.Searching.{Bipartite, tight_of, UsesEntry, Uses, IsMatching, IsTree, ClosedTo}
+use Rattle.mo_match.specs.Searching.{tight_of, Uses, IsMatching, IsTree, ClosedTo}
 use Rattle.mo_match.specs.Lists.{reached}
 use Rattle.mo_match.proofs.Deficit.{closed-marks}
 use Rattle.mo_match.proofs.Excess.{reached-some, reached-by}

@@ -1,11 +1,11 @@
 -- The offsets to begin with, and the room that all have.
-use Rattle.std.proofs.Common.{◌≡◌, ◌≢◌, ℕ, zero, suc, ◌+◌, ◌-◌, ◌*◌, ◌<◌, ◌≤◌, ◌⊎◌, inl, inr, List, length, get_or, refl, sym, ap, ◌∙◌, arith}
-use Rattle.std.proofs.lemmas.Bool.Decides.{nat_tests, eqb_tells}
-use Rattle.mo_incidence.specs.Counting.{sign, sum_below, count_below}
-use Rattle.mo_incidence.specs.Signature.{Signature, equations, row_len, unknown_at, order_at, IsSound}
+use Rattle.std.proofs.Common.{◌≡◌, ◌≢◌, ℕ, zero, suc, ◌+◌, ◌-◌, ◌*◌, ◌<◌, ◌≤◌, inl, inr, List, get_or, arith}
+use Rattle.std.proofs.lemmas.Bool.Decides.{eqb_tells}
+use Rattle.mo_incidence.specs.Counting.{sum_below}
+use Rattle.mo_incidence.specs.Signature.{Signature, equations, IsSound}
 use Rattle.mo_incidence.specs.Assignment.{CoversAll}
-use Rattle.mo_incidence.specs.Offsets.{IsTight, Fits, IsAdmissible, AreBelow, IsBelowAll, IsLeast, BoundsOrders, sum_unknowns, by_place, by_number}
-use Rattle.mo_incidence.proofs.Counting.{sum-same, sum-le}
+use Rattle.mo_incidence.specs.Offsets.{IsLeast, BoundsOrders, sum_unknowns, by_place, by_number}
+use Rattle.mo_incidence.proofs.Counting.{sum-le}
 use Rattle.mo_match.specs.Searching.{tight_of, Uses, IsMatching}
 use Rattle.mo_pantelides.specs.Raising.{gap, AreSmall, AreRising}
 use Rattle.mo_pantelides.proofs.Tight.{pairs-tight}

@@ -1,9 +1,9 @@
 -- The entries that the search uses are the tight ones.
-use Rattle.std.proofs.Common.{◌≡◌, ◌≢◌, ℕ, ◌+◌, ◌-◌, ◌<◌, ◌≤◌, true, List, get_or, refl, sym, ap, ◌∙◌, arith}
+use Rattle.std.proofs.Common.{◌≡◌, ℕ, ◌+◌, ◌-◌, ◌<◌, List, get_or, refl}
 use Rattle.mo_incidence.specs.Signature.{Signature, equations, row_len, unknown_at, order_at}
 use Rattle.mo_incidence.specs.Assignment.{Assigns}
 use Rattle.mo_incidence.specs.Offsets.{IsTight, by_place, by_number}
-use Rattle.mo_match.specs.Searching.{Bipartite, tight_of, UsesEntry, Uses, IsMatching}
+use Rattle.mo_match.specs.Searching.{tight_of, UsesEntry, Uses, IsMatching}
 use Rattle.mo_match.proofs.Covering.{matching-assigns}
 
 pub entry-tight : (g : Signature) (c d : List ℕ) (i k : ℕ) → UsesEntry (tight_of g c d) i k → get_or d (unknown_at g i k - 1) 0 ≡ get_or c i 0 + order_at g i k

@@ -1,5 +1,5 @@
 -- Words on raising the offsets of the equations that a search in vain has reached.
-use Rattle.std.specs.Prelude.{◌≡◌, ◌≢◌, ℕ, ◌+◌, ◌-◌, ◌<◌, ◌≤◌, List}
+use Rattle.std.specs.Prelude.{◌≡◌, ℕ, ◌+◌, ◌-◌, ◌<◌, ◌≤◌, List}
 use Rattle.std.proofs.Common.{get_or}
 use Rattle.mo_incidence.specs.Counting.{sum_below, sign}
 use Rattle.mo_incidence.specs.Signature.{Signature, equations}

@@ -10,3 +10,6 @@ mod raise;
 mod start;
 
 pub use least::offsets;
+
+#[cfg(test)]
+mod tests;

@@ -1,4 +1,4 @@
-use Rattle.std.proofs.Common.{◌≡◌, ◌<◌, ◌≤◌, ℕ, length, ◌∙◌, arith}
+use Rattle.std.proofs.Common.{◌∙◌, arith}
 use Rattle.mo_match.proofs.Deficit.{matching-none, tree-none}
 use Rattle.mo_pantelides.proofs.Tight.{pairs-tight}
 use Rattle.mo_pantelides.proofs.Starting.{start-rising, start-gap, start-cost, cost-on, settled-next, least-at-end}

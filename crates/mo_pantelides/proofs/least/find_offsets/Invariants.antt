@@ -1,4 +1,4 @@
-use Rattle.std.proofs.Common.{◌≡◌, ◌≢◌, ◌≤◌, ◌<◌, ◌+◌, ◌*◌, ℕ, slice_index, length}
+use Rattle.std.proofs.Common.{◌≢◌, ◌≤◌, ◌<◌, ◌+◌, ◌*◌, ℕ, slice_index}
 use Rattle.mo_incidence.specs.Signature.{equations, entries}
 use Rattle.mo_incidence.specs.Offsets.{BoundsOrders, sum_unknowns}
 use Rattle.mo_match.specs.Searching.{Uses, tight_of, IsMatching, IsTree}

@@ -1,4 +1,4 @@
-use Rattle.std.proofs.Common.{◌≡◌, ◌<◌, ◌≤◌, ℕ, get_or, length, ◌∙◌, arith}
+use Rattle.std.proofs.Common.{◌∙◌}
 use Rattle.mo_match.proofs.Deficit.{tree-none}
 use Rattle.mo_pantelides.proofs.Raises.{matching-raised, gap-smaller, rising-raised, cost-raised}
 use Rattle.mo_pantelides.proofs.Starting.{room-equations, room-unknowns}
