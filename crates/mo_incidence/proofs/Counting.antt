@@ -175,10 +175,10 @@ distinct-room f n m within apart =
 pub count-full : (f : ℕ → ℕ) (n : ℕ) → count_below f n ≡ n → (i : ℕ) → i < n → f i ≢ 0
 count-full f n full i l none =
     let fewer : count_below f n ≤ count_below (without (λ _. 1) i) n = count-injection f (without (λ _. 1) i) (λ k. k) n n
-            (λ k kl some.
-                let ne : k ≢ i = λ same. some (rw same none) in
-                let one : without (λ _. 1) i k ≡ 1 = without-other (λ _. 1) i k ne in
-                (kl, omega arith))
-            (λ k k' _ _ _ _ same. same) in
+    (λ k kl some.
+    let ne : k ≢ i = λ same. some (rw same none) in
+    let one : without (λ _. 1) i k ≡ 1 = without-other (λ _. 1) i k ne in
+    (kl, omega arith))
+    (λ k k' _ _ _ _ same. same) in
     let more : count_below (λ _. 1) n ≡ suc (count_below (without (λ _. 1) i) n) = count-without (λ _. 1) i n l (omega arith) in
     omega (arith, count-ones n)
