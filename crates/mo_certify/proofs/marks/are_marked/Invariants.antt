@@ -1,0 +1,5 @@
+use Rattle.std.proofs.Common.{ℕ, ◌<◌, ◌≢◌, slice_index}
+use Rattle.mo_certify.proofs.marks.are_marked.Given as goal
+
+abbrev pub invariant-loop-number : goal.invariant-loop-number
+invariant-loop-number l = (i : ℕ) → i < l.number-index → slice_index l.mark (slice_index l.list i) ≢ 0

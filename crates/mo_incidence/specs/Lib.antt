@@ -1,0 +1,6 @@
+pub mod Counting
+pub mod Signature
+pub mod Flat
+pub mod Assignment
+pub mod Offsets
+pub mod Given

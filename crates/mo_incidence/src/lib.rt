@@ -1,0 +1,21 @@
+//! The incidence of a flat model: which unknowns stand in which equations, and at which highest order.
+//!
+//! - [`Incidence`] holds the entries row by row; [`Incidence::from_rows`] makes one from given rows.
+//! - [`Counted`] is a view of an incidence that only a counter can read, one step for each entry.
+//! - [`Offsets`], [`Deficit`], [`Reason`], [`Blocks`] and [`Dummies`] are what the analyses above find.
+//!
+//! Equations and unknowns are numbered from 1.
+#![tactic(auto)]
+
+mod builder;
+mod counter;
+mod findings;
+mod table;
+
+pub use builder::RowsError;
+pub use counter::Counted;
+pub use findings::{Blocks, Deficit, Dummies, Offsets, Reason};
+pub use table::Incidence;
+
+#[cfg(test)]
+mod tests;

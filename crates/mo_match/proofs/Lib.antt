@@ -1,0 +1,13 @@
+pub mod Entries
+pub mod Trees
+pub mod Moving
+pub mod Extending
+pub mod Covering
+pub mod LeftOut
+pub mod Deficit
+pub mod ListLemmas
+pub mod Excess
+pub mod Written
+pub mod Loose
+pub mod Threading
+pub mod SpreadLemmas

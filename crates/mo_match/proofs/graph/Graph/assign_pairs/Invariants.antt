@@ -1,0 +1,10 @@
+use Rattle.std.proofs.Common.{◌≤◌, ◌+◌, ◌*◌}
+use Rattle.mo_incidence.specs.Signature.{entries}
+use Rattle.mo_match.specs.Searching.{IsAssignedTo}
+use Rattle.mo_match.proofs.graph.Graph.assign_pairs.Given as goal
+
+abbrev pub invariant-loop-root : goal.invariant-loop-root
+invariant-loop-root g l = record {
+  assigned : IsAssignedTo l.self l.pairs l.owner l.queue l.parent l.mark l.base l.root;
+  cost : l.steps ≤ l.initial.steps + l.root * entries l.self.signature;
+}

@@ -1,0 +1,5 @@
+use Rattle.mo_match.specs.Threads.{IsThreaded}
+use Rattle.mo_match.proofs.threads.thread.Given as goal
+
+abbrev pub invariant-loop-i : goal.invariant-loop-i
+invariant-loop-i l = IsThreaded l.inc l.last l.before l.row_of l.filled l.i 0

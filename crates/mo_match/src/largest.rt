@@ -1,0 +1,92 @@
+//! A largest assignment.
+ghost use Rattle.std.specs.Prelude.{◌≡◌, ◌≢◌, ℕ, ◌+◌, ◌-◌, ◌*◌, ◌<◌, ◌≤◌, length, slice_index, false};
+ghost use Rattle.std.proofs.Common.{suc};
+ghost use Rattle.mo_incidence.specs.Counting.{count_below};
+ghost use Rattle.mo_incidence.specs.Signature.{equations, entries, IsSound};
+ghost use Rattle.mo_incidence.specs.Assignment.{CoversAll, IsLargest, IsDeficit};
+ghost use Rattle.mo_incidence.specs.Offsets.{by_place};
+ghost use Rattle.mo_match.specs.Searching.{IsAssignedTo};
+ghost use Rattle.mo_match.specs.Results.{IsMadeFor};
+ghost use Rattle.mo_match.specs.Answer.{left_out};
+
+use crate::graph::Graph;
+use crate::lists::{count_missing, list_marked, list_reached};
+use crate::work::{Assigned, Work};
+use mo_incidence::Counted;
+use mo_ports::Steps;
+
+/// Writes 0 to each place.
+pub fn clear(list: &mut [u32])
+    ensures { (i : ℕ) → slice_index list.new i ≡ 0 }
+{
+    for number in list.iter_mut() {
+        *number = 0;
+    }
+}
+
+impl<'a, L> Graph<'a, L> {
+    /// Gives each equation in turn an unknown, if it can have one. The result is the end of the closed front of the queue.
+    fn assign_pairs(
+        &self,
+        pairs: &mut [u32],
+        owner: &mut [u32],
+        queue: &mut [u32],
+        parent: &mut [u32],
+        mark: &mut [u32],
+        steps: &mut Steps<L>,
+    ) -> usize
+        requires sound { IsSound self.now.signature }
+        requires room { (length pairs.old ≡ equations self.now.signature) × (length owner.old ≡ suc self.now.signature.unknowns) }
+        requires room_search { (length queue.old ≡ equations self.now.signature) × (length parent.old ≡ equations self.now.signature) × (length mark.old ≡ equations self.now.signature) }
+        ensures done { IsAssignedTo self.now pairs.new owner.new queue.new parent.new mark.new result (equations self.now.signature) }
+        ensures cost { steps.new ≤ steps.old + equations self.now.signature * entries self.now.signature }
+    {
+        clear(pairs);
+        clear(owner);
+        clear(mark);
+        let mut base = 0;
+        for root in 0..pairs.len() {
+            if pairs[root] != 0 {
+                continue;
+            }
+            if mark[root] != 0 {
+                continue;
+            }
+            base = self.extend(pairs, owner, queue, parent, mark, base, root, steps);
+        }
+        base
+    }
+}
+
+/// Finds a largest assignment, one that no assignment covers more equations than, and the deficit: the equations that some largest
+/// assignment leaves out, with the unknowns that they mention (Pantelides 1988). Both are left in the work space.
+/// `Missing(k)` exactly where the assignment leaves k > 0 equations out; the deficit then has k more equations than unknowns.
+/// With m equations and e entries it reads at most m times e entries. It takes no memory.
+pub fn assign<L>(inc: &Counted<L>, work: &mut Work, steps: &mut Steps<L>) -> Assigned
+    requires { IsMadeFor inc.now work.old }
+    ensures largest { IsLargest inc.now (by_place work.new.assignment) }
+    ensures length { length work.new.assignment ≡ equations inc.now }
+    ensures missing { count_below (by_place work.new.assignment) (equations inc.now) + left_out result ≡ equations inc.now }
+    ensures all { result ≡ Assigned.All → CoversAll inc.now (by_place work.new.assignment) }
+    ensures some { (k : ℕ) → result ≡ Assigned.Missing k → 0 < k }
+    ensures deficit { IsDeficit inc.now work.new.deficient work.new.mentioned (left_out result) }
+    ensures rest { work.new ≡ record work.old { assignment = work.new.assignment; deficient = work.new.deficient; mentioned = work.new.mentioned } }
+    ensures cost { steps.new ≤ steps.old + equations inc.now * entries inc.now }
+{
+    let _equations = inc.equations();
+    let graph = Graph::of_entries(inc);
+    graph.assign_pairs(
+        &mut work.assignment,
+        &mut work.owner,
+        &mut work.queue,
+        &mut work.parent,
+        &mut work.mark,
+        steps,
+    );
+    list_marked(&work.mark, &mut work.deficit.equations);
+    list_reached(&work.owner, &work.mark, &mut work.deficit.unknowns);
+    match count_missing(&work.assignment) {
+        0 => Assigned::All,
+        missing => Assigned::Missing(missing),
+    }
+}

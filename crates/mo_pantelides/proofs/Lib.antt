@@ -1,0 +1,4 @@
+pub mod Tight
+pub mod Above
+pub mod Raises
+pub mod Starting

@@ -1,0 +1,34 @@
+use Rattle.std.proofs.Common.{◌∙◌, arith}
+use Rattle.mo_match.proofs.Deficit.{matching-none, tree-none}
+use Rattle.mo_pantelides.proofs.Tight.{pairs-tight}
+use Rattle.mo_pantelides.proofs.Starting.{start-rising, start-gap, start-cost, cost-on, settled-next, least-at-end}
+use Rattle.mo_pantelides.proofs.least.find_offsets.Goals as goal
+
+pub loop-root-init : goal.loop-root-init
+loop-root-init g c = record {
+  rising = start-rising _ _ _ c.clear.ensures c.greatest_orders.ensures.bounds c.greatest_orders.ensures.least;
+  matching = matching-none _ _ _ _ _ (c.clear-2.auto.list ∙ c.requires.room.0) (c.clear-3.auto.list ∙ c.requires.room.1) c.clear-2.ensures c.clear-3.ensures;
+  tree = tree-none _ _ _ _ _ _ c.requires.room_search.0 c.requires.room_search.1 (c.clear-4.auto.list ∙ c.requires.room_search.2) c.clear-4.ensures;
+  settled = λ i l. absurd (omega arith);
+  cost = λ h bound. start-cost _ _ _ _ _ c.greatest_orders.ensures.cost (start-gap _ _ _ c.clear.ensures c.greatest_orders.ensures.bounds c.greatest_orders.ensures.least h bound);
+}
+
+pub loop-root-preserved : goal.loop-root-preserved
+loop-root-preserved g c =
+    let before = c.loop-root.invariant in
+    let step = c.settle.ensures in
+    record {
+      rising = step.rising;
+      matching = step.matching;
+      tree = step.tree;
+      settled = settled-next _ _ c.loop-root.root before.settled step.kept step.gained;
+      cost = λ h bound. cost-on _ _ _ _ _ _ c.loop-root.root _ (before.cost h bound) step.cost;
+    }
+
+pub returns-clause-least : goal.returns-clause-least
+returns-clause-least g c =
+    least-at-end _ _ _ c.loop-root.pairs c.loop-root.owner c.loop-root.invariant.rising c.loop-root.invariant.matching
+    (λ i l. c.loop-root.invariant.settled i (omega (arith, c.equations-equations.ensures.count)))
+
+pub returns-clause-pairs : goal.returns-clause-pairs
+returns-clause-pairs g c = pairs-tight _ _ _ _ _ c.loop-root.invariant.matching

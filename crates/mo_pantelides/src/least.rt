@@ -1,0 +1,175 @@
+//! The least offsets.
+ghost use Rattle.std.specs.Prelude.{◌≡◌, ◌≢◌, ℕ, ◌+◌, ◌-◌, ◌*◌, ◌<◌, ◌≤◌, length, slice_index};
+ghost use Rattle.std.proofs.Common.{suc};
+ghost use Rattle.std.specs.Vec.{vec_capacity};
+ghost use Rattle.mo_incidence.specs.Signature.{equations, entries, IsSound};
+ghost use Rattle.mo_incidence.specs.Assignment.{Assigns, IsAssignment, CoversAll, CanCoverAll};
+ghost use Rattle.mo_incidence.specs.Offsets.{IsTight, IsLeast, BoundsOrders, sum_unknowns, by_place, by_number};
+ghost use Rattle.mo_match.specs.Searching.{Uses, tight_of, IsMatching, IsTree, ClosedTo};
+ghost use Rattle.mo_match.specs.Results.{IsMadeFor};
+ghost use Rattle.mo_pantelides.specs.Raising.{AreRising, gap};
+
+use crate::raise::raise;
+use crate::start::greatest_orders;
+use mo_incidence::Counted;
+use mo_match::{Graph, Work, clear, put};
+use mo_ports::Steps;
+
+/// Gives an equation an unknown at which it is tight, or closes the equations that it reaches; the result is how many these are.
+fn extend_tight<L>(
+    inc: &Counted<L>,
+    c: &[u32],
+    d: &[u32],
+    pairs: &mut [u32],
+    owner: &mut [u32],
+    queue: &mut [u32],
+    parent: &mut [u32],
+    mark: &mut [u32],
+    root: usize,
+    steps: &mut Steps<L>,
+) -> usize
+    requires sizes { (length c.now ≡ equations inc.now) × (length d.now ≡ inc.now.unknowns) }
+    requires matching { IsMatching (Uses (tight_of inc.now c.now d.now)) (equations inc.now) inc.now.unknowns pairs.old owner.old }
+    requires tree { IsTree (Uses (tight_of inc.now c.now d.now)) (equations inc.now) pairs.old queue.old parent.old mark.old 0 0 }
+    requires root { (root < equations inc.now) × (slice_index pairs.old root ≡ 0) }
+    ensures matching { IsMatching (Uses (tight_of inc.now c.now d.now)) (equations inc.now) inc.now.unknowns pairs.new owner.new }
+    ensures closed { ClosedTo (tight_of inc.now c.now d.now) owner.new mark.new queue.new result }
+    ensures gained { result ≡ 0 → slice_index pairs.new root ≢ 0 }
+    ensures failed { result ≢ 0 → (0 < result) × (slice_index queue.new 0 ≡ root) × (slice_index pairs.new root ≡ 0) }
+    ensures tree { IsTree (Uses (tight_of inc.now c.now d.now)) (equations inc.now) pairs.new queue.new parent.new mark.new 0 result }
+    ensures kept { (x : ℕ) → slice_index pairs.old x ≢ 0 → slice_index pairs.new x ≢ 0 }
+    ensures cost { steps.new ≤ steps.old + entries inc.now }
+{
+    let _equations = inc.equations();
+    let graph = Graph::of_tight(inc, c, d);
+    graph.extend(pairs, owner, queue, parent, mark, 0, root, steps)
+}
+
+/// Raises offsets until the equation at a place can have an unknown at which it is tight, and gives it one.
+fn settle<L>(
+    inc: &Counted<L>,
+    c: &mut [u32],
+    d: &mut [u32],
+    pairs: &mut [u32],
+    owner: &mut [u32],
+    queue: &mut [u32],
+    parent: &mut [u32],
+    mark: &mut [u32],
+    root: usize,
+    steps: &mut Steps<L>,
+)
+    requires sound { IsSound inc.now }
+    requires can { CanCoverAll inc.now }
+    requires sizes { (length c.old ≡ equations inc.now) × (length d.old ≡ inc.now.unknowns) }
+    requires rising { AreRising inc.now c.old d.old }
+    requires matching { IsMatching (Uses (tight_of inc.now c.old d.old)) (equations inc.now) inc.now.unknowns pairs.old owner.old }
+    requires tree { IsTree (Uses (tight_of inc.now c.old d.old)) (equations inc.now) pairs.old queue.old parent.old mark.old 0 0 }
+    requires root { (root < equations inc.now) × (slice_index pairs.old root ≡ 0) }
+    ensures rising { AreRising inc.now c.new d.new }
+    ensures matching { IsMatching (Uses (tight_of inc.now c.new d.new)) (equations inc.now) inc.now.unknowns pairs.new owner.new }
+    ensures tree { IsTree (Uses (tight_of inc.now c.new d.new)) (equations inc.now) pairs.new queue.new parent.new mark.new 0 0 }
+    ensures gained { slice_index pairs.new root ≢ 0 }
+    ensures kept { (x : ℕ) → slice_index pairs.old x ≢ 0 → slice_index pairs.new x ≢ 0 }
+    ensures cost { steps.new + gap (equations inc.now) inc.now.unknowns c.new d.new * entries inc.now ≤ steps.old + entries inc.now + gap (equations inc.now) inc.now.unknowns c.old d.old * entries inc.now }
+{
+    'again: loop {
+        let tail = extend_tight(inc, c, d, pairs, owner, queue, parent, mark, root, steps);
+        if tail == 0 {
+            return;
+        }
+        raise(inc, pairs, owner, queue, parent, c, d, mark, tail);
+    }
+}
+
+/// Finds the least offsets, with an unknown for each equation at which it is tight.
+fn find_offsets<L>(
+    inc: &Counted<L>,
+    c: &mut [u32],
+    d: &mut [u32],
+    pairs: &mut [u32],
+    owner: &mut [u32],
+    queue: &mut [u32],
+    parent: &mut [u32],
+    mark: &mut [u32],
+    steps: &mut Steps<L>,
+)
+    requires can { CanCoverAll inc.now }
+    requires sizes { (length c.old ≡ equations inc.now) × (length d.old ≡ inc.now.unknowns) }
+    requires room { (length pairs.old ≡ equations inc.now) × (length owner.old ≡ suc inc.now.unknowns) }
+    requires room_search { (length queue.old ≡ equations inc.now) × (length parent.old ≡ equations inc.now) × (length mark.old ≡ equations inc.now) }
+    ensures least { IsLeast inc.now (by_place c.new) (by_number d.new) }
+    ensures pairs { Assigns (IsTight inc.now (by_place c.new) (by_number d.new)) (equations inc.now) (by_place pairs.new) }
+    ensures all { CoversAll inc.now (by_place pairs.new) }
+    ensures cost { (h : ℕ → ℕ) → BoundsOrders inc.now h → steps.new ≤ steps.old + (equations inc.now + sum_unknowns inc.now h + 1) * entries inc.now }
+{
+    let equations = inc.equations() as usize;
+    clear(c);
+    greatest_orders(inc, d, steps);
+    clear(pairs);
+    clear(owner);
+    clear(mark);
+    for root in 0..equations {
+        if pairs[root] != 0 {
+            continue;
+        }
+        settle(inc, c, d, pairs, owner, queue, parent, mark, root, steps);
+    }
+}
+
+/// Makes a list of so many zeros, where there is room.
+fn fill(list: &mut Vec<u32>, count: u32)
+    requires { count ≤ vec_capacity list.old }
+    ensures count { length list.new.items ≡ count }
+    ensures room { vec_capacity list.old ≤ vec_capacity list.new }
+{
+    list.clear();
+    for _i in 0..count {
+        put(list, 0);
+    }
+}
+
+/// Makes a list a copy of another, where there is room.
+fn copy_into(from: &[u32], list: &mut Vec<u32>)
+    requires { length from.now ≤ vec_capacity list.old }
+    ensures items { list.new.items ≡ from.now }
+    ensures room { vec_capacity list.old ≤ vec_capacity list.new }
+{
+    list.clear();
+    for number in from {
+        put(list, *number);
+    }
+}
+
+/// Finds the least offsets (Pryce 2001): the least numbers c of equations and d of unknowns with `d - c` at least the order of each
+/// entry, and equal to it at an assignment of all equations. They are left in the work space with such an assignment, their pairs,
+/// which also become the work's assignment. The work space has to hold an assignment of all equations.
+/// With m equations, e entries and D the sum over the unknowns of their greatest orders it reads at most (m + D + 1)*e entries.
+/// It takes no memory.
+pub fn offsets<L>(inc: &Counted<L>, work: &mut Work, steps: &mut Steps<L>)
+    requires made { IsMadeFor inc.now work.old }
+    requires assigned { IsAssignment inc.now (by_place work.old.assignment) }
+    requires all { CoversAll inc.now (by_place work.old.assignment) }
+    ensures least { IsLeast inc.now (by_place work.new.c) (by_number work.new.d) }
+    ensures pairs { Assigns (IsTight inc.now (by_place work.new.c) (by_number work.new.d)) (equations inc.now) (by_place work.new.pairs) }
+    ensures all { CoversAll inc.now (by_place work.new.pairs) }
+    ensures lengths { (length work.new.c ≡ equations inc.now) × (length work.new.d ≡ inc.now.unknowns) × (length work.new.pairs ≡ equations inc.now) }
+    ensures assignment { work.new.assignment ≡ work.new.pairs }
+    ensures rest { work.new ≡ record work.old { assignment = work.new.assignment; c = work.new.c; d = work.new.d; pairs = work.new.pairs } }
+    ensures cost { (h : ℕ → ℕ) → BoundsOrders inc.now h → steps.new ≤ steps.old + (equations inc.now + sum_unknowns inc.now h + 1) * entries inc.now }
+{
+    let (equations, unknowns) = (work.equations, work.unknowns);
+    fill(&mut work.offsets.c, equations);
+    fill(&mut work.offsets.d, unknowns);
+    find_offsets(
+        inc,
+        &mut work.offsets.c,
+        &mut work.offsets.d,
+        &mut work.assignment,
+        &mut work.owner,
+        &mut work.queue,
+        &mut work.parent,
+        &mut work.mark,
+        steps,
+    );
+    copy_into(&work.assignment, &mut work.offsets.pairs);
+}

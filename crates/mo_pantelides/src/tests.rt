@@ -1,0 +1,56 @@
+use crate::offsets;
+use mo_incidence::{Counted, Incidence};
+use mo_match::{Assigned, Work, assign};
+use mo_ports::Steps;
+use std::test::Fail;
+
+/// Unknowns, rows, and the least offsets c and d.
+type Case<'a> = (u32, &'a [&'a [(u32, u32)]], &'a [u32], &'a [u32]);
+
+const CASES: [Case; 4] = [
+    // the pendulum: x, y, vx, vy and the force
+    (
+        5,
+        &[
+            &[(1, 1), (3, 0)],
+            &[(2, 1), (4, 0)],
+            &[(1, 0), (3, 1), (5, 0)],
+            &[(2, 0), (4, 1), (5, 0)],
+            &[(1, 0), (2, 0)],
+        ],
+        &[1, 1, 0, 0, 2],
+        &[2, 2, 1, 1, 0],
+    ),
+    (2, &[&[(1, 2), (2, 0)], &[(1, 0)]], &[0, 2], &[2, 0]),
+    (2, &[&[(1, 0), (2, 1)]], &[0], &[0, 1]),
+    (1, &[], &[], &[0]),
+];
+
+#[test]
+fn offsets_of_small_systems(rt: HostRuntime) -> Result<(), Fail> {
+    let alloc = rt.alloc();
+    for (unknowns, given, c, d) in CASES {
+        let mut rows = Vec::new(alloc);
+        for row in given {
+            rows.push(row.to_vec(alloc)?)?;
+        }
+        let incidence = Incidence::from_rows(alloc, unknowns, &rows)
+            .ok()
+            .ok_or("rows")?;
+        let (m, n, e) = (
+            incidence.equations(),
+            incidence.unknowns(),
+            incidence.entries(),
+        );
+        let mut work = Work::new(alloc, m, n, e)?;
+        let mut steps = Steps::new(());
+        let counted = Counted::new(&incidence, &steps);
+        match assign(&counted, &mut work, &mut steps) {
+            Assigned::All => offsets(&counted, &mut work, &mut steps),
+            Assigned::Missing(_) => return Err("singular".into()),
+        }
+        assert_eq!(rt; work.offsets().c.as_slice(), c);
+        assert_eq!(rt; work.offsets().d.as_slice(), d);
+    }
+    Ok(())
+}
