@@ -1,0 +1,16 @@
+pub mod Codes
+pub mod Begun
+pub mod Outcomes
+pub mod Decided
+pub mod Entering
+pub mod Limits
+pub mod Soundness
+pub mod Checked
+pub mod Steps
+pub mod Growing
+pub mod Complete
+pub mod Taken
+pub mod Fronts
+pub mod GrammarLaws
+pub mod Tested
+pub mod Readers
