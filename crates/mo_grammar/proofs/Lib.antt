@@ -14,3 +14,4 @@ pub mod Fronts
 pub mod GrammarLaws
 pub mod Tested
 pub mod Readers
+pub mod Examples
