@@ -68,7 +68,7 @@ grown_end stay l m b s (t ∷ w) = go (has identifiers (code_of t)) (suits (end_
     go true false true u e = inr (λ y. never true refl (sym (e y)), omega arith)
     go true false false u e = inr (λ y. refl, le_refl (length (t ∷ w)))
 
-names_inside : (o : Opening) (l i : Limits) → left_inside o l ≡ Some i → end_name_in i ≡ end_name_in l
+pub names_inside : (o : Opening) (l i : Limits) → left_inside o l ≡ Some i → end_name_in i ≡ end_name_in l
 names_inside a_construct (at_most zero k f) i e = cc
 names_inside a_construct (at_most (suc n) k f) i e = let same : at_most n k f ≡ i = cc in sym (ap end_name_in same)
 names_inside a_class (at_most zero k f) i e = cc

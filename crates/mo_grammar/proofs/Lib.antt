@@ -12,6 +12,7 @@ pub mod Complete
 pub mod Taken
 pub mod Fronts
 pub mod GrammarLaws
-pub mod Tested
 pub mod Readers
 pub mod Examples
+pub mod Extending
+pub mod Tested

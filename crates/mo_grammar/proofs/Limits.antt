@@ -18,7 +18,7 @@ NameBelow (this_name a) (this_name b) = a ≡ b
 abbrev pub Below : Limits → Limits → Type 0
 Below (at_most n k f) (at_most n' k' f') = (n ≤ n') × (k ≤ k') × NameBelow f f'
 
-name_same : (f : EndName) → NameBelow f f
+pub name_same : (f : EndName) → NameBelow f f
 name_same any_name = tt
 name_same (this_name a) = refl
 
@@ -56,12 +56,11 @@ renamed_lifted name Misnamed (at_most n k (this_name a)) = refl
 renamed_lifted name TooDeep (at_most n k any_name) = refl
 renamed_lifted name TooDeep (at_most n k (this_name a)) = refl
 
-rename : List ℕ → EndName → EndName
+abbrev pub rename : List ℕ → EndName → EndName
 rename name any_name = any_name
 rename name (this_name a) = this_name name
 
-renamed_name : (name : List ℕ) (l : Limits) → end_name_in (renamed name l) ≡ rename name (end_name_in l)
-unfolding rename
+pub renamed_name : (name : List ℕ) (l : Limits) → end_name_in (renamed name l) ≡ rename name (end_name_in l)
 renamed_name name (at_most n k any_name) = refl
 renamed_name name (at_most n k (this_name a)) = refl
 

@@ -1,9 +1,9 @@
 //! The laws of the grammar, for every production of it. Each function does nothing: its contract is the law.
-ghost use Rattle.std.specs.Prelude.{◌≡◌, List, [], ◌∷◌, ◌++◌};
+ghost use Rattle.std.specs.Prelude.{◌≡◌, ℕ, List, [], ◌∷◌, ◌++◌};
 ghost use Rattle.mo_grammar.specs.declared.fault.Fault.{Fault};
 ghost use Rattle.mo_grammar.specs.declared.fault.Fault.TheVariants.{Misplaced, Misnamed};
 ghost use Rattle.mo_grammar.specs.Lexeme.{Lexeme};
-ghost use Rattle.mo_grammar.specs.Grammar.{Limits, end_name_in};
+ghost use Rattle.mo_grammar.specs.Grammar.{Limits, at_most, end_name_in};
 ghost use Rattle.mo_grammar.specs.Reading.{read, stuck, unfinished};
 ghost use Rattle.mo_grammar.specs.Symbols.{Symbol, ValueOf};
 ghost use Rattle.mo_grammar.specs.Language.{Spells, Begins, IsLongestFront, IsImpossibleAfter, HasFaultAfter, EndsBeforeNames, reads};
@@ -16,6 +16,13 @@ pub fn one_tree()
 /// What begins a production begins it up to each of its tokens.
 pub fn fronts_begin()
     ensures { (x : Symbol) (l : Limits) (front rest : List Lexeme) → Begins x l (front ++ rest) → Begins x l front }
+{}
+
+/// What begins a production within limits is the front of a list that spells it where nesting is not limited, and each
+/// front of what is spelled begins it.
+pub fn beginnings_extend()
+    ensures extends { (x : Symbol) (l : Limits) (tokens : List Lexeme) → Begins x l tokens → (more : List Lexeme) × (a : ValueOf x) × (constructs : ℕ) × (classes : ℕ) × Spells x (at_most constructs classes (end_name_in l)) (tokens ++ more) a }
+    ensures fronts { (x : Symbol) (l : Limits) (tokens more : List Lexeme) (a : ValueOf x) → Spells x l (tokens ++ more) a → Begins x l tokens }
 {}
 
 /// Reading comes to an end.

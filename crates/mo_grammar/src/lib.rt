@@ -8,8 +8,11 @@
 
 mod fault;
 mod laws;
+mod token_code;
 
 pub use fault::Fault;
 pub use laws::{
-    first_impossible, fronts_begin, longest_spelling, one_tree, reading_ends, unfinished_front,
+    beginnings_extend, first_impossible, fronts_begin, longest_spelling, one_tree, reading_ends,
+    unfinished_front,
 };
+pub use token_code::code;
