@@ -16,3 +16,4 @@ pub mod Readers
 pub mod Examples
 pub mod Extending
 pub mod Tested
+pub mod Loops

@@ -63,7 +63,7 @@ agree_each {A = A} codes part part' less (suc n) w e here there =
     (refl, tt)
 
 module _ {S : Type 0} {V : S → Type 0} where
-  below_top : {A : Type 0} (rank : S → ℕ) (top : ℕ) → ((x : S) → rank x < top) → (g : Grammar S V A) → is_below rank top g ≡ true
+  pub below_top : {A : Type 0} (rank : S → ℕ) (top : ℕ) → ((x : S) → rank x < top) → (g : Grammar S V A) → is_below rank top g ≡ true
   below_top rank top k (empty a) = refl
   below_top rank top k (token codes) = refl
   below_top rank top k (seq g h) = and_true (is_below rank top g) (not (may_be_empty g) || is_below rank top h) (below_top rank top k g) (go (not (may_be_empty g)) (is_below rank top h) (below_top rank top k h))
@@ -98,7 +98,7 @@ module _ {S : Type 0} {V : S → Type 0} where
       go s = subst (λ v. length rest < length v) (sym s.1) (longer s.0 s.2)
 
   -- Two readers of the productions that agree wherever this grammar may call them give one reading of it.
-  agrees : {A : Type 0} (k : Tables S) (rule : Productions S V) → Checked S V k rule → (n : ℕ) (of' : Reader S V) (g : Grammar S V A) → Decided k g → (r : ℕ) (l : Limits) (w : List Lexeme)
+  pub agrees : {A : Type 0} (k : Tables S) (rule : Productions S V) → Checked S V k rule → (n : ℕ) (of' : Reader S V) (g : Grammar S V A) → Decided k g → (r : ℕ) (l : Limits) (w : List Lexeme)
       → ((y : S) (m : Limits) (v : List Lexeme) → length v < length w → Agree (reads_within k.starts rule n y m v) (of' y m v))
       → ((y : S) (m : Limits) (v : List Lexeme) → length v ≤ length w → k.rank y < r → Agree (reads_within k.starts rule n y m v) (of' y m v))
       → is_below k.rank r g ≡ true → Agree (reads_by k.starts (reads_within k.starts rule n) g l w) (reads_by k.starts of' g l w)
@@ -187,7 +187,7 @@ module _ {S : Type 0} {V : S → Type 0} where
       (λ y m v less low. let s = measure_lower (length v) (length w) k.ranks (k.rank y) (k.rank x) less low in within_agree k rule ok n n' y m v (omega arith) (omega arith))
       (ok.below x)
 
-  as_agrees : (k : Tables S) (rule : Productions S V) → Checked S V k rule → (n : ℕ) (x : S) (l : Limits) (w : List Lexeme) → length w * k.ranks + k.rank x < n → Agree (reads_within k.starts rule n x l w) (reads_as k rule x l w)
+  pub as_agrees : (k : Tables S) (rule : Productions S V) → Checked S V k rule → (n : ℕ) (x : S) (l : Limits) (w : List Lexeme) → length w * k.ranks + k.rank x < n → Agree (reads_within k.starts rule n x l w) (reads_as k rule x l w)
   unfolding reads_as
   as_agrees k rule ok n x l w h = within_agree k rule ok n (length w * k.ranks + k.rank x + 1) x l w h (omega arith)
 
