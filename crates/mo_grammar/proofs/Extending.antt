@@ -126,6 +126,11 @@ module _ {S : Type 0} {V : S → Type 0} where
     subst (λ k. SpelledBy (SpelledIn rule k) g' (at_most (max n n') (max c c') f') w' b) (up_comm h h') (by_up rule h h' g' (at_most n' c' f') (at_most (max n n') (max c c') f') w' b (below_max_right n n' c c' f') s'),
   )
 
+  -- two spellings, seen as equally high
+  pub two_heights : {A B : Type 0} (rule : Productions S V) (l l' : Limits) (g : Grammar S V A) (g' : Grammar S V B) (w w' : List Lexeme) (a : A) (b : B) (h h' : ℕ) → SpelledBy (SpelledIn rule h) g l w a → SpelledBy (SpelledIn rule h') g' l' w' b → (m : ℕ) × SpelledBy (SpelledIn rule m) g l w a × SpelledBy (SpelledIn rule m) g' l' w' b
+  two_heights rule l l' g g' w w' a b h h' s s' =
+      (up h' h, by_up rule h' h g l l w a (below_same l) s, subst (λ k. SpelledBy (SpelledIn rule k) g' l' w' b) (up_comm h h') (by_up rule h h' g' l' l' w' b (below_same l') s'))
+
   deep_seq : {A B : Type 0} (rule : Productions S V) (f : EndName) (g : Grammar S V A) (h : Grammar S V B) (w w' : List Lexeme) (a : A) (b : B) → DeepBy rule f g w a → DeepBy rule f h w' b → DeepBy rule f (seq g h) (w ++ w') (a, b)
   deep_seq rule f g h w w' a b s s' = let t = two_deep rule f f g h w w' a b s s' in (t.0, t.1, t.2, (w, w', refl, t.3, t.4))
 

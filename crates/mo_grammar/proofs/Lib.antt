@@ -17,3 +17,5 @@ pub mod Examples
 pub mod Extending
 pub mod Tested
 pub mod Loops
+pub mod EqualityForms
+pub mod EquationListForms

@@ -31,8 +31,8 @@ each_granted codes part less zero m (t ∷ w) p q = absurd (omega arith)
 each_granted codes part less (suc n) zero (t ∷ w) p q = absurd (omega arith)
 each_granted {A = A} codes part less (suc n) (suc m) (t ∷ w) p q =
     ap (λ o. let out : Outcome (List A) = if next_in codes (t ∷ w) then o else read [] (t ∷ w) in out)
-      (step_granted (part (t ∷ w)) (each_from codes part n) (each_from codes part m)
-        (λ a rest e. let shorter = less (t ∷ w) a rest e in each_granted codes part less n m rest (omega arith) (omega arith)))
+    (step_granted (part (t ∷ w)) (each_from codes part n) (each_from codes part m)
+    (λ a rest e. let shorter = less (t ∷ w) a rest e in each_granted codes part less n m rest (omega arith) (omega arith)))
 
 turn_kept : {A : Type 0} (front : List A) (a : A) (o : Outcome (List A)) → with_front front (o >>= λ y. read (a ∷ y.0) y.1) ≡ with_front (front ++ a ∷ []) o
 turn_kept front a (read list rest) = ap (λ v. read v rest) (sym (append_assoc front (a ∷ []) list))
@@ -45,9 +45,9 @@ unfolding reads
 form_takes g d e l w a rest r =
     let n = length w * tables.ranks + tables.ranks in
     let same = agrees tables rule passed n (reads_as tables rule) g d tables.ranks l w
-      (λ y m v less. as_agrees tables rule passed n y m v (let scaled : length v * tables.ranks ≤ length w * tables.ranks = mul-le-mul_right tables.ranks (let h : length v ≤ length w = omega arith in h) in let low = passed.ranked y in omega arith))
-      (λ y m v less low. as_agrees tables rule passed n y m v (let scaled : length v * tables.ranks ≤ length w * tables.ranks = mul-le-mul_right tables.ranks less in omega arith))
-      (below_top tables.rank tables.ranks passed.ranked g) in
+    (λ y m v less. as_agrees tables rule passed n y m v (let scaled : length v * tables.ranks ≤ length w * tables.ranks = mul-le-mul_right tables.ranks (let h : length v ≤ length w = omega arith in h) in let low = passed.ranked y in omega arith))
+    (λ y m v less low. as_agrees tables rule passed n y m v (let scaled : length v * tables.ranks ≤ length w * tables.ranks = mul-le-mul_right tables.ranks less in omega arith))
+    (below_top tables.rank tables.ranks passed.ranked g) in
     takes_some tables rule passed n g d e l w a rest (same.0 ∙ r)
 
 -- One item is read, and then those behind it.

@@ -137,6 +137,12 @@ abbrev pub equality : Expr × Option Expr → EquationKind
 equality (a, None) = call_of a (name_called a)
 equality (a, Some b) = Equal a b
 
+abbrev pub equal_sides : Expr × Expr → EquationKind
+equal_sides (a, b) = Equal a b
+
+abbrev pub calls_reference : ReferenceOf Expr × Args → EquationKind
+calls_reference (r, args) = call_equation r args
+
 abbrev pub connection : ReferenceOf Expr × ReferenceOf Expr → EquationKind
 connection (a, b) = Connect a b
 

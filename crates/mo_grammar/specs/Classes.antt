@@ -16,7 +16,7 @@ use Rattle.mo_grammar.specs.Lexeme.{Lexeme}
 use Rattle.mo_grammar.specs.Codes.{ident, string, end_of_file, open_paren, close_paren, open_brace, close_brace, semicolon, comma, dot, dot_times, times, plus, colon, equals, assigns, annotation_word, each_word, final_word, redeclare_word, replaceable_word, constrainedby_word, if_word, then_word, elseif_word, else_word, for_word, loop_word, when_word, elsewhen_word, while_word, end_word, connect_word, break_word, return_word, import_word, extends_word, inner_word, outer_word, flow_word, stream_word, discrete_word, parameter_word, constant_word, input_word, output_word, partial_word, class_word, model_word, operator_word, record_word, block_word, expandable_word, connector_word, type_word, package_word, pure_word, impure_word, function_word, enumeration_word, der_word, encapsulated_word, public_word, protected_word, initial_word, equation_word, algorithm_word, external_word, within_word}
 use Rattle.mo_grammar.specs.Grammar.{a_construct, a_class, empty, token, seq, either, either2, many, made, placed, nested, end_name, under, unless, symbol}
 use Rattle.mo_grammar.specs.Forms.{first_of, second_of, joined, dropped, optional, flag, behind, before, between, separated}
-use Rattle.mo_grammar.specs.ClassTrees.{Mods, Binding, Declares, Limit, Equation, Statement, Branched, BranchedElse, Declared, Components, Imported, Kinded, Inside, mods_of, text_of, value_only, limit_of, argument_of, modifies, replaces, redeclares, redeclares_replaceable, equation_of, is_call, equality, connection, equation_loop, no_branches, branch_before, branched_more, when_tree, no_branches_else, else_only, branch_before_else, branched_else_more, if_equation_tree, no_equations, statement_of, assigns_value, calls_it, reference_statement, outputs_statement, break_statement, return_statement, if_statement_tree, statement_loop, while_tree, when_statement_tree, way_of, vary_of, prefix_of, declares_component, whats_of_class, whats_of_components, kept_whats, replaceable_whats, elements_of, import_items, extends_items, renamed_import, import_of, from_all, from_group, imported, one_word_kind, expandable_kind, pure_kind, operator_or, partial_kind, class_tree, declares_class, items_before, nothing_more, external_clause, equations_section, algorithm_section, no_more_equations, one_more_equation, long_body, extending_body, short_body, open_enumeration, listed_enumeration, der_body, file_tree}
+use Rattle.mo_grammar.specs.ClassTrees.{Mods, Binding, Declares, Limit, Equation, Statement, Branched, BranchedElse, Declared, Components, Imported, Kinded, Inside, mods_of, text_of, value_only, limit_of, argument_of, modifies, replaces, redeclares, redeclares_replaceable, equation_of, is_call, equality, equal_sides, calls_reference, connection, equation_loop, no_branches, branch_before, branched_more, when_tree, no_branches_else, else_only, branch_before_else, branched_else_more, if_equation_tree, no_equations, statement_of, assigns_value, calls_it, reference_statement, outputs_statement, break_statement, return_statement, if_statement_tree, statement_loop, while_tree, when_statement_tree, way_of, vary_of, prefix_of, declares_component, whats_of_class, whats_of_components, kept_whats, replaceable_whats, elements_of, import_items, extends_items, renamed_import, import_of, from_all, from_group, imported, one_word_kind, expandable_kind, pure_kind, operator_or, partial_kind, class_tree, declares_class, items_before, nothing_more, external_clause, equations_section, algorithm_section, no_more_equations, one_more_equation, long_body, extending_body, short_body, open_enumeration, listed_enumeration, der_body, file_tree}
 use Rattle.mo_grammar.specs.Symbols.{Form, Expressions, Simples, CallArguments, Indices, References, Subscripts, TypeSpecs, Names, ClassMods, ModArguments, EquationItems, ForEquations, WhenEquations, ElseEquations, IfEquations, StatementItems, ImportNames, ElementItems, Compositions, Sections, SectionEquations, ClassDefinitions}
 use Rattle.mo_grammar.specs.Expressions.{outputs}
 
@@ -109,7 +109,12 @@ argument =
 
 -- ---- equations
 
--- Equations up to `end for`: {equation_item ";"} end for
+-- {equation_item ";"} with what ends it, as it is printed
+abbrev pub printed_equations : {A : Type 0} → Form A → Form (List Equation)
+printed_equations closing = made first_of (seq (many (before (symbol EquationItems) semicolon)) closing)
+
+-- Equations up to `end for`: {equation_item ";"} end for. An equation may begin with `end`, so the token behind it tells; this
+-- is why the list and its end are one production. `equation_lists` says that it spells what the printed form spells.
 abbrev pub for_equations : Form (List Equation)
 for_equations = either2 end_word (for_word ∷ []) (made no_equations (seq (token (end_word ∷ [])) (token (for_word ∷ [])))) (made joined (seq (before (symbol EquationItems) semicolon) (symbol ForEquations)))
 
@@ -149,12 +154,19 @@ if_eq = nested a_construct (made if_equation_tree (behind if_word (seq (symbol E
 abbrev pub connect_eq : Form EquationKind
 connect_eq = made connection (behind connect_word (between open_paren close_paren (seq (symbol References) (behind comma (symbol References)))))
 
+-- simple "=" expr | reference call_args, as it is printed
+abbrev pub printed_equality : Form EquationKind
+printed_equality = either (made equal_sides (seq (symbol Simples) (behind equals (symbol Expressions)))) (made calls_reference (seq (symbol References) (symbol CallArguments)))
+
+-- No number of tokens tells the two from one another. So both are a simple expression, behind which `=` may be left out where
+-- that expression is the call of a name; `equalities` says that both forms spell the same.
+abbrev pub equality_or_call : Form EquationKind
+equality_or_call = made equality (unless is_call (symbol Simples) (behind equals (symbol Expressions)))
+
 -- equation_item: ( simple "=" expr | if_eq | for_eq | when_eq
 --    | connect "(" reference "," reference ")" | reference call_args ) comment
--- No number of tokens tells `simple "=" expr` from `reference call_args`. So both are a simple expression, behind which `=` may
--- be left out where that expression is the call of a name.
 abbrev pub equation_item : Form Equation
-equation_item = made equation_of (placed (commented (either if_eq (either for_eq (either when_eq (either connect_eq (made equality (unless is_call (symbol Simples) (behind equals (symbol Expressions))))))))))
+equation_item = made equation_of (placed (commented (either if_eq (either for_eq (either when_eq (either connect_eq equality_or_call))))))
 
 -- ---- statements
 

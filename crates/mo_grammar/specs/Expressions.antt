@@ -101,16 +101,30 @@ literal =
     (either (made (truth_tree true) (token (true_word ∷ [])))
     (made end_tree (token (end_word ∷ [])))))))
 
+-- (der | initial | pure) call_args
+abbrev pub word_call : Form Expr
+word_call = made call_tree (seq (token (der_word ∷ initial_word ∷ pure_word ∷ [])) (symbol CallArguments))
+
+-- "(" outputs ")"
+abbrev pub output_list : Form Expr
+output_list = made outputs_tree (placed (between open_paren close_paren outputs))
+
+-- "[" exprs {";" exprs} "]"
+abbrev pub matrix : Form Expr
+matrix = made matrix_tree (placed (between open_bracket close_bracket (separated semicolon exprs)))
+
+-- "{" array_args "}"
+abbrev pub array : Form Expr
+array = made array_tree (placed (between open_brace close_brace array_args))
+
 -- primary: number | STRING | false | true | (reference | der | initial | pure) call_args
 --    | reference | "(" outputs ")" | "[" exprs {";" exprs} "]" | "{" array_args "}" | end
 abbrev pub primary : Form Expr
 primary =
     either literal
-    (either (made call_tree (seq (token (der_word ∷ initial_word ∷ pure_word ∷ [])) (symbol CallArguments)))
+    (either word_call
     (either (made reference_tree (placed (seq (symbol References) (optional (symbol CallArguments)))))
-    (either (made outputs_tree (placed (between open_paren close_paren outputs)))
-    (either (made matrix_tree (placed (between open_bracket close_bracket (separated semicolon exprs))))
-    (made array_tree (placed (between open_brace close_brace array_args)))))))
+    (either output_list (either matrix array))))
 
 -- factor: primary [("^" | ".^") primary]
 abbrev pub factor : Form Expr

@@ -3,7 +3,7 @@ use Rattle.std.specs.Prelude.{◌≡◌, ℕ, List, [], false}
 use Rattle.mo_grammar.specs.declared.fault.Fault.{Fault}
 use Rattle.mo_grammar.specs.Codes.{ident}
 use Rattle.mo_grammar.specs.Lexeme.{Lexeme}
-use Rattle.mo_grammar.specs.Grammar.{EndName, this_name, Limits, at_most, has, SpelledAs, BegunAs}
+use Rattle.mo_grammar.specs.Grammar.{EndName, this_name, Limits, at_most, has, SpelledBy, SpelledIn, SpelledAs, BegunAs}
 use Rattle.mo_grammar.specs.Reading.{Outcome, reads_as, reads_by, Tables}
 use Rattle.mo_grammar.specs.Openness.{BegunAtAnyDepth, ImpossibleAfter, FaultAfter, LongestFront}
 use Rattle.mo_grammar.specs.Symbols.{Symbol, ValueOf, Form}
@@ -53,3 +53,7 @@ reads x l tokens = reads_as tables rule x l tokens
 -- Reading by a part of the grammar.
 abbrev pub reads_form : {A : Type 0} → Form A → Limits → List Lexeme → Outcome A
 reads_form g l tokens = reads_by (Tables.starts tables) reads g l tokens
+
+-- The tokens spell the value by a part of the grammar, within the limits.
+abbrev pub SpelledByForm : {A : Type 0} → Form A → Limits → List Lexeme → A → Type 0
+SpelledByForm g l tokens a = (n : ℕ) × SpelledBy (SpelledIn rule n) g l tokens a

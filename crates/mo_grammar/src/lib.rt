@@ -8,6 +8,7 @@
 
 mod fault;
 mod laws;
+mod printed;
 mod token_code;
 
 pub use fault::Fault;
@@ -15,4 +16,5 @@ pub use laws::{
     beginnings_extend, first_impossible, fronts_begin, longest_spelling, one_tree, reading_ends,
     unfinished_front,
 };
+pub use printed::{equalities, equation_lists};
 pub use token_code::code;

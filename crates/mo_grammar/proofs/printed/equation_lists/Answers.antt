@@ -1,0 +1,14 @@
+use Rattle.mo_grammar.proofs.EquationListForms.{for_lists_agree, else_lists_agree}
+use Rattle.mo_grammar.proofs.printed.equation_lists.Goals as goal
+
+pub returns-clause-for_printed : goal.returns-clause-for_printed
+returns-clause-for_printed c = λ l tokens list. (for_lists_agree l tokens list).0
+
+pub returns-clause-for_read : goal.returns-clause-for_read
+returns-clause-for_read c = λ l tokens list. (for_lists_agree l tokens list).1
+
+pub returns-clause-else_printed : goal.returns-clause-else_printed
+returns-clause-else_printed c = λ l tokens list. (else_lists_agree l tokens list).0
+
+pub returns-clause-else_read : goal.returns-clause-else_read
+returns-clause-else_read c = λ l tokens list. (else_lists_agree l tokens list).1

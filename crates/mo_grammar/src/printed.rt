@@ -1,0 +1,25 @@
+//! The productions that stand in another form than the printed one, and spell the same. Each function does nothing: its
+//! contract is the law.
+ghost use Rattle.std.specs.Prelude.{[], ◌∷◌, List};
+ghost use Rattle.mo_syntax.specs.declared.equation.EquationKind.{EquationKind};
+ghost use Rattle.mo_grammar.specs.Codes.{end_word, for_word, if_word};
+ghost use Rattle.mo_grammar.specs.Lexeme.{Lexeme};
+ghost use Rattle.mo_grammar.specs.Grammar.{Limits, token, seq};
+ghost use Rattle.mo_grammar.specs.ClassTrees.{Equation};
+ghost use Rattle.mo_grammar.specs.Symbols.{ForEquations, ElseEquations};
+ghost use Rattle.mo_grammar.specs.Classes.{printed_equality, equality_or_call, printed_equations};
+ghost use Rattle.mo_grammar.specs.Language.{Spells, SpelledByForm};
+
+/// `simple "=" expr | reference call_args`, as a simple expression behind which `=` may be left out.
+pub fn equalities()
+    ensures printed { (l : Limits) (tokens : List Lexeme) (kind : EquationKind) → SpelledByForm equality_or_call l tokens kind → SpelledByForm printed_equality l tokens kind }
+    ensures read { (l : Limits) (tokens : List Lexeme) (kind : EquationKind) → SpelledByForm printed_equality l tokens kind → SpelledByForm equality_or_call l tokens kind }
+{}
+
+/// `{equation_item ";"} end for` and `{equation_item ";"} end if`, as lists whose end two tokens tell.
+pub fn equation_lists()
+    ensures for_printed { (l : Limits) (tokens : List Lexeme) (equations : List Equation) → Spells ForEquations l tokens equations → SpelledByForm (printed_equations (seq (token (end_word ∷ [])) (token (for_word ∷ [])))) l tokens equations }
+    ensures for_read { (l : Limits) (tokens : List Lexeme) (equations : List Equation) → SpelledByForm (printed_equations (seq (token (end_word ∷ [])) (token (for_word ∷ [])))) l tokens equations → Spells ForEquations l tokens equations }
+    ensures else_printed { (l : Limits) (tokens : List Lexeme) (equations : List Equation) → Spells ElseEquations l tokens equations → SpelledByForm (printed_equations (seq (token (end_word ∷ [])) (token (if_word ∷ [])))) l tokens equations }
+    ensures else_read { (l : Limits) (tokens : List Lexeme) (equations : List Equation) → SpelledByForm (printed_equations (seq (token (end_word ∷ [])) (token (if_word ∷ [])))) l tokens equations → Spells ElseEquations l tokens equations }
+{}
