@@ -1,26 +1,26 @@
 -- An equality or a call, as it is printed and as it is read.
-use Rattle.std.proofs.Common.{◌≡◌, ◌==◌, ◌||◌, ◌&&◌, ℕ, zero, suc, Bool, true, false, List, [], ◌∷◌, ◌++◌, ◌⊎◌, inl, inr, Option, Some, None, refl, sym, ap, subst, ◌∙◌, append-nil, is_some, eqb-true, eq-eqb}
+use Rattle.std.proofs.Common.{◌≡◌, ◌==◌, ◌||◌, ℕ, zero, suc, true, false, List, [], ◌∷◌, ◌++◌, inl, inr, Option, Some, None, refl, sym, ap, subst, ◌∙◌, append-nil, is_some, eqb-true, eq-eqb}
 use Rattle.mo_syntax.specs.declared.place.Place.{Place}
 use Rattle.mo_syntax.specs.declared.expr.Expr.{Expr}
 use Rattle.mo_syntax.specs.declared.expr.Args.{Args}
 use Rattle.mo_syntax.specs.declared.expr.ReferenceOf.{ReferenceOf}
 use Rattle.mo_syntax.specs.declared.expr.CalleeOf.TheVariants.{Named}
-use Rattle.mo_syntax.specs.declared.expr.Node.TheVariants.{Ref, Sum, Product, Power, Relation, Not, All, Any, Range, Call, outs-Ref, outs-Sum, outs-Product, outs-Power, outs-Relation, outs-Not, outs-All, outs-Any, outs-Range, outs-Call}
+use Rattle.mo_syntax.specs.declared.expr.Node.TheVariants.{Call, outs-Ref, outs-Sum, outs-Product, outs-Power, outs-Relation, outs-Not, outs-All, outs-Any, outs-Range, outs-Call}
 use Rattle.mo_syntax.specs.declared.equation.EquationKind.{EquationKind}
-use Rattle.mo_grammar.specs.Codes.{ident, dot, plus, minus, dot_plus, dot_minus, times, divides, dot_times, dot_divides, or_word, and_word, not_word, colon, power, dot_power, less, less_equal, greater, greater_equal, equal_equal, not_equal, equals}
+use Rattle.mo_grammar.specs.Codes.{ident, dot, plus, minus, dot_plus, dot_minus, times, divides, dot_times, dot_divides, or_word, and_word, colon, power, dot_power, less, less_equal, greater, greater_equal, equal_equal, not_equal}
 use Rattle.mo_grammar.specs.Lexeme.{Lexeme, code_of}
 use Rattle.mo_grammar.specs.Grammar.{Limits, token, seq, made, placed, many, symbol, has, first_passes, SpelledBy, SpelledIn, SpelledOr}
 use Rattle.mo_grammar.specs.Reading.{first_codes, apart}
-use Rattle.mo_grammar.specs.Forms.{optional, behind, flag}
-use Rattle.mo_grammar.specs.Trees.{expr_at, reference_tree, power_tree, product_tree, terms_tree, sum_tree, relation_tree, not_tree, all_tree, any_tree, range_tree}
-use Rattle.mo_grammar.specs.ClassTrees.{name_called, name_called_by, is_call, equality, call_of, calls_reference}
-use Rattle.mo_grammar.specs.Symbols.{Symbol, Form, Expressions, Simples, Logicals, Conjunctions, Negations, Relations, Sums, Products, Powers, Primaries, CallArguments, References}
+use Rattle.mo_grammar.specs.Forms.{optional, behind}
+use Rattle.mo_grammar.specs.Trees.{expr_at, reference_tree, power_tree, product_tree, sum_tree, relation_tree, all_tree, any_tree, range_tree}
+use Rattle.mo_grammar.specs.ClassTrees.{name_called, name_called_by, is_call, call_of}
+use Rattle.mo_grammar.specs.Symbols.{Form, Simples, Logicals, Conjunctions, Negations, Relations, Sums, Products, Powers, Primaries, CallArguments, References}
 use Rattle.mo_grammar.specs.Expressions.{add, literal, word_call, output_list, matrix, array}
 use Rattle.mo_grammar.specs.Classes.{printed_equality, equality_or_call}
 use Rattle.mo_grammar.specs.Productions.{rule}
 use Rattle.mo_grammar.specs.Tables.{tables}
 use Rattle.mo_grammar.specs.Language.{SpelledByForm}
-use Rattle.mo_grammar.proofs.Codes.{both, and_true, or_left, or_right, one_of, apart_lem, never, split_one}
+use Rattle.mo_grammar.proofs.Codes.{both, and_true, or_left, or_right, one_of, apart_lem}
 use Rattle.mo_grammar.proofs.Begun.{first_sound, spelled_begun}
 use Rattle.mo_grammar.proofs.Complete.{some_first}
 use Rattle.mo_grammar.proofs.Checked.{known}

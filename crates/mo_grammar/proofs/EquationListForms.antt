@@ -1,10 +1,10 @@
 -- A list of equations with what ends it, as it is printed and as it is read.
-use Rattle.std.proofs.Common.{◌≡◌, ℕ, zero, suc, List, [], ◌∷◌, ◌++◌, ◌⊎◌, inl, inr, refl, sym, ap, subst, ◌∙◌, append_assoc}
+use Rattle.std.proofs.Common.{ℕ, zero, suc, List, [], ◌∷◌, ◌++◌, inl, inr, refl, sym, ap, subst, ◌∙◌, append_assoc}
 use Rattle.mo_grammar.specs.Lexeme.{Lexeme}
 use Rattle.mo_grammar.specs.Codes.{semicolon, end_word, for_word, if_word}
-use Rattle.mo_grammar.specs.Grammar.{Limits, token, seq, either2, made, many, symbol, SpelledBy, SpelledEach, SpelledIn}
-use Rattle.mo_grammar.specs.Forms.{first_of, joined, before}
-use Rattle.mo_grammar.specs.ClassTrees.{Equation, no_equations}
+use Rattle.mo_grammar.specs.Grammar.{Limits, token, seq, symbol, SpelledBy, SpelledEach, SpelledIn}
+use Rattle.mo_grammar.specs.Forms.{before}
+use Rattle.mo_grammar.specs.ClassTrees.{Equation}
 use Rattle.mo_grammar.specs.Symbols.{Form, EquationItems, ForEquations, ElseEquations}
 use Rattle.mo_grammar.specs.Classes.{printed_equations}
 use Rattle.mo_grammar.specs.Productions.{rule}

@@ -1,17 +1,15 @@
 -- What begins a production is the front of a list that spells it, with no limit of nesting.
 use Rattle.std.proofs.Common.{◌≡◌, ◌||◌, ◌&&◌, not, ℕ, zero, suc, ◌+◌, ◌*◌, ◌<◌, ◌≤◌, max, Bool, true, false, List, [], ◌∷◌, ◌++◌, ◌⊎◌, inl, inr, Option, Some, None, refl, sym, ap, subst, ◌∙◌, append_assoc, append-nil, arith, nat_lt, ltb-true, IsTrue}
-use Rattle.std.specs.Str.{bytes_eq}
 use Rattle.std.proofs.lemmas.Slice.Eq.{bytes_eq-Decides}
 use Rattle.mo_syntax.specs.declared.place.Place.{Place}
 use Rattle.mo_syntax.specs.declared.token.TokenKind.{TokenKind}
 use Rattle.mo_syntax.specs.declared.token.TokenKind.TheVariants.{Ident, Keyword, Operator, Whole, Decimal, Str, End}
 use Rattle.mo_grammar.specs.Lexeme.{Lexeme, code_of, code_of_kind}
-use Rattle.mo_grammar.specs.Grammar.{Opening, a_construct, a_class, EndName, any_name, this_name, Limits, at_most, left_inside, end_name_in, suits, renamed, Grammar, empty, token, seq, either, either2, many, made, placed, nested, end_name, under, unless, symbol, has, identifiers, first_passes, Productions, SpelledBy, SpelledEach, SpelledOr, SpelledIn, SpelledAs, BegunBy, BegunEach, BegunIn, BegunAs}
+use Rattle.mo_grammar.specs.Grammar.{Opening, a_construct, a_class, EndName, any_name, this_name, Limits, at_most, end_name_in, suits, renamed, Grammar, empty, token, seq, either, either2, many, made, placed, nested, end_name, under, unless, symbol, has, identifiers, Productions, SpelledBy, SpelledIn, SpelledAs, BegunBy, BegunEach, BegunIn, BegunAs}
 use Rattle.mo_grammar.specs.Reading.{may_be_empty, Tables}
-use Rattle.mo_grammar.specs.Openness.{BegunAtAnyDepth}
 use Rattle.mo_grammar.proofs.Codes.{both, one_of, never}
 use Rattle.mo_grammar.proofs.Decided.{Decided}
-use Rattle.mo_grammar.proofs.Begun.{Known, nothing_spelled}
+use Rattle.mo_grammar.proofs.Begun.{nothing_spelled}
 use Rattle.mo_grammar.proofs.Limits.{Below, below_same, name_same, spelled_rises, rename, renamed_name}
 use Rattle.mo_grammar.proofs.Checked.{Checked, known, in_rises, in_higher}
 use Rattle.mo_grammar.proofs.Growing.{names_inside}

@@ -19,3 +19,4 @@ pub mod Tested
 pub mod Loops
 pub mod EqualityForms
 pub mod EquationListForms
+pub mod ArgumentForms

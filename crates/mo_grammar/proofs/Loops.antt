@@ -1,18 +1,17 @@
 -- Reading what is repeated, one item after another, as a loop does it.
-use Rattle.std.proofs.Common.{◌≡◌, ◌+◌, ◌*◌, ◌<◌, ◌≤◌, ℕ, zero, suc, Bool, true, false, List, [], ◌∷◌, ◌++◌, ◌⊎◌, inl, inr, length, refl, sym, ap, subst, ◌∙◌, if◌then◌else◌, le_refl, arith, mul-le-mul_right, append_assoc}
+use Rattle.std.proofs.Common.{◌≡◌, ◌+◌, ◌*◌, ◌<◌, ◌≤◌, ℕ, zero, suc, true, false, List, [], ◌∷◌, ◌++◌, length, refl, sym, ap, ◌∙◌, if◌then◌else◌, le_refl, arith, mul-le-mul_right, append_assoc}
 use Rattle.mo_grammar.specs.declared.fault.Fault.{Fault}
 use Rattle.mo_grammar.specs.Lexeme.{Lexeme}
-use Rattle.mo_grammar.specs.Grammar.{Limits, Grammar, many, Productions}
-use Rattle.mo_grammar.specs.Reading.{Outcome, read, stuck, unfinished, ◌>>=◌, Reader, may_be_empty, first_codes, next_in, each_from, reads_by, reads_as, reads_within, Tables}
-use Rattle.mo_grammar.specs.Symbols.{Symbol, ValueOf, Form}
+use Rattle.mo_grammar.specs.Grammar.{Limits, many}
+use Rattle.mo_grammar.specs.Reading.{Outcome, read, stuck, unfinished, ◌>>=◌, may_be_empty, first_codes, next_in, each_from, reads_by, reads_as}
+use Rattle.mo_grammar.specs.Symbols.{Form}
 use Rattle.mo_grammar.specs.Productions.{rule}
 use Rattle.mo_grammar.specs.Tables.{tables}
 use Rattle.mo_grammar.specs.Language.{reads, reads_form}
-use Rattle.mo_grammar.proofs.Codes.{told, choose_true, choose_false}
+use Rattle.mo_grammar.proofs.Codes.{choose_true}
 use Rattle.mo_grammar.proofs.Decided.{Decided}
 use Rattle.mo_grammar.proofs.Entering.{no_item}
-use Rattle.mo_grammar.proofs.Checked.{Checked}
-use Rattle.mo_grammar.proofs.Steps.{Agree, agrees, below_top, takes_some, as_agrees}
+use Rattle.mo_grammar.proofs.Steps.{agrees, below_top, takes_some, as_agrees}
 use Rattle.mo_grammar.proofs.Tested.{passed}
 
 -- values that were read before, in front of those that are read

@@ -13,7 +13,7 @@ use Rattle.mo_grammar.specs.Lexeme.{Lexeme}
 use Rattle.mo_grammar.specs.Codes.{ident, whole, decimal, string, open_paren, close_paren, open_bracket, close_bracket, open_brace, close_brace, semicolon, comma, dot, colon, equals, less, less_equal, greater, greater_equal, not_equal, equal_equal, plus, minus, times, divides, power, dot_plus, dot_minus, dot_times, dot_divides, dot_power, if_word, then_word, elseif_word, else_word, or_word, and_word, not_word, false_word, true_word, end_word, der_word, initial_word, pure_word, for_word, in_word, function_word}
 use Rattle.mo_grammar.specs.Grammar.{a_construct, token, seq, either, either2, many, made, placed, nested, symbol}
 use Rattle.mo_grammar.specs.Forms.{optional, flag, behind, between, separated}
-use Rattle.mo_grammar.specs.Trees.{Given, InBraces, whole_tree, decimal_tree, string_tree, truth_tree, end_tree, part_of, reference_of, name_reference, reference_tree, call_tree, index_of, args_or_none, named_argument, named_arguments, given_named, given_more, args_given, following_iters, following_more, args_from, partial_argument, if_tree, range_tree, any_tree, all_tree, not_tree, relation_tree, sum_tree, product_tree, power_tree, outputs_tree, matrix_tree, braces_iters, braces_more, array_tree, whole_dimension}
+use Rattle.mo_grammar.specs.Trees.{Given, InBraces, whole_tree, decimal_tree, string_tree, truth_tree, end_tree, part_of, reference_of, name_reference, reference_tree, call_tree, index_of, args_or_none, named_argument, named_arguments, given_named, given_more, args_given, args_iterated, following_iters, following_more, args_from, partial_argument, if_tree, range_tree, any_tree, all_tree, not_tree, relation_tree, sum_tree, product_tree, power_tree, outputs_tree, matrix_tree, braces_iters, braces_more, array_tree, whole_dimension}
 use Rattle.mo_grammar.specs.Symbols.{Expressions, Simples, Logicals, Conjunctions, Negations, Relations, Sums, Products, Powers, Primaries, CallArguments, Arguments, MoreArguments, OneArgument, Indices, References, Subscripts, TypeSpecs, Names, Form}
 
 -- name: IDENT {"." IDENT}
@@ -74,6 +74,14 @@ args =
     either2 ident (equals ∷ []) (made args_given (made given_named named_list))
     (either (made args_given (made given_more (seq function_argument (optional (behind comma (symbol MoreArguments))))))
     (made args_from (seq (symbol Expressions) (either (made following_iters (behind for_word (symbol Indices))) (made following_more (optional (behind comma (symbol MoreArguments))))))))
+
+-- arg {"," arg} {"," named} | named {"," named}, as it is printed
+abbrev pub printed_given : Form Given
+printed_given = either (made given_named (separated comma named)) (seq (separated comma (symbol OneArgument)) (many (behind comma named)))
+
+-- args, as it is printed; `arguments` says that both forms spell the same
+abbrev pub printed_args : Form Args
+printed_args = either (made args_iterated (seq (symbol Expressions) (behind for_word (symbol Indices)))) (made args_given printed_given)
 
 -- call_args: "(" [args] ")"
 abbrev pub call_args : Form Args

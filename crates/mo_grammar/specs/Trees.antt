@@ -116,6 +116,9 @@ given_more (arg, more) = (arg ∷ (given_or_none more).0, (given_or_none more).1
 abbrev pub args_given : Given → Args
 args_given given = args_of given.0 given.1 []
 
+abbrev pub args_iterated : Expr × List (IndexOf Expr) → Args
+args_iterated (e, iters) = args_of (Value e ∷ []) [] iters
+
 -- what follows the first expression of a call's arguments: iterators, or more arguments
 abbrev pub Following : Type 0
 Following = List (IndexOf Expr) × Given

@@ -2,11 +2,14 @@
 //! contract is the law.
 ghost use Rattle.std.specs.Prelude.{[], ◌∷◌, List};
 ghost use Rattle.mo_syntax.specs.declared.equation.EquationKind.{EquationKind};
+ghost use Rattle.mo_syntax.specs.declared.expr.Args.{Args};
 ghost use Rattle.mo_grammar.specs.Codes.{end_word, for_word, if_word};
 ghost use Rattle.mo_grammar.specs.Lexeme.{Lexeme};
 ghost use Rattle.mo_grammar.specs.Grammar.{Limits, token, seq};
 ghost use Rattle.mo_grammar.specs.ClassTrees.{Equation};
-ghost use Rattle.mo_grammar.specs.Symbols.{ForEquations, ElseEquations};
+ghost use Rattle.mo_grammar.specs.Symbols.{Arguments, MoreArguments, ForEquations, ElseEquations};
+ghost use Rattle.mo_grammar.specs.Trees.{Given};
+ghost use Rattle.mo_grammar.specs.Expressions.{printed_args, printed_given};
 ghost use Rattle.mo_grammar.specs.Classes.{printed_equality, equality_or_call, printed_equations};
 ghost use Rattle.mo_grammar.specs.Language.{Spells, SpelledByForm};
 
@@ -22,4 +25,13 @@ pub fn equation_lists()
     ensures for_read { (l : Limits) (tokens : List Lexeme) (equations : List Equation) → SpelledByForm (printed_equations (seq (token (end_word ∷ [])) (token (for_word ∷ [])))) l tokens equations → Spells ForEquations l tokens equations }
     ensures else_printed { (l : Limits) (tokens : List Lexeme) (equations : List Equation) → Spells ElseEquations l tokens equations → SpelledByForm (printed_equations (seq (token (end_word ∷ [])) (token (if_word ∷ [])))) l tokens equations }
     ensures else_read { (l : Limits) (tokens : List Lexeme) (equations : List Equation) → SpelledByForm (printed_equations (seq (token (end_word ∷ [])) (token (if_word ∷ [])))) l tokens equations → Spells ElseEquations l tokens equations }
+{}
+
+/// The arguments of a call, `expr for indices | arg {"," arg} {"," named} | named {"," named}`, and what follows a comma in
+/// them, as productions that lead back to themselves.
+pub fn arguments()
+    ensures printed { (l : Limits) (tokens : List Lexeme) (args : Args) → Spells Arguments l tokens args → SpelledByForm printed_args l tokens args }
+    ensures read { (l : Limits) (tokens : List Lexeme) (args : Args) → SpelledByForm printed_args l tokens args → Spells Arguments l tokens args }
+    ensures more_printed { (l : Limits) (tokens : List Lexeme) (given : Given) → Spells MoreArguments l tokens given → SpelledByForm printed_given l tokens given }
+    ensures more_read { (l : Limits) (tokens : List Lexeme) (given : Given) → SpelledByForm printed_given l tokens given → Spells MoreArguments l tokens given }
 {}
