@@ -20,3 +20,4 @@ pub mod Loops
 pub mod EqualityForms
 pub mod EquationListForms
 pub mod ArgumentForms
+pub mod BranchForms

@@ -122,6 +122,14 @@ for_equations = either2 end_word (for_word ∷ []) (made no_equations (seq (toke
 abbrev pub for_eq : Form EquationKind
 for_eq = nested a_construct (made equation_loop (behind for_word (seq (symbol Indices) (behind loop_word (symbol ForEquations)))))
 
+-- c expr then {equation_item ";"}, as it is printed
+abbrev pub printed_branch : ℕ → Form (Expr × List Equation)
+printed_branch c = behind c (seq (symbol Expressions) (behind then_word (many (before (symbol EquationItems) semicolon))))
+
+-- {equation_item ";"} {c expr then {equation_item ";"}} with what ends it, as it is printed
+abbrev pub printed_branched : {A : Type 0} → ℕ → Form A → Form Branched
+printed_branched c closing = seq (many (before (symbol EquationItems) semicolon)) (made first_of (seq (many (printed_branch c)) closing))
+
 -- Equations up to `end when`: {equation_item ";"} {elsewhen expr then {equation_item ";"}} end when
 abbrev pub when_equations : Form Branched
 when_equations =

@@ -1,3 +1,4 @@
+use Rattle.mo_grammar.proofs.BranchForms.{when_lists_agree}
 use Rattle.mo_grammar.proofs.EquationListForms.{for_lists_agree, else_lists_agree}
 use Rattle.mo_grammar.proofs.printed.equation_lists.Goals as goal
 
@@ -12,3 +13,9 @@ returns-clause-else_printed c = λ l tokens list. (else_lists_agree l tokens lis
 
 pub returns-clause-else_read : goal.returns-clause-else_read
 returns-clause-else_read c = λ l tokens list. (else_lists_agree l tokens list).1
+
+pub returns-clause-when_printed : goal.returns-clause-when_printed
+returns-clause-when_printed c = λ l tokens branched. (when_lists_agree l tokens branched).0
+
+pub returns-clause-when_read : goal.returns-clause-when_read
+returns-clause-when_read c = λ l tokens branched. (when_lists_agree l tokens branched).1
