@@ -1,10 +1,10 @@
 -- Lists of equations with branches behind them, as they are printed and as they are read.
-use Rattle.std.proofs.Common.{◌≡◌, ℕ, zero, suc, List, [], ◌∷◌, ◌++◌, ◌⊎◌, inl, inr, Option, Some, None, refl, sym, ap, subst, ◌∙◌, append_assoc, append-nil}
+use Rattle.std.proofs.Common.{◌≡◌, ℕ, zero, suc, List, [], ◌∷◌, ◌++◌, inl, inr, refl, sym, ap, subst, ◌∙◌, append_assoc}
 use Rattle.mo_syntax.specs.declared.expr.Expr.{Expr}
 use Rattle.mo_grammar.specs.Lexeme.{Lexeme}
-use Rattle.mo_grammar.specs.Codes.{semicolon, end_word, when_word, if_word, elsewhen_word, elseif_word, then_word}
-use Rattle.mo_grammar.specs.Grammar.{Limits, token, seq, made, many, symbol, SpelledBy, SpelledEach, SpelledIn}
-use Rattle.mo_grammar.specs.Forms.{first_of, second_of, before, behind}
+use Rattle.mo_grammar.specs.Codes.{semicolon, end_word, when_word, elsewhen_word, then_word}
+use Rattle.mo_grammar.specs.Grammar.{Limits, token, seq, symbol, SpelledBy, SpelledEach, SpelledIn}
+use Rattle.mo_grammar.specs.Forms.{before}
 use Rattle.mo_grammar.specs.ClassTrees.{Equation, Branched, branch_before, branched_more}
 use Rattle.mo_grammar.specs.Symbols.{Form, Expressions, EquationItems, WhenEquations}
 use Rattle.mo_grammar.specs.Classes.{printed_branch, printed_branched}

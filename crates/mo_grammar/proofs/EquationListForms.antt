@@ -45,7 +45,7 @@ for_read n l (a ∷ list) w v x (front, rest, cut, here, others) s =
     let t = two_heights rule l l item (symbol ForEquations) front (rest ++ v) a list n more.0 here more.1 in
     (suc t.0, inr ((a, list), (front, rest ++ v, ap (λ u. u ++ v) cut ∙ append_assoc front rest v, t.1, t.2), refl))
 
-else_printed : (n : ℕ) (l : Limits) (w : List Lexeme) (list : List Equation) → SpelledIn rule n ElseEquations l w list → SpelledByForm (printed_equations if_end) l w list
+pub else_printed : (n : ℕ) (l : Limits) (w : List Lexeme) (list : List Equation) → SpelledIn rule n ElseEquations l w list → SpelledByForm (printed_equations if_end) l w list
 unfolding rule
 else_printed zero l w list s = absurd s
 else_printed (suc n) l w list (inl (x, s, e)) = (n, (([], x), ([], w, refl, refl, s), e))
@@ -54,7 +54,7 @@ else_printed (suc n) l w list (inr ((a, more), (front, rest, cut, s, later), e))
     let t = item_first if_end l front rest a more n others.0 s others.1 in
     (t.0, subst (λ v. SpelledBy (SpelledIn rule t.0) (printed_equations if_end) l v list) (sym cut) (subst (SpelledBy (SpelledIn rule t.0) (printed_equations if_end) l (front ++ rest)) e t.1))
 
-else_read : (n : ℕ) (l : Limits) (list : List Equation) (w v : List Lexeme) (x : Lexeme × Lexeme) → SpelledEach (SpelledBy (SpelledIn rule n) item l) w list → SpelledBy (SpelledIn rule n) if_end l v x → Spells ElseEquations l (w ++ v) list
+pub else_read : (n : ℕ) (l : Limits) (list : List Equation) (w v : List Lexeme) (x : Lexeme × Lexeme) → SpelledEach (SpelledBy (SpelledIn rule n) item l) w list → SpelledBy (SpelledIn rule n) if_end l v x → Spells ElseEquations l (w ++ v) list
 unfolding rule
 else_read n l [] w v x none s = (suc n, inl (x, subst (λ u. SpelledBy (SpelledIn rule n) if_end l (u ++ v) x) (sym none) s, refl))
 else_read n l (a ∷ list) w v x (front, rest, cut, here, others) s =

@@ -21,3 +21,4 @@ pub mod EqualityForms
 pub mod EquationListForms
 pub mod ArgumentForms
 pub mod BranchForms
+pub mod ElseForms

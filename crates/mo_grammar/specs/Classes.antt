@@ -17,6 +17,7 @@ use Rattle.mo_grammar.specs.Codes.{ident, string, end_of_file, open_paren, close
 use Rattle.mo_grammar.specs.Grammar.{a_construct, a_class, empty, token, seq, either, either2, many, made, placed, nested, end_name, under, unless, symbol}
 use Rattle.mo_grammar.specs.Forms.{first_of, second_of, joined, dropped, optional, flag, behind, before, between, separated}
 use Rattle.mo_grammar.specs.ClassTrees.{Mods, Binding, Declares, Limit, Equation, Statement, Branched, BranchedElse, Declared, Components, Imported, Kinded, Inside, mods_of, text_of, value_only, limit_of, argument_of, modifies, replaces, redeclares, redeclares_replaceable, equation_of, is_call, equality, equal_sides, calls_reference, connection, equation_loop, no_branches, branch_before, branched_more, when_tree, no_branches_else, else_only, branch_before_else, branched_else_more, if_equation_tree, no_equations, statement_of, assigns_value, calls_it, reference_statement, outputs_statement, break_statement, return_statement, if_statement_tree, statement_loop, while_tree, when_statement_tree, way_of, vary_of, prefix_of, declares_component, whats_of_class, whats_of_components, kept_whats, replaceable_whats, elements_of, import_items, extends_items, renamed_import, import_of, from_all, from_group, imported, one_word_kind, expandable_kind, pure_kind, operator_or, partial_kind, class_tree, declares_class, items_before, nothing_more, external_clause, equations_section, algorithm_section, no_more_equations, one_more_equation, long_body, extending_body, short_body, open_enumeration, listed_enumeration, der_body, file_tree}
+use Rattle.mo_grammar.specs.Trees.{or_nothing}
 use Rattle.mo_grammar.specs.Symbols.{Form, Expressions, Simples, CallArguments, Indices, References, Subscripts, TypeSpecs, Names, ClassMods, ModArguments, EquationItems, ForEquations, WhenEquations, ElseEquations, IfEquations, StatementItems, ImportNames, ElementItems, Compositions, Sections, SectionEquations, ClassDefinitions}
 use Rattle.mo_grammar.specs.Expressions.{outputs}
 
@@ -153,6 +154,13 @@ if_equations =
     (either (made branch_before_else (behind elseif_word (seq (symbol Expressions) (behind then_word (symbol IfEquations)))))
     (either (made else_only (behind else_word (symbol ElseEquations)))
     (made branched_else_more (seq (before (symbol EquationItems) semicolon) (symbol IfEquations)))))
+
+-- {equation_item ";"} {elseif expr then {equation_item ";"}} [else {equation_item ";"}] end if, as it is printed
+abbrev pub printed_else : Form (List Equation)
+printed_else = made first_of (seq (made or_nothing (optional (behind else_word (many (before (symbol EquationItems) semicolon))))) (seq (token (end_word ∷ [])) (token (if_word ∷ []))))
+
+abbrev pub printed_branched_else : Form BranchedElse
+printed_branched_else = seq (many (before (symbol EquationItems) semicolon)) (seq (many (printed_branch elseif_word)) printed_else)
 
 -- if_eq: if expr then {equation_item ";"} {elseif expr then {equation_item ";"}} [else {equation_item ";"}] end if
 abbrev pub if_eq : Form EquationKind

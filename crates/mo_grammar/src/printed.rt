@@ -1,4 +1,4 @@
-//! The productions that stand in another form than the printed one, and spell the same. Each function does nothing: its
+//! Productions that stand in another form than the printed one, and spell the same. Each function does nothing: its
 //! contract is the law.
 ghost use Rattle.std.specs.Prelude.{[], ◌∷◌, List};
 ghost use Rattle.mo_syntax.specs.declared.equation.EquationKind.{EquationKind};
@@ -6,11 +6,11 @@ ghost use Rattle.mo_syntax.specs.declared.expr.Args.{Args};
 ghost use Rattle.mo_grammar.specs.Codes.{end_word, for_word, if_word, when_word, elsewhen_word};
 ghost use Rattle.mo_grammar.specs.Lexeme.{Lexeme};
 ghost use Rattle.mo_grammar.specs.Grammar.{Limits, token, seq};
-ghost use Rattle.mo_grammar.specs.ClassTrees.{Equation, Branched};
-ghost use Rattle.mo_grammar.specs.Symbols.{Arguments, MoreArguments, ForEquations, WhenEquations, ElseEquations};
+ghost use Rattle.mo_grammar.specs.ClassTrees.{Equation, Branched, BranchedElse};
+ghost use Rattle.mo_grammar.specs.Symbols.{Arguments, MoreArguments, ForEquations, WhenEquations, IfEquations, ElseEquations};
 ghost use Rattle.mo_grammar.specs.Trees.{Given};
 ghost use Rattle.mo_grammar.specs.Expressions.{printed_args, printed_given};
-ghost use Rattle.mo_grammar.specs.Classes.{printed_equality, equality_or_call, printed_equations, printed_branched};
+ghost use Rattle.mo_grammar.specs.Classes.{printed_equality, equality_or_call, printed_equations, printed_branched, printed_branched_else};
 ghost use Rattle.mo_grammar.specs.Language.{Spells, SpelledByForm};
 
 /// `simple "=" expr | reference call_args`, as a simple expression behind which `=` may be left out.
@@ -20,12 +20,15 @@ pub fn equalities()
 {}
 
 /// `{equation_item ";"} end for`, `{equation_item ";"} {elsewhen expr then {equation_item ";"}} end when` and
-/// `{equation_item ";"} end if`, as lists whose end two tokens tell.
+/// `{equation_item ";"} {elseif expr then {equation_item ";"}} [else {equation_item ";"}] end if`, as lists whose end two
+/// tokens tell.
 pub fn equation_lists()
     ensures for_printed { (l : Limits) (tokens : List Lexeme) (equations : List Equation) → Spells ForEquations l tokens equations → SpelledByForm (printed_equations (seq (token (end_word ∷ [])) (token (for_word ∷ [])))) l tokens equations }
     ensures for_read { (l : Limits) (tokens : List Lexeme) (equations : List Equation) → SpelledByForm (printed_equations (seq (token (end_word ∷ [])) (token (for_word ∷ [])))) l tokens equations → Spells ForEquations l tokens equations }
     ensures when_printed { (l : Limits) (tokens : List Lexeme) (branched : Branched) → Spells WhenEquations l tokens branched → SpelledByForm (printed_branched elsewhen_word (seq (token (end_word ∷ [])) (token (when_word ∷ [])))) l tokens branched }
     ensures when_read { (l : Limits) (tokens : List Lexeme) (branched : Branched) → SpelledByForm (printed_branched elsewhen_word (seq (token (end_word ∷ [])) (token (when_word ∷ [])))) l tokens branched → Spells WhenEquations l tokens branched }
+    ensures if_printed { (l : Limits) (tokens : List Lexeme) (branched : BranchedElse) → Spells IfEquations l tokens branched → SpelledByForm printed_branched_else l tokens branched }
+    ensures if_read { (l : Limits) (tokens : List Lexeme) (branched : BranchedElse) → SpelledByForm printed_branched_else l tokens branched → Spells IfEquations l tokens branched }
     ensures else_printed { (l : Limits) (tokens : List Lexeme) (equations : List Equation) → Spells ElseEquations l tokens equations → SpelledByForm (printed_equations (seq (token (end_word ∷ [])) (token (if_word ∷ [])))) l tokens equations }
     ensures else_read { (l : Limits) (tokens : List Lexeme) (equations : List Equation) → SpelledByForm (printed_equations (seq (token (end_word ∷ [])) (token (if_word ∷ [])))) l tokens equations → Spells ElseEquations l tokens equations }
 {}

@@ -1,3 +1,4 @@
+use Rattle.mo_grammar.proofs.ElseForms.{if_lists_agree}
 use Rattle.mo_grammar.proofs.BranchForms.{when_lists_agree}
 use Rattle.mo_grammar.proofs.EquationListForms.{for_lists_agree, else_lists_agree}
 use Rattle.mo_grammar.proofs.printed.equation_lists.Goals as goal
@@ -19,3 +20,9 @@ returns-clause-when_printed c = λ l tokens branched. (when_lists_agree l tokens
 
 pub returns-clause-when_read : goal.returns-clause-when_read
 returns-clause-when_read c = λ l tokens branched. (when_lists_agree l tokens branched).1
+
+pub returns-clause-if_printed : goal.returns-clause-if_printed
+returns-clause-if_printed c = λ l tokens branched. (if_lists_agree l tokens branched).0
+
+pub returns-clause-if_read : goal.returns-clause-if_read
+returns-clause-if_read c = λ l tokens branched. (if_lists_agree l tokens branched).1
