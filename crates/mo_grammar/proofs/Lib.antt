@@ -22,3 +22,4 @@ pub mod EquationListForms
 pub mod ArgumentForms
 pub mod BranchForms
 pub mod ElseForms
+pub mod ImportForms

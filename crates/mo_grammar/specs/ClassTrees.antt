@@ -322,6 +322,9 @@ from_all t = ([], Some None)
 abbrev pub from_group : List Lexeme → Imported
 from_group group = ([], Some (Some group))
 
+abbrev pub all_names : Lexeme → Option (List Lexeme)
+all_names t = None
+
 abbrev pub imported : Lexeme × Option Imported → Imported
 imported (t, None) = (t ∷ [], None)
 imported (t, Some x) = (t ∷ x.0, x.1)

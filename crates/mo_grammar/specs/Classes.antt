@@ -1,6 +1,6 @@
 -- The grammar of modifications, equations, statements, classes and files (Modelica Language Specification 3.5, appendix A.2.1
 -- to A.2.6), as in `Expressions`.
-use Rattle.std.specs.Prelude.{ℕ, Bool, true, false, List, [], ◌∷◌, Option}
+use Rattle.std.specs.Prelude.{ℕ, Bool, true, false, List, [], ◌∷◌, Option, Some}
 use Rattle.mo_syntax.specs.declared.expr.Expr.{Expr}
 use Rattle.mo_syntax.specs.declared.equation.EquationKind.{EquationKind}
 use Rattle.mo_syntax.specs.declared.equation.StatementKind.{StatementKind}
@@ -16,7 +16,7 @@ use Rattle.mo_grammar.specs.Lexeme.{Lexeme}
 use Rattle.mo_grammar.specs.Codes.{ident, string, end_of_file, open_paren, close_paren, open_brace, close_brace, semicolon, comma, dot, dot_times, times, plus, colon, equals, assigns, annotation_word, each_word, final_word, redeclare_word, replaceable_word, constrainedby_word, if_word, then_word, elseif_word, else_word, for_word, loop_word, when_word, elsewhen_word, while_word, end_word, connect_word, break_word, return_word, import_word, extends_word, inner_word, outer_word, flow_word, stream_word, discrete_word, parameter_word, constant_word, input_word, output_word, partial_word, class_word, model_word, operator_word, record_word, block_word, expandable_word, connector_word, type_word, package_word, pure_word, impure_word, function_word, enumeration_word, der_word, encapsulated_word, public_word, protected_word, initial_word, equation_word, algorithm_word, external_word, within_word}
 use Rattle.mo_grammar.specs.Grammar.{a_construct, a_class, empty, token, seq, either, either2, many, made, placed, nested, end_name, under, unless, symbol}
 use Rattle.mo_grammar.specs.Forms.{first_of, second_of, joined, dropped, optional, flag, behind, before, between, separated}
-use Rattle.mo_grammar.specs.ClassTrees.{Mods, Binding, Declares, Limit, Equation, Statement, Branched, BranchedElse, Declared, Components, Imported, Kinded, Inside, mods_of, text_of, value_only, limit_of, argument_of, modifies, replaces, redeclares, redeclares_replaceable, equation_of, is_call, equality, equal_sides, calls_reference, connection, equation_loop, no_branches, branch_before, branched_more, when_tree, no_branches_else, else_only, branch_before_else, branched_else_more, if_equation_tree, no_equations, statement_of, assigns_value, calls_it, reference_statement, outputs_statement, break_statement, return_statement, if_statement_tree, statement_loop, while_tree, when_statement_tree, way_of, vary_of, prefix_of, declares_component, whats_of_class, whats_of_components, kept_whats, replaceable_whats, elements_of, import_items, extends_items, renamed_import, import_of, from_all, from_group, imported, one_word_kind, expandable_kind, pure_kind, operator_or, partial_kind, class_tree, declares_class, items_before, nothing_more, external_clause, equations_section, algorithm_section, no_more_equations, one_more_equation, long_body, extending_body, short_body, open_enumeration, listed_enumeration, der_body, file_tree}
+use Rattle.mo_grammar.specs.ClassTrees.{Mods, Binding, Declares, Limit, Equation, Statement, Branched, BranchedElse, Declared, Components, Imported, Kinded, Inside, mods_of, text_of, value_only, limit_of, argument_of, modifies, replaces, redeclares, redeclares_replaceable, equation_of, is_call, equality, equal_sides, calls_reference, connection, equation_loop, no_branches, branch_before, branched_more, when_tree, no_branches_else, else_only, branch_before_else, branched_else_more, if_equation_tree, no_equations, statement_of, assigns_value, calls_it, reference_statement, outputs_statement, break_statement, return_statement, if_statement_tree, statement_loop, while_tree, when_statement_tree, way_of, vary_of, prefix_of, declares_component, whats_of_class, whats_of_components, kept_whats, replaceable_whats, elements_of, import_items, extends_items, renamed_import, import_of, from_all, all_names, from_group, imported, one_word_kind, expandable_kind, pure_kind, operator_or, partial_kind, class_tree, declares_class, items_before, nothing_more, external_clause, equations_section, algorithm_section, no_more_equations, one_more_equation, long_body, extending_body, short_body, open_enumeration, listed_enumeration, der_body, file_tree}
 use Rattle.mo_grammar.specs.Trees.{or_nothing}
 use Rattle.mo_grammar.specs.Symbols.{Form, Expressions, Simples, CallArguments, Indices, References, Subscripts, TypeSpecs, Names, ClassMods, ModArguments, EquationItems, ForEquations, WhenEquations, ElseEquations, IfEquations, StatementItems, ImportNames, ElementItems, Compositions, Sections, SectionEquations, ClassDefinitions}
 use Rattle.mo_grammar.specs.Expressions.{outputs}
@@ -231,6 +231,14 @@ import_names =
     made imported (seq (token (ident ∷ [])) (optional
     (either (made from_all (token (dot_times ∷ [])))
     (behind dot (either (made from_all (token (times ∷ []))) (either (made from_group (between open_brace close_brace (separated comma (token (ident ∷ []))))) (symbol ImportNames)))))))
+
+-- "." "*" | ".*" | "." "{" IDENT {"," IDENT} "}", as it is printed
+abbrev pub printed_taken : Form (Option (List Lexeme))
+printed_taken = either (made all_names (token (dot_times ∷ []))) (behind dot (either (made all_names (token (times ∷ []))) (made Some (between open_brace close_brace (separated comma (token (ident ∷ [])))))))
+
+-- name ["." "*" | ".*" | "." "{" IDENT {"," IDENT} "}"], as it is printed
+abbrev pub printed_import : Form Imported
+printed_import = seq (separated dot (token (ident ∷ []))) (optional printed_taken)
 
 -- import_clause: import ( IDENT "=" name | name ["." "*" | ".*" | "." "{" IDENT {"," IDENT} "}"] ) comment
 abbrev pub import_clause : Form Import

@@ -6,11 +6,11 @@ ghost use Rattle.mo_syntax.specs.declared.expr.Args.{Args};
 ghost use Rattle.mo_grammar.specs.Codes.{end_word, for_word, if_word, when_word, elsewhen_word};
 ghost use Rattle.mo_grammar.specs.Lexeme.{Lexeme};
 ghost use Rattle.mo_grammar.specs.Grammar.{Limits, token, seq};
-ghost use Rattle.mo_grammar.specs.ClassTrees.{Equation, Branched, BranchedElse};
-ghost use Rattle.mo_grammar.specs.Symbols.{Arguments, MoreArguments, ForEquations, WhenEquations, IfEquations, ElseEquations};
+ghost use Rattle.mo_grammar.specs.ClassTrees.{Equation, Branched, BranchedElse, Imported};
+ghost use Rattle.mo_grammar.specs.Symbols.{ImportNames, Arguments, MoreArguments, ForEquations, WhenEquations, IfEquations, ElseEquations};
 ghost use Rattle.mo_grammar.specs.Trees.{Given};
 ghost use Rattle.mo_grammar.specs.Expressions.{printed_args, printed_given};
-ghost use Rattle.mo_grammar.specs.Classes.{printed_equality, equality_or_call, printed_equations, printed_branched, printed_branched_else};
+ghost use Rattle.mo_grammar.specs.Classes.{printed_equality, equality_or_call, printed_equations, printed_branched, printed_branched_else, printed_import};
 ghost use Rattle.mo_grammar.specs.Language.{Spells, SpelledByForm};
 
 /// `simple "=" expr | reference call_args`, as a simple expression behind which `=` may be left out.
@@ -40,4 +40,10 @@ pub fn arguments()
     ensures read { (l : Limits) (tokens : List Lexeme) (args : Args) → SpelledByForm printed_args l tokens args → Spells Arguments l tokens args }
     ensures more_printed { (l : Limits) (tokens : List Lexeme) (given : Given) → Spells MoreArguments l tokens given → SpelledByForm printed_given l tokens given }
     ensures more_read { (l : Limits) (tokens : List Lexeme) (given : Given) → SpelledByForm printed_given l tokens given → Spells MoreArguments l tokens given }
+{}
+
+/// `name ["." "*" | ".*" | "." "{" IDENT {"," IDENT} "}"]` of an import, as a production that leads back to itself.
+pub fn imports()
+    ensures printed { (l : Limits) (tokens : List Lexeme) (imported : Imported) → Spells ImportNames l tokens imported → SpelledByForm printed_import l tokens imported }
+    ensures read { (l : Limits) (tokens : List Lexeme) (imported : Imported) → SpelledByForm printed_import l tokens imported → Spells ImportNames l tokens imported }
 {}
