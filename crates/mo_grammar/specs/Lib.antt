@@ -1,0 +1,15 @@
+pub mod Faults
+pub mod Lexeme
+pub mod Codes
+pub mod Grammar
+pub mod Reading
+pub mod Openness
+pub mod Forms
+pub mod Trees
+pub mod ClassTrees
+pub mod Symbols
+pub mod Expressions
+pub mod Classes
+pub mod Productions
+pub mod Tables
+pub mod Language

@@ -1,0 +1,20 @@
+//! What tokens spell: the grammar of the profile as data, and its laws, proved once for every production.
+//!
+//! The definitions stand in `specs/`. `Grammar` says what a grammar is, and what tokens spell and begin by it; `Symbols`,
+//! `Expressions`, `Classes` and `Productions` hold the grammar of the profile, one entry a production; `Reading` reads by a
+//! grammar from left to right and has the test that a grammar passes; `Language` names what other crates cite. The laws hold
+//! for every grammar that passes the test, and `laws` states them for this one.
+#![tactic(auto)]
+
+mod fault;
+mod laws;
+mod printed;
+mod token_code;
+
+pub use fault::Fault;
+pub use laws::{
+    beginnings_extend, first_impossible, fronts_begin, longest_spelling, one_tree, reading_ends,
+    unfinished_front,
+};
+pub use printed::{arguments, equalities, equation_lists, imports};
+pub use token_code::code;

@@ -1,0 +1,49 @@
+//! Productions that stand in another form than the printed one, and spell the same. Each function does nothing: its
+//! contract is the law.
+ghost use Rattle.std.specs.Prelude.{[], ◌∷◌, List};
+ghost use Rattle.mo_syntax.specs.declared.equation.EquationKind.{EquationKind};
+ghost use Rattle.mo_syntax.specs.declared.expr.Args.{Args};
+ghost use Rattle.mo_grammar.specs.Codes.{end_word, for_word, if_word, when_word, elsewhen_word};
+ghost use Rattle.mo_grammar.specs.Lexeme.{Lexeme};
+ghost use Rattle.mo_grammar.specs.Grammar.{Limits, token, seq};
+ghost use Rattle.mo_grammar.specs.ClassTrees.{Equation, Branched, BranchedElse, Imported};
+ghost use Rattle.mo_grammar.specs.Symbols.{ImportNames, Arguments, MoreArguments, ForEquations, WhenEquations, IfEquations, ElseEquations};
+ghost use Rattle.mo_grammar.specs.Trees.{Given};
+ghost use Rattle.mo_grammar.specs.Expressions.{printed_args, printed_given};
+ghost use Rattle.mo_grammar.specs.Classes.{printed_equality, equality_or_call, printed_equations, printed_branched, printed_branched_else, printed_import};
+ghost use Rattle.mo_grammar.specs.Language.{Spells, SpelledByForm};
+
+/// `simple "=" expr | reference call_args`, as a simple expression behind which `=` may be left out.
+pub fn equalities()
+    ensures printed { (l : Limits) (tokens : List Lexeme) (kind : EquationKind) → SpelledByForm equality_or_call l tokens kind → SpelledByForm printed_equality l tokens kind }
+    ensures read { (l : Limits) (tokens : List Lexeme) (kind : EquationKind) → SpelledByForm printed_equality l tokens kind → SpelledByForm equality_or_call l tokens kind }
+{}
+
+/// `{equation_item ";"} end for`, `{equation_item ";"} {elsewhen expr then {equation_item ";"}} end when` and
+/// `{equation_item ";"} {elseif expr then {equation_item ";"}} [else {equation_item ";"}] end if`, as lists whose end two
+/// tokens tell.
+pub fn equation_lists()
+    ensures for_printed { (l : Limits) (tokens : List Lexeme) (equations : List Equation) → Spells ForEquations l tokens equations → SpelledByForm (printed_equations (seq (token (end_word ∷ [])) (token (for_word ∷ [])))) l tokens equations }
+    ensures for_read { (l : Limits) (tokens : List Lexeme) (equations : List Equation) → SpelledByForm (printed_equations (seq (token (end_word ∷ [])) (token (for_word ∷ [])))) l tokens equations → Spells ForEquations l tokens equations }
+    ensures when_printed { (l : Limits) (tokens : List Lexeme) (branched : Branched) → Spells WhenEquations l tokens branched → SpelledByForm (printed_branched elsewhen_word (seq (token (end_word ∷ [])) (token (when_word ∷ [])))) l tokens branched }
+    ensures when_read { (l : Limits) (tokens : List Lexeme) (branched : Branched) → SpelledByForm (printed_branched elsewhen_word (seq (token (end_word ∷ [])) (token (when_word ∷ [])))) l tokens branched → Spells WhenEquations l tokens branched }
+    ensures if_printed { (l : Limits) (tokens : List Lexeme) (branched : BranchedElse) → Spells IfEquations l tokens branched → SpelledByForm printed_branched_else l tokens branched }
+    ensures if_read { (l : Limits) (tokens : List Lexeme) (branched : BranchedElse) → SpelledByForm printed_branched_else l tokens branched → Spells IfEquations l tokens branched }
+    ensures else_printed { (l : Limits) (tokens : List Lexeme) (equations : List Equation) → Spells ElseEquations l tokens equations → SpelledByForm (printed_equations (seq (token (end_word ∷ [])) (token (if_word ∷ [])))) l tokens equations }
+    ensures else_read { (l : Limits) (tokens : List Lexeme) (equations : List Equation) → SpelledByForm (printed_equations (seq (token (end_word ∷ [])) (token (if_word ∷ [])))) l tokens equations → Spells ElseEquations l tokens equations }
+{}
+
+/// The arguments of a call, `expr for indices | arg {"," arg} {"," named} | named {"," named}`, and what follows a comma in
+/// them, as productions that lead back to themselves.
+pub fn arguments()
+    ensures printed { (l : Limits) (tokens : List Lexeme) (args : Args) → Spells Arguments l tokens args → SpelledByForm printed_args l tokens args }
+    ensures read { (l : Limits) (tokens : List Lexeme) (args : Args) → SpelledByForm printed_args l tokens args → Spells Arguments l tokens args }
+    ensures more_printed { (l : Limits) (tokens : List Lexeme) (given : Given) → Spells MoreArguments l tokens given → SpelledByForm printed_given l tokens given }
+    ensures more_read { (l : Limits) (tokens : List Lexeme) (given : Given) → SpelledByForm printed_given l tokens given → Spells MoreArguments l tokens given }
+{}
+
+/// `name ["." "*" | ".*" | "." "{" IDENT {"," IDENT} "}"]` of an import, as a production that leads back to itself.
+pub fn imports()
+    ensures printed { (l : Limits) (tokens : List Lexeme) (imported : Imported) → Spells ImportNames l tokens imported → SpelledByForm printed_import l tokens imported }
+    ensures read { (l : Limits) (tokens : List Lexeme) (imported : Imported) → SpelledByForm printed_import l tokens imported → Spells ImportNames l tokens imported }
+{}
