@@ -1,6 +1,5 @@
 -- Lists of offsets with pairs.
-use Rattle.std.specs.Prelude.{◌≡◌, ◌≢◌, ℕ, ◌+◌, ◌-◌, ◌<◌, ◌≤◌, List, length}
-use Rattle.std.proofs.Common.{get_or, suc}
+use Rattle.std.specs.Prelude.{◌≡◌, ℕ, List, length}
 use Rattle.mo_incidence.specs.Signature.{Signature, equations}
 use Rattle.mo_incidence.specs.Assignment.{Assigns, CoversAll}
 use Rattle.mo_incidence.specs.Offsets.{Fits, IsTight, by_place, by_number}

@@ -13,7 +13,7 @@ mod work;
 pub use graph::Graph;
 pub use largest::{assign, clear};
 pub use lists::put;
-pub use spread::undetermined;
+pub use spread::{note_owners, undetermined};
 pub use work::{Assigned, Work};
 
 #[cfg(test)]

@@ -5,10 +5,13 @@
 //! more (C. C. Pantelides, The consistent initialization of differential-algebraic systems, SIAM J. Sci. Stat. Comput. 9, 1988).
 #![tactic(auto)]
 
+mod choose;
 mod least;
 mod raise;
+mod ranks;
 mod start;
 
+pub use choose::reasons;
 pub use least::offsets;
 
 #[cfg(test)]

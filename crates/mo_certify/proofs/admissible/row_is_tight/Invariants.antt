@@ -1,4 +1,4 @@
-use Rattle.std.proofs.Common.{ℕ, ◌≡◌, ◌<◌, ◌≤◌, ◌+◌, ◌-◌, slice_index}
+use Rattle.std.proofs.Common.{ℕ, ◌≡◌, ◌<◌, ◌+◌, ◌-◌, slice_index}
 use Rattle.mo_incidence.specs.Signature.{unknown_at, order_at}
 use Rattle.mo_certify.proofs.admissible.row_is_tight.Given as goal
 
