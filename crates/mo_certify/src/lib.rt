@@ -1,4 +1,7 @@
 //! Checks of what the analyses of an incidence found. Each accepts any lists, and its yes is evidence by itself.
+//!
+//! - [`deficit_holds`]: the listed equations mention fewer unknowns than they are, so no assignment covers all equations.
+//! - [`offsets_hold`]: the listed offsets and pairs are admissible.
 #![tactic(auto)]
 
 mod admissible;
