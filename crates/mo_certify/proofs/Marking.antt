@@ -1,8 +1,8 @@
 -- Lists whose numbers are marked, and the pigeonhole behind a deficiency.
-use Rattle.std.proofs.Common.{◌≡◌, ◌≢◌, ℕ, zero, suc, ◌+◌, ◌-◌, ◌<◌, ◌≤◌, ◌⊎◌, inl, inr, List, [], ◌∷◌, ◌==◌, if◌then◌else◌, length, get_or, set, refl, sym, ap, ◌∙◌, arith, subst, length-set, get_or-set_other, get_or-set_same}
+use Rattle.std.proofs.Common.{◌≡◌, ◌≢◌, ℕ, zero, suc, ◌+◌, ◌-◌, ◌<◌, ◌≤◌, ◌⊎◌, inl, inr, List, [], ◌∷◌, ◌==◌, if◌then◌else◌, length, get_or, set, refl, sym, ap, ◌∙◌, arith, length-set, get_or-set_other, get_or-set_same}
 use Rattle.std.proofs.lemmas.Bool.Decides.{eqb_tells}
 use Rattle.mo_incidence.specs.Signature.{Signature, equations, row_len, unknown_at}
-use Rattle.mo_incidence.specs.Assignment.{Mentions, Assigns, CanCoverAll}
+use Rattle.mo_incidence.specs.Assignment.{Mentions, CanCoverAll}
 use Rattle.mo_incidence.proofs.Counting.{distinct-room}
 use Rattle.mo_certify.specs.Deficiency.{AreDistinctBelow, IsMentionedBy, IsListed, IsDeficiency}
 

@@ -1,6 +1,6 @@
 -- Evidence that no assignment covers all equations: equations that together mention fewer unknowns than they are (P. Hall, On
 -- representatives of subsets, J. London Math. Soc. 10, 1935).
-use Rattle.std.specs.Prelude.{◌≡◌, ◌≢◌, ℕ, ◌+◌, ◌-◌, ◌<◌, ◌≤◌, List, length}
+use Rattle.std.specs.Prelude.{◌≡◌, ℕ, ◌-◌, ◌<◌, List, length}
 use Rattle.std.proofs.Common.{get_or, suc}
 use Rattle.mo_incidence.specs.Signature.{Signature, equations}
 use Rattle.mo_incidence.specs.Assignment.{Mentions}

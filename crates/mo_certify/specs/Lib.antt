@@ -1,1 +1,2 @@
 pub mod Deficiency
+pub mod Offsets

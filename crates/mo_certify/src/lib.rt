@@ -1,7 +1,15 @@
 //! Checks of what the analyses of an incidence found. Each accepts any lists, and its yes is evidence by itself.
+//!
+//! - [`deficit_holds`]: the listed equations mention fewer unknowns than they are, so no assignment covers all equations.
+//! - [`offsets_hold`]: the listed offsets and pairs are admissible.
 #![tactic(auto)]
 
+mod admissible;
 mod deficiency;
 mod marks;
 
+pub use admissible::offsets_hold;
 pub use deficiency::deficit_holds;
+
+#[cfg(test)]
+mod tests;

@@ -1,4 +1,12 @@
-//! A largest assignment of unknowns to the equations of an incidence.
+//! A largest assignment of unknowns to the equations of an incidence, and what it leaves out.
+//!
+//! - [`Work`] is room for the analyses of an incidence with given counts, and holds what they found.
+//! - [`assign`] finds an assignment that no other covers more equations than, and the deficit: the equations that some largest
+//!   assignment leaves out, with the unknowns that they mention. It reads the incidence through a counted view alone.
+//! - [`undetermined`] finds the unknowns that some assignment of all equations leaves out.
+//! - [`Graph`] is the search that these share with the least offsets: breadth first, with a queue, and so without recursion.
+//!
+//! Only [`Work::new`] takes memory.
 #![tactic(auto)]
 
 mod extend;
@@ -13,7 +21,7 @@ mod work;
 pub use graph::Graph;
 pub use largest::{assign, clear};
 pub use lists::put;
-pub use spread::undetermined;
+pub use spread::{note_owners, undetermined};
 pub use work::{Assigned, Work};
 
 #[cfg(test)]

@@ -16,7 +16,7 @@ use crate::work::Work;
 use mo_incidence::Incidence;
 
 /// Writes for each unknown the number of the equation that has it, or 0.
-fn note_owners(inc: &Incidence, pairs: &[u32], owner: &mut [u32])
+pub fn note_owners(inc: &Incidence, pairs: &[u32], owner: &mut [u32])
     requires assigned { IsAssignment inc.now (by_place pairs.now) }
     requires all { CoversAll inc.now (by_place pairs.now) }
     requires sizes { (length pairs.now ≡ equations inc.now) × (length owner.old ≡ suc inc.now.unknowns) }

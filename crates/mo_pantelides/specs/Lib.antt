@@ -1,1 +1,3 @@
 pub mod Raising
+pub mod Reasons
+pub mod Ranks

@@ -1,14 +1,20 @@
-use crate::offsets;
-use mo_incidence::{Counted, Incidence};
+use crate::{offsets, reasons};
+use mo_incidence::{Counted, Incidence, Reason};
 use mo_match::{Assigned, Work, assign};
 use mo_ports::Steps;
 use std::test::Fail;
 
-/// Unknowns, rows, and the least offsets c and d.
-type Case<'a> = (u32, &'a [&'a [(u32, u32)]], &'a [u32], &'a [u32]);
+/// Unknowns, rows, the least offsets c and d, and the reasons.
+type Case<'a> = (
+    u32,
+    &'a [&'a [(u32, u32)]],
+    &'a [u32],
+    &'a [u32],
+    &'a [Reason],
+);
 
 const CASES: [Case; 4] = [
-    // the pendulum: x, y, vx, vy and the force
+    // the pendulum: x, y, vx, vy and the force, with the pairs 3, 2, 5, 4, 1
     (
         5,
         &[
@@ -20,16 +26,39 @@ const CASES: [Case; 4] = [
         ],
         &[1, 1, 0, 0, 2],
         &[2, 2, 1, 1, 0],
+        &[
+            Reason {
+                equation: 1,
+                from: 3,
+            },
+            Reason {
+                equation: 2,
+                from: 5,
+            },
+            Reason {
+                equation: 5,
+                from: 1,
+            },
+        ],
     ),
-    (2, &[&[(1, 2), (2, 0)], &[(1, 0)]], &[0, 2], &[2, 0]),
-    (2, &[&[(1, 0), (2, 1)]], &[0], &[0, 1]),
-    (1, &[], &[], &[0]),
+    (
+        2,
+        &[&[(1, 2), (2, 0)], &[(1, 0)]],
+        &[0, 2],
+        &[2, 0],
+        &[Reason {
+            equation: 2,
+            from: 1,
+        }],
+    ),
+    (2, &[&[(1, 0), (2, 1)]], &[0], &[0, 1], &[]),
+    (1, &[], &[], &[0], &[]),
 ];
 
 #[test]
 fn offsets_of_small_systems(rt: HostRuntime) -> Result<(), Fail> {
     let alloc = rt.alloc();
-    for (unknowns, given, c, d) in CASES {
+    for (unknowns, given, c, d, why) in CASES {
         let mut rows = Vec::new(alloc);
         for row in given {
             rows.push(row.to_vec(alloc)?)?;
@@ -46,11 +75,15 @@ fn offsets_of_small_systems(rt: HostRuntime) -> Result<(), Fail> {
         let mut steps = Steps::new(());
         let counted = Counted::new(&incidence, &steps);
         match assign(&counted, &mut work, &mut steps) {
-            Assigned::All => offsets(&counted, &mut work, &mut steps),
+            Assigned::All => {
+                offsets(&counted, &mut work, &mut steps);
+                reasons(&incidence, &mut work);
+            }
             Assigned::Missing(_) => return Err("singular".into()),
         }
         assert_eq!(rt; work.offsets().c.as_slice(), c);
         assert_eq!(rt; work.offsets().d.as_slice(), d);
+        assert_eq!(rt; work.reasons(), why);
     }
     Ok(())
 }

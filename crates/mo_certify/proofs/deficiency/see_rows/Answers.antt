@@ -1,4 +1,4 @@
-use Rattle.std.proofs.Common.{inl, inr, arith}
+use Rattle.std.proofs.Common.{inl, inr}
 use Rattle.mo_certify.proofs.Marking.{seen-next, seen-listed, seen-seen, seen-only, mentioned-by, entry-mentions}
 use Rattle.std.proofs.Common.{refl}
 use Rattle.mo_certify.proofs.deficiency.see_rows.Goals as goal

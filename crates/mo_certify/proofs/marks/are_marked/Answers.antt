@@ -1,4 +1,4 @@
-use Rattle.std.proofs.Common.{◌≡◌, ℕ, arith}
+use Rattle.std.proofs.Common.{arith}
 use Rattle.mo_certify.proofs.Marking.{listed-at, listed-where}
 use Rattle.mo_certify.proofs.marks.are_marked.Goals as goal
 

@@ -1,4 +1,3 @@
-use Rattle.std.proofs.Common.{arith}
 use Rattle.mo_certify.proofs.Marking.{marks-marked, marks-only}
 use Rattle.mo_certify.proofs.marks.mark_all.Goals as goal
 

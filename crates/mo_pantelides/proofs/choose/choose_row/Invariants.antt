@@ -1,0 +1,6 @@
+use Rattle.mo_incidence.specs.Offsets.{by_place, by_number}
+use Rattle.mo_pantelides.specs.Ranks.{IsChosenTo}
+use Rattle.mo_pantelides.proofs.choose.choose_row.Given as goal
+
+abbrev pub invariant-loop-n : goal.invariant-loop-n
+invariant-loop-n l = IsChosenTo l.inc (by_place l.c) (by_number l.d) (by_place l.pairs) l.mark l.best l.k l.n

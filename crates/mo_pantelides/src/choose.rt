@@ -1,0 +1,188 @@
+//! The reason of each equation that is differentiated.
+ghost use Rattle.std.specs.Prelude.{◌≡◌, ◌≢◌, ℕ, ◌+◌, ◌-◌, ◌<◌, ◌≤◌, length, slice_index, vec_len, [], ◌∷◌, ◌++◌};
+ghost use Rattle.std.proofs.Common.{suc};
+ghost use Rattle.std.specs.Vec.{vec_capacity};
+ghost use Rattle.mo_incidence.specs.Signature.{equations, row_len};
+ghost use Rattle.mo_incidence.specs.Assignment.{Mentions, Assigns, CoversAll};
+ghost use Rattle.mo_incidence.specs.Offsets.{IsTight, IsLeast, by_place, by_number};
+ghost use Rattle.mo_match.specs.Searching.{IsMatching};
+ghost use Rattle.mo_match.specs.Results.{IsMadeFor};
+ghost use Rattle.mo_pantelides.specs.Reasons.{listed_reasons, AreReasonsOf};
+ghost use Rattle.mo_pantelides.specs.Ranks.{IsChosenTo, Considers};
+
+use crate::ranks::{find_ranks, led_by};
+use mo_incidence::{Incidence, Reason};
+use mo_match::{Work, clear, note_owners};
+
+/// Takes the equation at place k for another one, if it has a lower rank than the one taken before.
+fn consider(mark: &[u32], best: &mut [u32], k: u32, equation: u32)
+    requires sizes { (k < length mark.now) × (equation < length best.old) × (length mark.now ≤ 50000) }
+    requires best { slice_index best.old equation ≤ length mark.now }
+    ensures { Considers mark.now best.old k equation best.new }
+{
+    let old = best[equation as usize] as usize;
+    if old == 0 {
+        best[equation as usize] = k + 1;
+        return;
+    }
+    if mark[k as usize] < mark[old - 1] {
+        best[equation as usize] = k + 1;
+        return;
+    }
+}
+
+/// Looks at one entry of the equation at place k.
+fn choose_entry(
+    inc: &Incidence,
+    c: &[u32],
+    d: &[u32],
+    pairs: &[u32],
+    owner: &[u32],
+    mark: &[u32],
+    best: &mut [u32],
+    k: u32,
+    n: u32,
+)
+    requires k { k < equations inc.now }
+    requires n { n < row_len inc.now k }
+    requires sizes { (length c.now ≡ equations inc.now) × (length d.now ≡ inc.now.unknowns) × (length mark.now ≡ equations inc.now) × (equations inc.now ≤ 50000) }
+    requires matching { IsMatching (Mentions inc.now) (equations inc.now) inc.now.unknowns pairs.now owner.now }
+    requires all { CoversAll inc.now (by_place pairs.now) }
+    requires chosen { IsChosenTo inc.now (by_place c.now) (by_number d.now) (by_place pairs.now) mark.now best.old k n }
+    ensures { IsChosenTo inc.now (by_place c.now) (by_number d.now) (by_place pairs.now) mark.now best.new k (n + 1) }
+{
+    match led_by(inc, c, d, pairs, owner, k, n) {
+        None => {}
+        Some(equation) => consider(mark, best, k, equation),
+    }
+}
+
+/// Looks at the entries of the equation at place k.
+fn choose_row(
+    inc: &Incidence,
+    c: &[u32],
+    d: &[u32],
+    pairs: &[u32],
+    owner: &[u32],
+    mark: &[u32],
+    best: &mut [u32],
+    k: u32,
+)
+    requires k { k < equations inc.now }
+    requires sizes { (length c.now ≡ equations inc.now) × (length d.now ≡ inc.now.unknowns) × (length mark.now ≡ equations inc.now) × (equations inc.now ≤ 50000) }
+    requires matching { IsMatching (Mentions inc.now) (equations inc.now) inc.now.unknowns pairs.now owner.now }
+    requires all { CoversAll inc.now (by_place pairs.now) }
+    requires chosen { IsChosenTo inc.now (by_place c.now) (by_number d.now) (by_place pairs.now) mark.now best.old k 0 }
+    ensures { IsChosenTo inc.now (by_place c.now) (by_number d.now) (by_place pairs.now) mark.now best.new (k + 1) 0 }
+{
+    for n in 0..inc.row_len(k + 1) {
+        choose_entry(inc, c, d, pairs, owner, mark, best, k, n);
+    }
+}
+
+/// Writes for each equation one more than the place of its best candidate, or 0.
+fn choose_all(
+    inc: &Incidence,
+    c: &[u32],
+    d: &[u32],
+    pairs: &[u32],
+    owner: &[u32],
+    mark: &[u32],
+    best: &mut [u32],
+)
+    requires sizes { (length c.now ≡ equations inc.now) × (length d.now ≡ inc.now.unknowns) × (length mark.now ≡ equations inc.now) × (length best.old ≡ equations inc.now) }
+    requires matching { IsMatching (Mentions inc.now) (equations inc.now) inc.now.unknowns pairs.now owner.now }
+    requires all { CoversAll inc.now (by_place pairs.now) }
+    ensures { IsChosenTo inc.now (by_place c.now) (by_number d.now) (by_place pairs.now) mark.now best.new (equations inc.now) 0 }
+{
+    clear(best);
+    for k in 0..inc.equations() {
+        choose_row(inc, c, d, pairs, owner, mark, best, k);
+    }
+}
+
+/// Puts a reason at the end of a list that has room for it.
+fn put_reason(list: &mut Vec<Reason>, reason: Reason)
+    requires { vec_len list.old < vec_capacity list.old }
+    ensures items { list.new.items ≡ list.old.items ++ reason ∷ [] }
+    ensures room { vec_capacity list.old ≤ vec_capacity list.new }
+{
+    let _ = list.push(reason);
+}
+
+/// Lists the reasons of the equations with an offset above 0.
+fn list_reasons(c: &[u32], best: &[u32], list: &mut Vec<Reason>)
+    requires sizes { (length best.now ≡ length c.now) × (length c.now ≤ 50000) }
+    requires room { length c.now ≤ vec_capacity list.old }
+    requires best { (i : ℕ) → i < length c.now → slice_index c.now i ≢ 0 → slice_index best.now i ≢ 0 }
+    ensures items { list.new.items ≡ listed_reasons (by_place c.now) (λ i. slice_index best.now i - 1) (length c.now) }
+    ensures room { vec_capacity list.old ≤ vec_capacity list.new }
+{
+    list.clear();
+    for i in 0..c.len() {
+        if c[i] == 0 {
+            continue;
+        }
+        let equation = i as u32 + 1;
+        put_reason(
+            list,
+            Reason {
+                equation,
+                from: best[i],
+            },
+        );
+    }
+}
+
+/// Lists the reasons, with room for the searches.
+fn find_reasons(
+    inc: &Incidence,
+    c: &[u32],
+    d: &[u32],
+    pairs: &[u32],
+    owner: &mut [u32],
+    queue: &mut [u32],
+    mark: &mut [u32],
+    best: &mut [u32],
+    list: &mut Vec<Reason>,
+)
+    requires sizes { (length c.now ≡ equations inc.now) × (length d.now ≡ inc.now.unknowns) × (length pairs.now ≡ equations inc.now) }
+    requires room { (length owner.old ≡ suc inc.now.unknowns) × (length queue.old ≡ equations inc.now) × (length mark.old ≡ equations inc.now) × (length best.old ≡ equations inc.now) × (equations inc.now ≤ vec_capacity list.old) }
+    requires least { IsLeast inc.now (by_place c.now) (by_number d.now) }
+    requires tight { Assigns (IsTight inc.now (by_place c.now) (by_number d.now)) (equations inc.now) (by_place pairs.now) }
+    requires all { CoversAll inc.now (by_place pairs.now) }
+    ensures reasons { AreReasonsOf inc.now (by_place c.now) (by_number d.now) (by_place pairs.now) list.new.items }
+    ensures room { vec_capacity list.old ≤ vec_capacity list.new }
+{
+    let _equations = inc.equations();
+    note_owners(inc, pairs, owner);
+    find_ranks(inc, c, d, pairs, owner, queue, mark);
+    choose_all(inc, c, d, pairs, owner, mark, best);
+    list_reasons(c, best, list);
+}
+
+/// Finds why equations have to be differentiated: for each with an offset above 0 another one that is tight at its unknown, of
+/// least rank and then of least number. The rank is how many reasons lead to an equation with an offset of 0, so following reasons
+/// ends there. They are left in the work space, by equations, ascending. The work space has to hold the least offsets.
+/// It takes no memory.
+pub fn reasons(inc: &Incidence, work: &mut Work)
+    requires made { IsMadeFor inc.now work.old }
+    requires lengths { (length work.old.c ≡ equations inc.now) × (length work.old.d ≡ inc.now.unknowns) × (length work.old.pairs ≡ equations inc.now) }
+    requires least { IsLeast inc.now (by_place work.old.c) (by_number work.old.d) }
+    requires pairs { Assigns (IsTight inc.now (by_place work.old.c) (by_number work.old.d)) (equations inc.now) (by_place work.old.pairs) }
+    requires all { CoversAll inc.now (by_place work.old.pairs) }
+    ensures reasons { AreReasonsOf inc.now (by_place work.old.c) (by_number work.old.d) (by_place work.old.pairs) work.new.reasons }
+    ensures rest { work.new ≡ record work.old { reasons = work.new.reasons } }
+{
+    find_reasons(
+        inc,
+        &work.offsets.c,
+        &work.offsets.d,
+        &work.offsets.pairs,
+        &mut work.owner,
+        &mut work.queue,
+        &mut work.mark,
+        &mut work.parent,
+        &mut work.reasons,
+    );
+}
