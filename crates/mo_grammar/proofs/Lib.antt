@@ -23,3 +23,5 @@ pub mod ArgumentForms
 pub mod BranchForms
 pub mod ElseForms
 pub mod ImportForms
+pub mod FactorForms
+pub mod PrefixForms
