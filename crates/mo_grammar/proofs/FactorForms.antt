@@ -113,12 +113,12 @@ class_specs_agree l w x = (λ s. (s.0, spec_out s.0 l w x s.1), λ s. (s.0, spec
 
 -- ---- external calls
 
-external_out : (n : ℕ) (l : Limits) (w : List Lexeme) (x : Unit {0}) → SpelledBy (SpelledIn rule n) external_call l w x → SpelledBy (SpelledIn rule n) printed_external_call l w x
+pub external_out : (n : ℕ) (l : Limits) (w : List Lexeme) (x : Unit {0}) → SpelledBy (SpelledIn rule n) external_call l w x → SpelledBy (SpelledIn rule n) printed_external_call l w x
 external_out n l w x (inl (y, s, e)) = ((None, y), ([], w, refl, inr (refl, refl), s), e)
 external_out n l w x (inr ((r, z), (f, rest, cut, sr, ((q, y), (f2, r2, cut2, sq, s), e1)), e)) =
     ((Some r, y), (f ++ f2, r2, cut ∙ ap (λ v. f ++ v) cut2 ∙ sym (append_assoc f f2 r2), inl (r, ((r, q), (f, f2, refl, sr, sq), refl), refl), s), e)
 
-external_in : (n : ℕ) (l : Limits) (w : List Lexeme) (x : Unit {0}) → SpelledBy (SpelledIn rule n) printed_external_call l w x → SpelledBy (SpelledIn rule n) external_call l w x
+pub external_in : (n : ℕ) (l : Limits) (w : List Lexeme) (x : Unit {0}) → SpelledBy (SpelledIn rule n) printed_external_call l w x → SpelledBy (SpelledIn rule n) external_call l w x
 external_in n l w x ((o, y), (f, rest, cut, inr none, s), e) = inl (y, subst (λ v. SpelledBy (SpelledIn rule n) (seq (token (ident ∷ [])) external_arguments) l v y) (sym (cut ∙ ap (λ v. v ++ rest) none.0)) s, e)
 external_in n l w x ((o, y), (f, rest, cut, inl (r, ((r', q), (fr, fq, cut2, sr, sq), e2), e1), s), e) =
     inr ((r', y), (fr, fq ++ rest, cut ∙ ap (λ v. v ++ rest) cut2 ∙ append_assoc fr fq rest, sr, ((q, y), (fq, rest, refl, sq, s), refl)), e)

@@ -25,3 +25,4 @@ pub mod ElseForms
 pub mod ImportForms
 pub mod FactorForms
 pub mod PrefixForms
+pub mod SectionForms

@@ -1,6 +1,6 @@
 -- Productions as they are printed, where the form that is read gives several branches one beginning: it stands once, and the
 -- next token tells how the production goes on. The functions of `printed` say that both forms spell the same.
-use Rattle.std.specs.Prelude.{◌==◌, Bool, false, List, [], ◌∷◌, Option, Some, None}
+use Rattle.std.specs.Prelude.{◌==◌, Bool, false, List, [], ◌∷◌, Option, Some, None, is_some, true}
 use Rattle.mo_syntax.specs.declared.place.Place.{Place}
 use Rattle.mo_syntax.specs.declared.expr.Expr.{Expr}
 use Rattle.mo_syntax.specs.declared.expr.Node.{Node}
@@ -10,16 +10,18 @@ use Rattle.mo_syntax.specs.declared.expr.ReferenceOf.{ReferenceOf}
 use Rattle.mo_syntax.specs.declared.expr.IndexOf.{IndexOf}
 use Rattle.mo_syntax.specs.declared.expr.CalleeOf.TheVariants.{Named}
 use Rattle.mo_syntax.specs.declared.class.Body.{Body}
+use Rattle.mo_syntax.specs.declared.class.Item.{Item}
+use Rattle.mo_syntax.specs.declared.class.Item.TheVariants.{Equations, Algorithm}
 use Rattle.mo_syntax.specs.declared.class.ClassKind.TheVariants.{Connector, Function as function_kind, Operator as operator_kind}
 use Rattle.mo_grammar.specs.Lexeme.{Lexeme, code_of}
-use Rattle.mo_grammar.specs.Codes.{ident, open_brace, close_brace, equals, for_word, partial_word, class_word, model_word, operator_word, record_word, block_word, expandable_word, connector_word, type_word, package_word, pure_word, impure_word, function_word}
-use Rattle.mo_grammar.specs.Grammar.{token, seq, either, made, placed, symbol}
+use Rattle.mo_grammar.specs.Codes.{ident, open_brace, close_brace, equals, for_word, partial_word, class_word, model_word, operator_word, record_word, block_word, expandable_word, connector_word, type_word, package_word, pure_word, impure_word, function_word, string, semicolon, end_word, public_word, protected_word, initial_word, equation_word, algorithm_word, external_word}
+use Rattle.mo_grammar.specs.Grammar.{token, seq, either, made, placed, symbol, many, end_name}
 use Rattle.mo_grammar.specs.Forms.{dropped, optional, flag, behind, before, between}
 use Rattle.mo_grammar.specs.Trees.{expr_at}
-use Rattle.mo_grammar.specs.ClassTrees.{Kinded, kinded, kind_of, one_word_kind, partial_kind}
-use Rattle.mo_grammar.specs.Symbols.{Form, Expressions, CallArguments, Indices, References}
+use Rattle.mo_grammar.specs.ClassTrees.{Kinded, kinded, kind_of, one_word_kind, partial_kind, Equation, Statement, Inside, appended_items, items_before}
+use Rattle.mo_grammar.specs.Symbols.{Form, Expressions, CallArguments, Indices, References, EquationItems}
 use Rattle.mo_grammar.specs.Expressions.{exprs, literal, word_call, output_list, matrix}
-use Rattle.mo_grammar.specs.Classes.{short_class, enumeration, long_spec, extends_spec, der_spec, external_arguments}
+use Rattle.mo_grammar.specs.Classes.{short_class, enumeration, long_spec, extends_spec, der_spec, external_arguments, elements, statements, annotation_part}
 
 -- ---- expressions
 
@@ -96,3 +98,52 @@ printed_class_spec = either long_spec (either extends_spec (either printed_short
 -- [reference "="] IDENT "(" [expr {"," expr}] ")"
 abbrev pub printed_external_call : Form (Unit {0})
 printed_external_call = made dropped (seq (optional (before (symbol References) equals)) (seq (token (ident ∷ [])) external_arguments))
+
+-- ---- the sections of a class
+
+-- the items of sections, each of which has lists of them
+abbrev pub items_of_sections : List (List (List Item)) → List Item
+items_of_sections [] = []
+items_of_sections (section ∷ more) = appended_items (items_of_sections more) section
+
+abbrev pub equations_items : Bool × List Equation → List (List Item)
+equations_items (initial, equations) = (Equations initial equations ∷ []) ∷ []
+
+abbrev pub algorithm_items : Bool × List Statement → List (List Item)
+algorithm_items (initial, statements) = (Algorithm initial statements ∷ []) ∷ []
+
+-- public elements | protected elements | [initial] equation {equation_item ";"} | [initial] algorithm {statement ";"}
+abbrev pub printed_section : Form (List (List Item))
+printed_section =
+    either (behind public_word (elements false))
+    (either (behind protected_word (elements true))
+    (either (made equations_items (seq (flag initial_word) (behind equation_word (many (before (symbol EquationItems) semicolon)))))
+    (made algorithm_items (seq (flag initial_word) (behind algorithm_word statements)))))
+
+-- external [STRING] [[reference "="] IDENT "(" [expr {"," expr}] ")"] [annotation_part] ";"
+abbrev pub printed_external : Form (Unit {0})
+printed_external = made dropped (behind external_word (before (seq (optional (token (string ∷ []))) (seq (optional printed_external_call) (optional annotation_part))) semicolon))
+
+abbrev pub has_external : Option (Unit {0}) × (Option (Unit {0}) × Lexeme) → Bool
+has_external (external, x) = is_some external
+
+-- [external ..] [annotation_part ";"] end IDENT, by whether an external clause stands there
+abbrev pub printed_class_end : Form Bool
+printed_class_end = made has_external (seq (optional printed_external) (seq (optional (before annotation_part semicolon)) (behind end_word end_name)))
+
+abbrev pub sections_inside : List (List (List Item)) × Bool → Inside
+sections_inside (sections, external) = (items_of_sections sections, external)
+
+-- { public elements | protected elements | [initial] equation {equation_item ";"} | [initial] algorithm {statement ";"} }
+--    [external ..] [annotation_part ";"] end IDENT
+abbrev pub printed_sections : Form Inside
+printed_sections = made sections_inside (seq (many printed_section) printed_class_end)
+
+-- {equation_item ";"} and what follows it in a class
+abbrev pub printed_section_equations : Form (List Equation × Inside)
+printed_section_equations = seq (many (before (symbol EquationItems) semicolon)) printed_sections
+
+-- elements { public elements | protected elements | [initial] equation {equation_item ";"} | [initial] algorithm {statement ";"} }
+--    [external ..] [annotation_part ";"] end IDENT
+abbrev pub printed_composition : Form Inside
+printed_composition = made items_before (seq (elements false) printed_sections)

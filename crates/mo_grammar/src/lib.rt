@@ -17,6 +17,7 @@ pub use laws::{
     unfinished_front,
 };
 pub use printed::{
-    arguments, class_heads, equalities, equation_lists, external_calls, imports, primaries,
+    arguments, class_heads, compositions, equalities, equation_lists, external_calls, imports,
+    primaries,
 };
 pub use token_code::code;
