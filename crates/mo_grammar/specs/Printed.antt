@@ -1,5 +1,5 @@
--- Productions as they are printed, where the form that is read gives several branches one beginning: it stands once, and the
--- next token tells how the production goes on. The functions of `printed` say that both forms spell the same.
+-- Productions as they are printed, where the form that is read gives several branches one beginning, which stands once, or leads
+-- back to itself. `primaries`, `class_heads`, `external_calls` and `compositions` say that both forms spell the same.
 use Rattle.std.specs.Prelude.{◌==◌, Bool, false, List, [], ◌∷◌, Option, Some, None, is_some, true}
 use Rattle.mo_syntax.specs.declared.place.Place.{Place}
 use Rattle.mo_syntax.specs.declared.expr.Expr.{Expr}
