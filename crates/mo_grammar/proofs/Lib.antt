@@ -23,3 +23,6 @@ pub mod ArgumentForms
 pub mod BranchForms
 pub mod ElseForms
 pub mod ImportForms
+pub mod FactorForms
+pub mod PrefixForms
+pub mod SectionForms

@@ -13,3 +13,4 @@ pub mod Classes
 pub mod Productions
 pub mod Tables
 pub mod Language
+pub mod Printed

@@ -16,5 +16,8 @@ pub use laws::{
     beginnings_extend, first_impossible, fronts_begin, longest_spelling, one_tree, reading_ends,
     unfinished_front,
 };
-pub use printed::{arguments, equalities, equation_lists, imports};
+pub use printed::{
+    arguments, class_heads, compositions, equalities, equation_lists, external_calls, imports,
+    primaries,
+};
 pub use token_code::code;
