@@ -1,0 +1,4 @@
+pub mod Carried
+pub mod Derivative
+pub mod Sigma
+pub mod Still
