@@ -1,16 +1,16 @@
 -- What lists of joins gain.
-use Rattle.std.proofs.Common.{◌≡◌, ℕ, ◌+◌, ◌-◌, ◌<◌, ◌≤◌, inl, inr, ◌⊎◌, List, [], ◌∷◌, ◌++◌, length, get_or, Bool, refl, sym, ap, ◌∙◌, subst, arith, append_assoc, length-append}
+use Rattle.std.proofs.Common.{◌≡◌, ℕ, ◌+◌, ◌-◌, ◌<◌, ◌≤◌, inl, inr, List, [], ◌∷◌, ◌++◌, length, get_or, refl, sym, ap, ◌∙◌, subst, arith, append_assoc, length-append}
 use Rattle.std.proofs.Math.ListN.{get_or-append}
 use Rattle.std.proofs.Math.Seq.{get_or-append_right}
 use Rattle.std.proofs.lemmas.List.{get_or_default, append-nil, get_or-append-add}
 use Rattle.std.proofs.lemmas.Bool.Decides.{eqb_tells, leb_tells}
-use Rattle.std.specs.Prelude.{Contains, All, Any}
+use Rattle.std.specs.Prelude.{All, Any}
 use Rattle.mo_flat.specs.declared.connect.Connect.{Connect}
 use Rattle.mo_flat.specs.declared.connect.EndLeaf.{EndLeaf}
 use Rattle.mo_flat.specs.declared.connect.Side.{Side}
 use Rattle.mo_connect.specs.declared.joins.Join.{Join}
 use Rattle.mo_connect.specs.Alike.{Corresponds, HavePartners, AreAlike, IsConnectable}
-use Rattle.mo_connect.specs.Joins.{face_of, Lists, Gains, IsAt, AreDistinct, IsBefore, JoinsLeaf, JoinsLeafAt, JoinsElementAt, JoinsConnectAt}
+use Rattle.mo_connect.specs.Joins.{face_of, Gains, IsAt, AreDistinct, IsBefore, JoinsLeaf, JoinsLeafAt, JoinsElementAt, JoinsConnectAt}
 
 pub gains-none : {X : Type 0} (xs : List X) (P : X → Type 0) → ((x : X) → P x → ⊥) → Gains xs xs P
 gains-none xs P none = record {

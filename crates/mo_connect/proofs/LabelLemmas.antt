@@ -1,14 +1,14 @@
 -- From trees to labels.
-use Rattle.std.proofs.Common.{◌≡◌, ℕ, ◌+◌, ◌*◌, ◌<◌, ◌≤◌, inl, inr, Bool, true, false, List, ◌++◌, length, get_or, take, drop, refl, sym, ap, ◌∙◌, subst, arith}
+use Rattle.std.proofs.Common.{◌≡◌, ℕ, ◌+◌, ◌*◌, ◌<◌, ◌≤◌, true, false, List, ◌++◌, length, get_or, take, sym, ap, ◌∙◌, subst, arith}
 use Rattle.std.proofs.lemmas.List.{get_or_default}
 use Rattle.std.proofs.Math.Seq.{take-append_seam}
 use Rattle.mo_connect.specs.declared.joins.Face.{Face}
 use Rattle.mo_connect.specs.declared.joins.Join.{Join}
 use Rattle.mo_connect.specs.Joins.{IsAt}
-use Rattle.mo_connect.specs.Forest.{IsForest, Climbs, IsConstant, Shortens, IsLinked, Unites, IsFlatBelow}
-use Rattle.mo_connect.specs.Labels.{bit, number_of, number_in, IsChained, AreBelow, AreLabels, AreUnited}
+use Rattle.mo_connect.specs.Forest.{Climbs, Shortens, IsLinked, Unites, IsFlatBelow}
+use Rattle.mo_connect.specs.Labels.{bit, number_in, IsChained, AreLabels, AreUnited}
 use Rattle.mo_connect.proofs.AlikeLemmas.{one-more}
-use Rattle.mo_connect.proofs.JoinLemmas.{is-at, holds-at}
+use Rattle.mo_connect.proofs.JoinLemmas.{is-at}
 
 pub number-below : (face : Face) (bound : ℕ) → face.variable < bound → number_in face < 2 * bound
 number-below face bound less =

@@ -1,6 +1,5 @@
 -- The faces with one label.
-use Rattle.std.proofs.Common.{◌≡◌, ◌≢◌, ℕ, zero, suc, ◌+◌, ◌-◌, ◌*◌, ◌/◌, ◌%◌, ◌<◌, ◌≤◌, ◌==◌, inl, inr, ◌⊎◌, Bool, true, false, List, [], ◌∷◌, ◌++◌, length, get_or, set, refl, sym, ap, ◌∙◌, subst, arith, add-one, length-append, get_or-set_other, get_or-set_same}
-use Rattle.std.proofs.lemmas.List.{get_or_default, length-set}
+use Rattle.std.proofs.Common.{◌≡◌, ◌≢◌, ℕ, zero, suc, ◌+◌, ◌-◌, ◌*◌, ◌/◌, ◌%◌, ◌<◌, ◌≤◌, inl, inr, ◌⊎◌, Bool, true, false, List, [], ◌∷◌, ◌++◌, length, get_or, set, refl, sym, ap, ◌∙◌, subst, arith, add-one, length-append, get_or-set_other, get_or-set_same}
 use Rattle.std.proofs.lemmas.Bool.Decides.{eqb_tells, leb_tells}
 use Rattle.std.proofs.Math.ListN.{get_or-append}
 use Rattle.std.proofs.Math.Seq.{get_or-append_seam, get_or-append_right}
@@ -8,7 +7,7 @@ use Rattle.mo_connect.specs.Forest.{IsForest, IsFlatBelow}
 use Rattle.mo_connect.specs.Joins.{IsAt}
 use Rattle.mo_connect.proofs.JoinLemmas.{is-at-same}
 use Rattle.std.specs.Prelude.{Contains}
-use Rattle.mo_connect.specs.Labels.{bit, number_of, face_at}
+use Rattle.mo_connect.specs.Labels.{number_of, face_at}
 use Rattle.mo_connect.specs.Gathering.{labelled}
 
 pub number-at : (n : ℕ) → number_of (face_at n) ≡ n

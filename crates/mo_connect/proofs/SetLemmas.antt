@@ -1,24 +1,13 @@
 -- The gathered sets are the connection sets.
-use Rattle.std.proofs.Common.{◌≡◌, ◌≢◌, ℕ, zero, suc, ◌+◌, ◌-◌, ◌*◌, ◌/◌, ◌%◌, ◌<◌, ◌≤◌, ◌==◌, inl, inr, ◌⊎◌, Bool, true, false, List, [], ◌∷◌, ◌++◌, Option, Some, None, length, get_or, if◌then◌else◌, refl, sym, ap, ◌∙◌, subst, arith, add-one, length-append}
-use Rattle.std.proofs.lemmas.List.{get_or_default, get_or-append-add}
-use Rattle.std.proofs.lemmas.Bool.Decides.{eqb_tells, leb_tells}
+use Rattle.std.proofs.Common.{◌≡◌, ℕ, zero, suc, ◌+◌, ◌-◌, ◌/◌, ◌<◌, ◌≤◌, inl, inr, ◌⊎◌, Bool, true, false, List, [], ◌∷◌, ◌++◌, Option, Some, None, length, get_or, if◌then◌else◌, refl, sym, ◌∙◌, subst, arith, length-append}
+use Rattle.std.proofs.lemmas.List.{get_or-append-add}
+use Rattle.std.proofs.lemmas.Bool.Decides.{eqb_tells}
 use Rattle.std.proofs.Math.ListN.{get_or-append}
-use Rattle.std.proofs.Math.Seq.{get_or-append_right}
-use Rattle.std.specs.Prelude.{Contains}
-use Rattle.mo_syntax.specs.declared.place.Place.{Place}
-use Rattle.mo_flat.specs.declared.connect.Connects.{Connects}
 use Rattle.mo_flat.specs.declared.connect.FaceSet.{FaceSet}
-use Rattle.mo_connect.specs.declared.joins.Face.{Face}
-use Rattle.mo_connect.specs.declared.joins.Join.{Join}
 use Rattle.mo_connect.specs.declared.declared.Declared.{Declared}
-use Rattle.mo_connect.specs.Forest.{IsForest, IsFlatBelow}
-use Rattle.mo_connect.specs.Joins.{Lists, Gains, IsAt, IsBefore, JoinsConnectAt}
-use Rattle.mo_connect.specs.Labels.{bit, number_of, number_in, face_at, IsChained, AreBelow, AreFlowsBelow, AreLabels}
-use Rattle.mo_connect.specs.Gathering.{told_by_face, told_by_flow, IsTold, IsKnown, IsListed, IsTable, labelled, set_with, set_from, sets_below}
-use Rattle.mo_connect.specs.Sets.{seen, IsJoined, IsFlowLeaf, IsDeclared, IsLoneFlow, IsConnectionSet, IsInSome, AreConnectionSets}
-use Rattle.mo_connect.proofs.JoinLemmas.{is-at, is-at-same}
-use Rattle.mo_connect.proofs.LabelLemmas.{number-below}
-use Rattle.mo_connect.proofs.LabelledLemmas.{number-at, face-of-number, labelled-at, labelled-all, labelled-ordered, at-append, first-labelled}
+use Rattle.mo_connect.specs.Joins.{IsAt}
+use Rattle.mo_connect.specs.Gathering.{labelled, set_with, set_from, sets_below}
+use Rattle.mo_connect.proofs.LabelledLemmas.{at-append}
 
 -- one set, or none
 pub record IsSetFrom (members : List (ℕ × Bool)) (d : Option Declared) (s : FaceSet) : Type 0 where

@@ -1,6 +1,5 @@
 -- The gathered sets are all connection sets, in their order.
-use Rattle.std.proofs.Common.{◌≡◌, ◌≢◌, ℕ, zero, suc, ◌+◌, ◌-◌, ◌*◌, ◌/◌, ◌<◌, ◌≤◌, inl, inr, ◌⊎◌, Bool, true, false, List, [], ◌∷◌, ◌++◌, Option, Some, None, length, get_or, refl, sym, ap, ◌∙◌, subst, arith}
-use Rattle.std.proofs.lemmas.List.{get_or_default}
+use Rattle.std.proofs.Common.{◌≡◌, ◌≢◌, ℕ, ◌*◌, ◌/◌, ◌<◌, ◌≤◌, inl, inr, ◌⊎◌, Bool, true, false, List, [], ◌∷◌, Option, Some, None, length, get_or, refl, sym, ap, ◌∙◌, subst, arith}
 use Rattle.std.proofs.lemmas.Bool.Decides.{eqb_tells, leb_tells}
 use Rattle.std.specs.Prelude.{Contains}
 use Rattle.mo_syntax.specs.declared.place.Place.{Place}
@@ -11,12 +10,12 @@ use Rattle.mo_connect.specs.declared.joins.Join.{Join}
 use Rattle.mo_connect.specs.declared.declared.Declared.{Declared}
 use Rattle.mo_connect.specs.Joins.{Lists, Gains, IsAt, IsBefore, JoinsConnectAt}
 use Rattle.mo_connect.specs.Labels.{number_of, number_in, face_at, IsChained, AreBelow, AreFlowsBelow, AreLabels}
-use Rattle.mo_connect.specs.Gathering.{AreGathered, told_by_face, IsTold, IsKnown, IsListed, IsTable, labelled, set_with, set_from, sets_below}
+use Rattle.mo_connect.specs.Gathering.{AreGathered, IsTold, IsKnown, IsListed, IsTable, labelled, set_with, set_from, sets_below}
 use Rattle.mo_connect.specs.Sets.{seen, IsJoined, IsFlowLeaf, IsDeclared, IsLoneFlow, IsConnectionSet, IsInSome, AreConnectionSets}
 use Rattle.mo_connect.proofs.JoinLemmas.{is-at-same}
 use Rattle.mo_connect.proofs.LabelLemmas.{number-below}
 use Rattle.mo_connect.proofs.LabelledLemmas.{number-at, face-of-number, labelled-at, labelled-all, labelled-ordered, first-labelled}
-use Rattle.mo_connect.proofs.SetLemmas.{IsSetFrom, IsSetOf, AreSetsOf, pair-from, lone-from, below-at, below-all, below-ordered}
+use Rattle.mo_connect.proofs.SetLemmas.{IsSetOf, pair-from, lone-from, below-at, below-all, below-ordered}
 
 -- what the calls before have found
 pub record IsGathered (c : Connects) (joins : List Join) (bound : ℕ) (labels : List ℕ) (table : List (Option Declared)) : Type 0 where

@@ -1,5 +1,5 @@
 -- Writing what is told of variables.
-use Rattle.std.proofs.Common.{◌≡◌, ℕ, zero, suc, ◌+◌, ◌-◌, ◌<◌, ◌≤◌, inl, inr, Bool, true, List, [], ◌∷◌, ◌++◌, Option, Some, None, length, get_or, take, set, refl, sym, ap, ◌∙◌, subst, arith, length-append, get_or-set_other, get_or-set_same}
+use Rattle.std.proofs.Common.{◌≡◌, ℕ, zero, suc, ◌+◌, ◌-◌, ◌<◌, inl, inr, Bool, true, List, [], ◌∷◌, ◌++◌, Option, Some, None, length, get_or, take, set, refl, sym, ap, ◌∙◌, subst, arith, get_or-set_other, get_or-set_same}
 use Rattle.std.proofs.lemmas.List.{get_or_default, length-set}
 use Rattle.std.proofs.lemmas.Bool.Decides.{eqb_tells, leb_tells}
 use Rattle.std.proofs.Math.ListN.{get_or-append}
@@ -7,7 +7,6 @@ use Rattle.std.proofs.Math.Seq.{get_or-append_right, take-append_seam}
 use Rattle.mo_syntax.specs.declared.place.Place.{Place}
 use Rattle.mo_connect.specs.declared.joins.Join.{Join}
 use Rattle.mo_connect.specs.declared.declared.Declared.{Declared}
-use Rattle.mo_connect.specs.Joins.{IsAt}
 use Rattle.mo_connect.specs.Labels.{AreBelow, AreFlowsBelow}
 use Rattle.mo_connect.specs.Gathering.{told_by_face, told_by_flow, IsTold, IsKnown, IsListed, IsTable}
 use Rattle.mo_connect.proofs.AlikeLemmas.{one-more}

@@ -1,5 +1,5 @@
 -- Labels of faces: each face has a number, and joined faces have one label, the least of their numbers.
-use Rattle.std.specs.Prelude.{◌≡◌, ℕ, ◌+◌, ◌*◌, ◌/◌, ◌%◌, ◌==◌, ◌<◌, ◌≤◌, Bool, true, false, List, length, slice_index_or}
+use Rattle.std.specs.Prelude.{◌≡◌, ℕ, ◌+◌, ◌*◌, ◌/◌, ◌%◌, ◌==◌, ◌<◌, Bool, true, false, List, length, slice_index_or}
 use Rattle.std.proofs.Common.{get_or}
 use Rattle.mo_syntax.specs.declared.place.Place.{Place}
 use Rattle.mo_connect.specs.declared.joins.Face.{Face}

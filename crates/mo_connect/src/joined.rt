@@ -15,12 +15,11 @@ use mo_syntax::{List, NoMemory, Place, Stop};
 use std::alloc::Global;
 
 /// The connection sets of connects and flow leaves, in the order of their first members. A set is a class of two or more
-/// faces that chains of connects link, or the inside face of a listed flow leaf alone. The leaves of the right connectors
-/// have different names below them. Else the first rule that the connects break, 31, 37 or 38, or `NoMemory`.
+/// faces that chains of connects link, or the inside face of a listed flow leaf alone. That is told where
+/// the leaves of each right connector have different names below it. Else the first rule that the connects break, 31, 37 or 38, or `NoMemory`.
 pub fn sets(alloc: Global, c: &Connects) -> Result<List<FaceSet>, Stop>
-    requires distinct { All HasDistinctLeaves c.now.list }
     ensures connectable { IfOk result (λ _. All IsConnectable c.now.list) }
-    ensures sets { IfOk result (λ sets. AreConnectionSets c.now sets) }
+    ensures sets { IfOk result (λ sets. All HasDistinctLeaves c.now.list → AreConnectionSets c.now sets) }
     ensures broken { IfErr result (λ stop. IsFirstStop c.now.list stop) }
 {
     match check(c.list.as_slice()) {
@@ -33,9 +32,8 @@ pub fn sets(alloc: Global, c: &Connects) -> Result<List<FaceSet>, Stop>
 }
 
 fn joined_sets(alloc: Global, c: &Connects) -> Result<List<FaceSet>, NoMemory>
-    requires distinct { All HasDistinctLeaves c.now.list }
-    requires connectable { All IsConnectable c.now.list }
-    ensures { IfOk result (λ sets. AreConnectionSets c.now sets) }
+    requires { All IsConnectable c.now.list }
+    ensures { IfOk result (λ sets. All HasDistinctLeaves c.now.list → AreConnectionSets c.now sets) }
 {
     let mut made = List::new(alloc);
     push_connects(&mut made, c.list.as_slice())?;

@@ -56,9 +56,8 @@ fn push_leaf(
     rights: &[EndLeaf],
     guess: usize,
 ) -> Result<(), NoMemory>
-    requires partner { Any (Corresponds leaf.now) rights.now }
-    requires distinct { AreDistinct rights.now }
-    ensures { OnOk result (Gains made.old made.new (JoinsLeaf left_side leaf.now right_side rights.now)) }
+    requires { Any (Corresponds leaf.now) rights.now }
+    ensures { OnOk result (AreDistinct rights.now → Gains made.old made.new (JoinsLeaf left_side leaf.now right_side rights.now)) }
 {
     match partner(leaf, rights, guess) {
         None => Ok(()),
@@ -78,9 +77,8 @@ fn push_leaves(
     right_side: Side,
     rights: &[EndLeaf],
 ) -> Result<(), NoMemory>
-    requires partners { HavePartners lefts.now rights.now }
-    requires distinct { AreDistinct rights.now }
-    ensures { OnOk result (Gains made.old made.new (IsBefore (JoinsLeafAt left_side lefts.now right_side rights.now) (length lefts.now))) }
+    requires { HavePartners lefts.now rights.now }
+    ensures { OnOk result (AreDistinct rights.now → Gains made.old made.new (IsBefore (JoinsLeafAt left_side lefts.now right_side rights.now) (length lefts.now))) }
 {
     for (i, leaf) in lefts.iter().enumerate() {
         push_leaf(made, left_side, leaf, right_side, rights, i)?;
@@ -96,10 +94,9 @@ fn push_element(
     k: usize,
 ) -> Result<(), NoMemory>
     requires connectable { IsConnectable connect.now }
-    requires distinct { HasDistinctLeaves connect.now }
     requires within { k < length connect.now.left.elements }
     requires is { left.now ≡ slice_index_or connect.now.left.elements k left.now }
-    ensures { OnOk result (Gains made.old made.new (JoinsElementAt connect.now k)) }
+    ensures { OnOk result (HasDistinctLeaves connect.now → Gains made.old made.new (JoinsElementAt connect.now k)) }
 {
     let rights = connect.right.elements.as_slice();
     if k >= rights.len() {
@@ -116,9 +113,8 @@ fn push_element(
 }
 
 fn push_connect(made: &mut List<Join>, connect: &Connect) -> Result<(), NoMemory>
-    requires connectable { IsConnectable connect.now }
-    requires distinct { HasDistinctLeaves connect.now }
-    ensures { OnOk result (Gains made.old made.new (IsBefore (JoinsElementAt connect.now) (length connect.now.left.elements))) }
+    requires { IsConnectable connect.now }
+    ensures { OnOk result (HasDistinctLeaves connect.now → Gains made.old made.new (IsBefore (JoinsElementAt connect.now) (length connect.now.left.elements))) }
 {
     let lefts = connect.left.elements.as_slice();
     for (k, left) in lefts.iter().enumerate() {
@@ -129,9 +125,8 @@ fn push_connect(made: &mut List<Join>, connect: &Connect) -> Result<(), NoMemory
 
 /// The pairs of faces that the connects join. `NoMemory` is the only other answer.
 pub(crate) fn push_connects(made: &mut List<Join>, connects: &[Connect]) -> Result<(), NoMemory>
-    requires connectable { All IsConnectable connects.now }
-    requires distinct { All HasDistinctLeaves connects.now }
-    ensures { OnOk result (Gains made.old made.new (IsBefore (JoinsConnectAt connects.now) (length connects.now))) }
+    requires { All IsConnectable connects.now }
+    ensures { OnOk result (All HasDistinctLeaves connects.now → Gains made.old made.new (IsBefore (JoinsConnectAt connects.now) (length connects.now))) }
 {
     for connect in connects {
         push_connect(made, connect)?;

@@ -1,4 +1,4 @@
-use Rattle.std.proofs.Common.{◌≡◌, ℕ, None, length, get_or, refl, ap, ◌∙◌, arith, length-append}
+use Rattle.std.proofs.Common.{None, length, get_or, refl, ap, ◌∙◌, arith, length-append}
 use Rattle.mo_connect.proofs.TableLemmas.{none-more}
 use Rattle.mo_connect.proofs.declared.empty_table.Goals as goal
 

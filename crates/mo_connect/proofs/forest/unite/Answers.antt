@@ -1,5 +1,4 @@
 use Rattle.std.proofs.Common.{arith}
-use Rattle.mo_connect.specs.Forest.{Climbs}
 use Rattle.mo_connect.proofs.ForestLemmas.{shortens-twice, climbs-through, root-stays, unites-at, unites-swap}
 use Rattle.mo_connect.proofs.forest.unite.Goals as goal
 

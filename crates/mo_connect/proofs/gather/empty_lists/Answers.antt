@@ -1,4 +1,4 @@
-use Rattle.std.proofs.Common.{◌≡◌, ℕ, [], length, get_or, refl, ap, ◌∙◌, arith, length-append}
+use Rattle.std.proofs.Common.{[], length, get_or, refl, ap, ◌∙◌, arith, length-append}
 use Rattle.mo_connect.proofs.TableLemmas.{empty-more}
 use Rattle.mo_connect.proofs.gather.empty_lists.Goals as goal
 

@@ -1,4 +1,4 @@
-use Rattle.std.proofs.Common.{◌≡◌, ℕ, ◌<◌, ◌≤◌, ◌^◌, length, get_or}
+use Rattle.std.proofs.Common.{ℕ, ◌<◌, ◌≤◌, ◌^◌, get_or}
 use Rattle.mo_syntax.specs.declared.place.Place.{Place}
 use Rattle.mo_connect.proofs.labels.bound_of_flows.Given as goal
 

@@ -1,4 +1,4 @@
-use Rattle.std.proofs.Common.{◌≡◌, ℕ, ◌<◌, ◌≤◌, ◌^◌, length, get_or}
+use Rattle.std.proofs.Common.{ℕ, ◌<◌, ◌≤◌, ◌^◌, get_or}
 use Rattle.mo_connect.specs.declared.joins.Join.{Join}
 use Rattle.mo_connect.proofs.labels.bound_of_joins.Given as goal
 

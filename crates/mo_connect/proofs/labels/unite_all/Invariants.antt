@@ -1,4 +1,3 @@
-use Rattle.std.proofs.Common.{◌≡◌, ◌*◌, length}
 use Rattle.mo_connect.specs.Labels.{AreUnited}
 use Rattle.mo_connect.proofs.labels.unite_all.Given as goal
 
