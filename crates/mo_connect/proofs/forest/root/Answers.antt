@@ -1,0 +1,26 @@
+use Rattle.std.proofs.Common.{◌≤◌, ◌<◌, length, get_or, refl, arith}
+use Rattle.mo_connect.specs.Forest.{Climbs}
+use Rattle.mo_connect.proofs.ForestLemmas.{shortens-none, shortens-twice, shortens-at, climbs-through, same-higher}
+use Rattle.mo_connect.proofs.forest.root.Goals as goal
+
+pub climb-init : goal.climb-init
+climb-init c = record {
+  shortens = shortens-none _ c.requires.forest;
+  climbs = Climbs.here;
+  same = λ f constant. refl;
+  known = omega arith;
+}
+
+pub climb-preserved : goal.climb-preserved
+climb-preserved c =
+    let before = c.climb.invariant in
+    let within : c.climb.at < length c.climb.parent = omega (arith, c.requires.known) in
+    let up : get_or c.climb.parent c.climb.at 0 ≤ c.climb.at = before.shortens.forest c.climb.at within in
+    let known : get_or c.climb.parent c.climb.at 0 < length c.climb.parent = omega arith in
+    let next : get_or c.climb.parent (get_or c.climb.parent c.climb.at 0) 0 ≤ get_or c.climb.parent c.climb.at 0 = before.shortens.forest _ known in
+    record {
+      shortens = shortens-twice _ _ _ before.shortens (shortens-at _ _ before.shortens.forest within);
+      climbs = Climbs.chain before.climbs (climbs-through _ _ before.shortens.size before.shortens.climbs (Climbs.chain (Climbs.up within) (Climbs.up known)));
+      same = same-higher _ _ _ before.shortens.forest within before.same;
+      known = omega arith;
+    }

@@ -1,0 +1,13 @@
+use Rattle.std.proofs.Common.{[], length, get_or, refl, ap, ◌∙◌, arith, length-append}
+use Rattle.mo_connect.proofs.TableLemmas.{empty-more}
+use Rattle.mo_connect.proofs.gather.empty_lists.Goals as goal
+
+pub loop-i-init : goal.loop-i-init
+loop-i-init c = rw c.new-made.ensures.items (refl, λ r. refl)
+
+pub loop-i-preserved : goal.loop-i-preserved
+loop-i-preserved c =
+    let items = c.in_ok-push.ensures.items in
+    let empty = c.new.ensures in
+    let size = c.loop-i.invariant.0 in
+    (ap length items ∙ length-append c.loop-i.made.items _ ∙ omega arith, λ r. ap (λ l. get_or l r []) items ∙ rw empty (empty-more _ c.loop-i.invariant.1 r))

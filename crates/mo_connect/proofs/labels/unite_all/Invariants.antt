@@ -1,0 +1,5 @@
+use Rattle.mo_connect.specs.Labels.{AreUnited}
+use Rattle.mo_connect.proofs.labels.unite_all.Given as goal
+
+abbrev pub invariant-loop-join : goal.invariant-loop-join
+invariant-loop-join l = AreUnited l.joins l.join-index l.parent
