@@ -7,15 +7,20 @@ use std::test::Fail;
 const PLACE: Place = Place { file: 1, byte: 7 };
 
 /// A pin of the class itself and the pins of two parts. Even numbers are flows.
-const NAMES: [&str; 6] = ["p.v", "p.i", "q[1].a.v", "q[1].a.i", "q[2].a.v", "q[2].a.i"];
+const PARTS: [&str; 6] = ["p.v", "p.i", "q[1].a.v", "q[1].a.i", "q[2].a.v", "q[2].a.i"];
+
+/// The pins of a source, a resistor and a ground.
+const CIRCUIT: [&str; 10] = [
+    "s.p.v", "s.p.i", "s.n.v", "s.n.i", "r.p.v", "r.p.i", "r.n.v", "r.n.i", "g.p.v", "g.p.i",
+];
 
 fn place(byte: u32) -> Place {
     Place { file: 1, byte }
 }
 
-fn variables(alloc: Global) -> Result<List<FlatVar>, NoMemory> {
+fn variables(alloc: Global, names: &[&str]) -> Result<List<FlatVar>, NoMemory> {
     let mut vars = List::new(alloc);
-    for name in NAMES {
+    for name in names {
         vars.push(FlatVar {
             name: Text::from_str(alloc, name)?,
             kind: Kind::Real,
@@ -78,21 +83,52 @@ fn connects(alloc: Global) -> Result<Connects, NoMemory> {
     Ok(Connects { list, flows })
 }
 
-#[test]
-fn sets_and_equations_of_two_parts(rt: HostRuntime) -> Result<(), Fail> {
-    let alloc = rt.alloc();
-    let given = connects(alloc)?;
-    let found = sets(alloc, &given).ok().ok_or("sets")?;
+fn circuit(alloc: Global) -> Result<Connects, NoMemory> {
+    let mut list = List::new(alloc);
+    for (at, left, right) in [(10, 1, 5), (20, 7, 3), (30, 9, 3)] {
+        let left = pin(alloc, Side::Inside, left, "i")?;
+        list.push(connect(at, left, pin(alloc, Side::Inside, right, "i")?))?;
+    }
+    let mut flows = List::new(alloc);
+    for variable in [2, 4, 6, 8, 10] {
+        flows.push((variable, place(60)))?;
+    }
+    Ok(Connects { list, flows })
+}
+
+/// The text of a model of these variables with the equations of the sets.
+fn text_of(alloc: Global, names: &[&str], given: &Connects) -> Result<Text, Stop> {
+    let found = sets(alloc, given)?;
     let model = FlatModel {
         name: Text::from_str(alloc, "M")?,
         place: PLACE,
-        vars: variables(alloc)?,
+        vars: variables(alloc, names)?,
         first: List::new(alloc),
         first_asserts: List::new(alloc),
         equations: set_equations(alloc, found.as_slice())?,
         asserts: List::new(alloc),
     };
-    let text = flat_text(alloc, &model)?;
+    Ok(flat_text(alloc, &model)?)
+}
+
+#[test]
+fn sets_and_equations_of_the_circuit(rt: HostRuntime) -> Result<(), Fail> {
+    let alloc = rt.alloc();
+    let text = text_of(alloc, &CIRCUIT, &circuit(alloc)?)
+        .ok()
+        .ok_or("sets")?;
+    let wanted =
+        "equation\n  s.p.v = r.p.v;\n  s.p.i + r.p.i = 0;\n  s.n.v = r.n.v;\n  s.n.v = g.p.v;\n  s.n.i + r.n.i + g.p.i = 0;\nend M;\n";
+    assert!(rt; text.as_str().ends_with(wanted));
+    Ok(())
+}
+
+#[test]
+fn sets_and_equations_of_two_parts(rt: HostRuntime) -> Result<(), Fail> {
+    let alloc = rt.alloc();
+    let text = text_of(alloc, &PARTS, &connects(alloc)?)
+        .ok()
+        .ok_or("sets")?;
     let wanted =
         "equation\n  p.v = q[1].a.v;\n  p.i = 0;\n  -p.i + q[1].a.i = 0;\n  q[2].a.i = 0;\nend M;\n";
     assert!(rt; text.as_str().ends_with(wanted));
