@@ -1,2 +1,4 @@
 pub mod Marking
 pub mod Rows
+pub mod Leastness
+pub mod Following

@@ -1,2 +1,3 @@
 pub mod Deficiency
 pub mod Offsets
+pub mod Reasons

@@ -36,7 +36,7 @@ fn row_fits(inc: &Incidence, row: u32, offset: u32, d: &[u32]) -> bool
 }
 
 /// Whether some entry of a row at an unknown makes up the difference of the offsets.
-fn row_is_tight(inc: &Incidence, row: u32, offset: u32, d: &[u32], unknown: u32) -> bool
+pub(crate) fn row_is_tight(inc: &Incidence, row: u32, offset: u32, d: &[u32], unknown: u32) -> bool
     requires row { (0 < row) × (row ≤ equations inc.now) }
     requires sizes { length d.now ≡ inc.now.unknowns }
     ensures yes { result ≡ true → (k : ℕ) × (k < row_len inc.now (row - 1)) × (unknown_at inc.now (row - 1) k ≡ unknown) × (slice_index d.now (unknown_at inc.now (row - 1) k - 1) ≡ offset + order_at inc.now (row - 1) k) }

@@ -2,14 +2,17 @@
 //!
 //! - [`deficit_holds`]: the listed equations mention fewer unknowns than they are, so no assignment covers all equations.
 //! - [`offsets_hold`]: the listed offsets and pairs are admissible.
+//! - [`least_holds`]: the listed reasons show them to be the least.
 #![tactic(auto)]
 
 mod admissible;
 mod deficiency;
+mod least;
 mod marks;
 
 pub use admissible::offsets_hold;
 pub use deficiency::deficit_holds;
+pub use least::least_holds;
 
 #[cfg(test)]
 mod tests;
