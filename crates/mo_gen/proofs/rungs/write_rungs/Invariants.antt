@@ -1,0 +1,6 @@
+use Rattle.std.proofs.Common.{◌≡◌, ◌++◌, string_bytes}
+use Rattle.mo_gen.specs.Ladder.{lines_to, rung_line}
+use Rattle.mo_gen.proofs.rungs.write_rungs.Given as goal
+
+abbrev pub invariant-loop-k : goal.invariant-loop-k
+invariant-loop-k l = string_bytes l.out ≡ string_bytes l.initial.out ++ lines_to rung_line l.k
