@@ -1,0 +1,6 @@
+use Rattle.std.proofs.Common.{◌≡◌, ◌++◌, string_bytes, take, flat_map, List, [], ◌∷◌, codes}
+use Rattle.mo_report.specs.Lines.{numbered, lines_below, in_line, name_line, equation_line, unknown_line, reason_line, block_line, dummy_line, state_line}
+use Rattle.mo_report.proofs.square.write_blocks.Given as goal
+
+abbrev pub invariant-loop-block : goal.invariant-loop-block
+invariant-loop-block l = string_bytes l.out ≡ string_bytes l.initial.out ++ flat_map (λ block. block_line block.items) (take l.block-index l.blocks)

@@ -1,0 +1,6 @@
+use Rattle.std.proofs.Common.{◌≡◌, ◌++◌, string_bytes, take, flat_map, List, [], ◌∷◌, codes}
+use Rattle.mo_report.specs.Lines.{numbered, lines_below, in_line, name_line, equation_line, unknown_line, reason_line, block_line, dummy_line, state_line}
+use Rattle.mo_report.proofs.square.write_states.Given as goal
+
+abbrev pub invariant-loop-state : goal.invariant-loop-state
+invariant-loop-state l = string_bytes l.out ≡ string_bytes l.initial.out ++ flat_map (state_line l.names) (take l.state-index l.states)
