@@ -11,3 +11,6 @@ mod square;
 
 pub use lines::report_text;
 pub use report::Report;
+
+#[cfg(test)]
+mod tests;

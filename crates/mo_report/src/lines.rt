@@ -74,7 +74,11 @@ fn write_equation(
 {
     push_numbered(out, "equation ", at + 1)?;
     push_numbered(out, " c ", number_at(&offsets.c, at))?;
-    push_named(out, " pairs ", name_of(names, number_at(&offsets.pairs, at)))?;
+    push_named(
+        out,
+        " pairs ",
+        name_of(names, number_at(&offsets.pairs, at)),
+    )?;
     push_numbered(out, " order ", number_at(orders, at))?;
     out.push_str("\n")?;
     Ok(())
