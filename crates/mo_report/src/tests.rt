@@ -1,6 +1,7 @@
-use crate::{Report, report_text};
+use crate::{Report, report_fits, report_text};
+use mo_flat::{FlatModel, FlatVar};
 use mo_incidence::{Blocks, Deficit, Dummies, Offsets, Reason};
-use mo_syntax::{List, Text};
+use mo_syntax::{Kind, List, Place, Role, Text};
 use std::alloc::Global;
 use std::test::Fail;
 
@@ -144,5 +145,56 @@ fn the_report_of_an_empty_model(rt: HostRuntime) -> Result<(), Fail> {
     r.offsets = Some(offsets(alloc, &[], &[], &[])?);
     let wanted = "report E\nequations 0 unknowns 0\nindex 0\nfreedom 0\n";
     assert_eq!(rt; report_text(alloc, &r)?.as_str(), wanted);
+    Ok(())
+}
+
+fn variable(alloc: Global, name: &str, role: Role) -> Result<FlatVar, Fail> {
+    Ok(FlatVar {
+        name: Text::from_str(alloc, name)?,
+        kind: Kind::Real,
+        kind_text: Text::from_str(alloc, "Real")?,
+        role,
+        attributes: List::new(alloc),
+        binding: None,
+        place: Place { file: 1, byte: 0 },
+    })
+}
+
+// Whether the report fits where a parameter and these unknowns have these highest orders.
+fn fits(alloc: Global, names: &[&str], d: &[u32]) -> Result<bool, Fail> {
+    let mut vars = List::new(alloc);
+    vars.push(variable(alloc, "parameter", Role::Parameter)?)?;
+    for name in names {
+        vars.push(variable(alloc, name, Role::Unknown)?)?;
+    }
+    let m = FlatModel {
+        name: Text::from_str(alloc, "M")?,
+        place: Place { file: 1, byte: 0 },
+        vars,
+        first: List::new(alloc),
+        first_asserts: List::new(alloc),
+        equations: List::new(alloc),
+        asserts: List::new(alloc),
+    };
+    Ok(report_fits(&m, &offsets(alloc, &[], d, &[])?))
+}
+
+#[test]
+fn sizes_of_reports(rt: HostRuntime) -> Result<(), Fail> {
+    let alloc = rt.alloc();
+    let cases: [(&[&str], &[u32], bool); 7] = [
+        (&[], &[], true),
+        (&["x"], &[0], true),
+        // 3663*(5*3663 + 5) is 67,106,160, and one byte more of a name is too much
+        (&["x[10]"], &[3663], true),
+        (&["x[100]"], &[3663], false),
+        // the sum counts: 2704 are left, which is 23*(5*23 + 2) and 13 bytes more
+        (&["x[10]", "yy"], &[3663, 23], true),
+        (&["x[10]", "yy"], &[3663, 24], false),
+        (&["x"], &[4_294_967_295], false),
+    ];
+    for (names, d, answer) in cases {
+        assert_eq!(rt; fits(alloc, names, d)?, answer);
+    }
     Ok(())
 }
