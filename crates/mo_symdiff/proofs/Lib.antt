@@ -1,1 +1,4 @@
+pub mod Carrying
+pub mod Derived
 pub mod Tests
+pub mod Trees

@@ -17,10 +17,10 @@ tested : (node_test : FlatExpr-F Bool → Bool) (test : FlatExpr → Bool) → (
     (e : FlatExpr) (node : FlatExpr-F FlatExpr) → out-FlatExpr e ≡ node → test e ≡ node_test (map-FlatExpr FlatExpr Bool test node)
 tested node_test test folds e node h = folds e ∙ ap (λ n. node_test (map-FlatExpr FlatExpr Bool test n)) h
 
-still_at : (vars : List FlatVar) (e : FlatExpr) (node : FlatExpr-F FlatExpr) → out-FlatExpr e ≡ node → is_still vars e ≡ still_node vars (map-FlatExpr FlatExpr Bool (is_still vars) node)
+pub still_at : (vars : List FlatVar) (e : FlatExpr) (node : FlatExpr-F FlatExpr) → out-FlatExpr e ≡ node → is_still vars e ≡ still_node vars (map-FlatExpr FlatExpr Bool (is_still vars) node)
 still_at vars = tested (still_node vars) (is_still vars) (fold_out-FlatExpr Bool (still_node vars))
 
-given_at : (vars : List FlatVar) (e : FlatExpr) (node : FlatExpr-F FlatExpr) → out-FlatExpr e ≡ node → has_given vars e ≡ given_node vars (map-FlatExpr FlatExpr Bool (has_given vars) node)
+pub given_at : (vars : List FlatVar) (e : FlatExpr) (node : FlatExpr-F FlatExpr) → out-FlatExpr e ≡ node → has_given vars e ≡ given_node vars (map-FlatExpr FlatExpr Bool (has_given vars) node)
 given_at vars = tested (given_node vars) (has_given vars) (fold_out-FlatExpr Bool (given_node vars))
 
 pub still_Sum : (vars : List FlatVar) (ts : List (Bool × FlatExpr)) → is_still vars (Sum ts) ≡ list_all (λ t. is_still vars t.1) ts

@@ -172,3 +172,7 @@ derive_node vars node =
 -- the derivative of an expression in which no derivative is left to carry out
 abbrev pub derived : List FlatVar → FlatExpr → FlatExpr
 derived vars = para-FlatExpr FlatExpr (derive_node vars)
+
+-- terms or factors with their derivatives
+abbrev pub with_slopes : List FlatVar → List (Bool × FlatExpr) → List (Bool × Part)
+with_slopes vars = map (λ part. (part.0, (part.1, derived vars part.1)))

@@ -7,6 +7,17 @@
 //! highest order of an unknown in it).
 #![tactic(auto)]
 
+mod build;
+mod carries;
+mod carry;
+mod derive;
+mod differentiate;
+mod room;
+mod rows;
 mod still;
 
+pub use differentiate::{derivative, expand_der};
 pub use still::{holds_given, is_still};
+
+#[cfg(test)]
+mod row_tests;

@@ -8,7 +8,7 @@ use mo_flat::{FlatExpr, FlatVar, role_of};
 use mo_syntax::Role;
 
 /// Whether a variable is an unknown or a given one.
-fn moves(vars: &[FlatVar], variable: u32) -> bool
+pub(crate) fn moves(vars: &[FlatVar], variable: u32) -> bool
     ensures { result ≡ (is_unknown vars.now variable || is_given vars.now variable) }
 {
     match role_of(vars, variable) {
