@@ -1,1 +1,10 @@
+pub mod SigmaAt
+pub mod SigmaCarried
+pub mod SigmaDerived
+pub mod SigmaGather
+pub mod SigmaGiven
+pub mod SigmaLaws
+pub mod SigmaOrders
+pub mod SigmaRaise
+pub mod SigmaRows
 pub mod Tests

@@ -1,4 +1,5 @@
 pub mod Carried
 pub mod Derivative
+pub mod Orders
 pub mod Sigma
 pub mod Still
