@@ -89,15 +89,16 @@ raise_is_add v = gathered_related (λ a b. b ≤ top → a ≡ b) (order_var v) 
 abbrev Fit : FlatExpr → Type 0
 Fit e = IsTrue (orders_fit 4294967295 e)
 
-sigma_gathered : (vars : List FlatVar) (e : FlatExpr) (v : ℕ) → is_unknown vars v ≡ true → Fit e → rank (sigma vars e v) ≡ gathered (order_var v) raise e
-sigma_gathered vars e v u h =
-    let fits = gathered_fits v 4294967295 e h in let below = low_below v e in
-    highest_gathered v (carried vars e) ∙ carried_low (order_raise vars v u) e (omega arith)
+sigma_gathered : (vars : List FlatVar) (e : FlatExpr) (v : ℕ) → is_unknown vars v ≡ true → gathered (order_var v) add e ≤ 4294967295 → rank (sigma vars e v) ≡ gathered (order_var v) raise e
+sigma_gathered vars e v u fits = let below = low_below v e in highest_gathered v (carried vars e) ∙ carried_low (order_raise vars v u) e (omega arith)
+
+-- where the order of this unknown fits
+pub sigma_raised_by : (vars : List FlatVar) (e : FlatExpr) (v : ℕ) → is_unknown vars v ≡ true → gathered (order_var v) add e ≤ 4294967295 → sigma vars e v ≡ raised_order v e
+sigma_raised_by vars e v u fits =
+    rank-injective (sigma vars e v) (raised_order v e) (sigma_gathered vars e v u fits ∙ raise_is_add v e (omega arith) ∙ sym (raised_gathered v e))
 
 pub sigma_raised : (vars : List FlatVar) (e : FlatExpr) (v : ℕ) → is_unknown vars v ≡ true → Fit e → sigma vars e v ≡ raised_order v e
-sigma_raised vars e v u h =
-    let fits = gathered_fits v 4294967295 e h in
-    rank-injective (sigma vars e v) (raised_order v e) (sigma_gathered vars e v u h ∙ raise_is_add v e (omega arith) ∙ sym (raised_gathered v e))
+sigma_raised vars e v u h = sigma_raised_by vars e v u (gathered_fits v 4294967295 e h)
 
 one_more : (o : Option ℕ) (n : ℕ) → rank o ≡ n → n ≤ 4294967295 → rank (option_map (λ order. order + 1) o) ≡ raise n
 one_more None n h l = omega arith
@@ -117,4 +118,4 @@ sigma_derived vars e v u h =
     ∙ carried_low r (derived vars (carried vars e)) slope_here
     ∙ derived_gathers (counted r) (carried vars e) carried_here
     ∙ ap raise (carried_gathers (counted r) e here)
-    ∙ sym (one_more (sigma vars e v) (gathered (order_var v) raise e) (sigma_gathered vars e v u h) (omega arith)))
+    ∙ sym (one_more (sigma vars e v) (gathered (order_var v) raise e) (sigma_gathered vars e v u fits) (omega arith)))

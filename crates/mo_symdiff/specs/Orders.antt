@@ -32,6 +32,9 @@ apart_node vars (FlatExpr-F.If branches other) around =
     list_all (λ branch. branch.0 false && branch.1 around) branches && other around
 apart_node vars _ around = true
 
+abbrev pub apart_in : List FlatVar → FlatExpr → Bool → Bool
+apart_in vars = fold-FlatExpr (Bool → Bool) (apart_node vars)
+
 -- no given variable stands under a derivative, the conditions between them left aside
 abbrev pub is_apart : List FlatVar → FlatExpr → Bool
-is_apart vars e = fold-FlatExpr (Bool → Bool) (apart_node vars) e false
+is_apart vars e = apart_in vars e false
