@@ -1,3 +1,7 @@
+pub mod DualAt
+pub mod DualLaw
+pub mod DualRing
+pub mod DualRows
 pub mod SigmaAt
 pub mod SigmaCarried
 pub mod SigmaDerived

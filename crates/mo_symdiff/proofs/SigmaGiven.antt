@@ -137,6 +137,10 @@ parts : {T X Y Z : Type 0} (a : Bool) (f : X → Bool) (p : T → X) (c : Y → 
 parts a f p c q g r each [] = none a
 parts a f p c q g r each (t ∷ ts) = both _ _ _ _ a (g (r t)) (list_any g (map r ts)) (each t) (parts a f p c q g r each ts)
 
+-- a derivative may be carried out where no given variable stands in what is differentiated
+carries_under : (vars : List FlatVar) (a : FlatExpr) (c : Bool) → carries_node vars (FlatExpr-F.Der (a, c)) ≡ (c && not (has_given vars a))
+carries_under vars a c = let same = carried_given vars a in cc
+
 apart_row : (vars : List FlatVar) (y : FlatExpr-F (Told vars)) (around : Bool) →
     apart_node vars (map-FlatExpr (Told vars) (Bool → Bool) (apart_of vars) y) around
     ≡ (carries_node vars (map-FlatExpr (Told vars) (FlatExpr × Bool) (λ t. (t.0, carries vars t.0)) y) && not (around && given_node vars (map-FlatExpr (Told vars) Bool (λ t. has_given vars t.0) y)))
@@ -147,8 +151,8 @@ apart_row vars (FlatExpr-F.Truth b) around = none around
 apart_row vars (FlatExpr-F.Literal t) around = none around
 apart_row vars FlatExpr-F.Time around = none around
 apart_row vars (FlatExpr-F.Var w k) around = var around (is_given vars w)
-apart_row vars (FlatExpr-F.Der a) around = a.1 true ∙ der (carries vars a.0) (has_given vars a.0) around
-    ∙ ap (λ b. (carries vars a.0 && not b) && not (around && has_given vars a.0)) (sym (carried_given vars a.0))
+apart_row vars (FlatExpr-F.Der a) around =
+    a.1 true ∙ der (carries vars a.0) (has_given vars a.0) around ∙ ap (λ b. b && not (around && has_given vars a.0)) (sym (carries_under vars a.0 (carries vars a.0)))
 apart_row vars (FlatExpr-F.Sum ts) around = parts around (λ (t : Bool × (Bool → Bool)). t.1 around) (λ t. (t.0, apart_of vars t.1)) (λ (t : Bool × (FlatExpr × Bool)). t.1.1) (λ t. (t.0, (t.1.0, carries vars t.1.0))) (λ (t : Bool × Bool). t.1) (λ t. (t.0, has_given vars t.1.0)) (λ t. t.1.1 around) ts
 apart_row vars (FlatExpr-F.Product ts) around = parts around (λ (t : Bool × (Bool → Bool)). t.1 around) (λ t. (t.0, apart_of vars t.1)) (λ (t : Bool × (FlatExpr × Bool)). t.1.1) (λ t. (t.0, (t.1.0, carries vars t.1.0))) (λ (t : Bool × Bool). t.1) (λ t. (t.0, has_given vars t.1.0)) (λ t. t.1.1 around) ts
 apart_row vars (FlatExpr-F.Power a b) around = both _ _ (carries vars a.0) (carries vars b.0) around (has_given vars a.0) (has_given vars b.0) (a.1 around) (b.1 around)

@@ -1,5 +1,6 @@
 pub mod Carried
 pub mod Derivative
+pub mod Dual
 pub mod Orders
 pub mod Sigma
 pub mod Still

@@ -1,4 +1,4 @@
-//! The laws of orders and of given variables. Each function does nothing: its contract is the law.
+//! The laws of derivatives: their values, orders and given variables. Each function does nothing: its contract is the law.
 ghost use Rattle.std.specs.Prelude.{◌≡◌, ℕ, ◌+◌, List as Seq, IsTrue};
 ghost use Rattle.std.specs.Option.{option_map};
 ghost use Rattle.mo_flat.specs.declared.expr.FlatExpr.{FlatExpr as Tree};
@@ -7,9 +7,10 @@ ghost use Rattle.mo_flat.specs.Roles.{is_unknown};
 ghost use Rattle.mo_flat.specs.Sound.{orders_fit};
 ghost use Rattle.mo_symdiff.specs.Carried.{carried, carries};
 ghost use Rattle.mo_symdiff.specs.Derivative.{derived};
+ghost use Rattle.mo_symdiff.specs.Dual.{Interpretation, dual_in, value_in};
 ghost use Rattle.mo_symdiff.specs.Orders.{is_apart, raised_order};
 ghost use Rattle.mo_symdiff.specs.Sigma.{sigma};
-ghost use Rattle.mo_symdiff.specs.Still.{has_given};
+ghost use Rattle.mo_symdiff.specs.Still.{has_given, is_still};
 
 /// An unknown stands in the derivative of an expression exactly where it stands in the expression, at an order one higher,
 /// whatever the expression's kind, as long as its orders fit, as those of a sound one do.
@@ -34,4 +35,14 @@ pub fn given_variables_stay()
 /// aside.
 pub fn carried_out_without_given()
     ensures { (vars : Seq Variable) (e : Tree) → carries vars e ≡ is_apart vars e }
+{}
+
+/// Whatever whole numbers an interpretation gives to the time, to each order of each variable, to literals, and to applications
+/// of functions, powers and reciprocals: the value of the derivative of an expression, in which no derivative is left to carry
+/// out, is the first-order part of its dual number. That has the value of the expression, and is constant exactly where the
+/// expression is still.
+pub fn derivative_is_first_order_part()
+    ensures part { (I : Interpretation) (vars : Seq Variable) (e : Tree) → value_in I (derived vars e) ≡ (dual_in I vars e).part }
+    ensures value { (I : Interpretation) (vars : Seq Variable) (e : Tree) → (dual_in I vars e).value ≡ value_in I e }
+    ensures constant { (I : Interpretation) (vars : Seq Variable) (e : Tree) → (dual_in I vars e).still ≡ is_still vars e }
 {}
