@@ -1,3 +1,9 @@
 pub mod Counting
 pub mod Rows
 pub mod Building
+pub mod Found
+pub mod Nodes
+pub mod Refusals
+pub mod RowLaw
+pub mod Sorting
+pub mod Unknowns

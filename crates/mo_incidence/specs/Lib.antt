@@ -4,3 +4,5 @@ pub mod Flat
 pub mod Assignment
 pub mod Offsets
 pub mod Given
+pub mod Gathered
+pub mod Model

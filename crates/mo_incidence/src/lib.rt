@@ -1,5 +1,6 @@
 //! The incidence of a flat model: which unknowns stand in which equations, and at which highest order.
 //!
+//! - [`incidence`] is the incidence of a flat model.
 //! - [`Incidence`] holds the entries row by row; [`Incidence::from_rows`] makes one from given rows.
 //! - [`Counted`] is a view of an incidence that only a counter can read, one step for each entry.
 //! - [`Offsets`], [`Deficit`], [`Reason`], [`Blocks`] and [`Dummies`] are what the analyses above find.
@@ -8,13 +9,17 @@
 #![tactic(auto)]
 
 mod builder;
+mod carrying;
 mod counter;
 mod findings;
+mod gather;
+mod model;
 mod table;
 
 pub use builder::RowsError;
 pub use counter::Counted;
 pub use findings::{Blocks, Deficit, Dummies, Offsets, Reason};
+pub use model::incidence;
 pub use table::Incidence;
 
 #[cfg(test)]

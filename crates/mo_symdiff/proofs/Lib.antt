@@ -1,4 +1,17 @@
 pub mod Carrying
 pub mod Derived
+pub mod DualAt
+pub mod DualLaw
+pub mod DualRing
+pub mod DualRows
+pub mod SigmaAt
+pub mod SigmaCarried
+pub mod SigmaDerived
+pub mod SigmaGather
+pub mod SigmaGiven
+pub mod SigmaLaws
+pub mod SigmaOrders
+pub mod SigmaRaise
+pub mod SigmaRows
 pub mod Tests
 pub mod Trees

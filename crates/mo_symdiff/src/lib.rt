@@ -4,7 +4,9 @@
 //!
 //! The definitions of derivatives stand in specs/: `Derivative` (the derivative of an expression, node for node),
 //! `Carried` (an expression with its derivatives carried out, and whether that meets a given variable) and `Sigma` (the
-//! highest order of an unknown in it).
+//! highest order of an unknown in it). The laws above them are contracts of functions that do nothing:
+//! [`derivative_is_first_order_part`] (by `Dual`, the table of dual numbers), [`derivative_raises_orders`],
+//! [`orders_without_carrying_out`], [`given_variables_stay`] and [`carried_out_without_given`].
 #![tactic(auto)]
 
 mod build;
@@ -12,11 +14,16 @@ mod carries;
 mod carry;
 mod derive;
 mod differentiate;
+mod laws;
 mod room;
 mod rows;
 mod still;
 
 pub use differentiate::{derivative, expand_der};
+pub use laws::{
+    carried_out_without_given, derivative_is_first_order_part, derivative_raises_orders,
+    given_variables_stay, orders_without_carrying_out,
+};
 pub use still::{holds_given, is_still};
 
 #[cfg(test)]
