@@ -1,10 +1,12 @@
 //! Symbolic derivatives of flat expressions.
 //!
+//! - [`derivative`]: the derivative with respect to time, by the rules of calculus node for node.
+//! - [`expand_der`]: an expression with the derivatives in it carried out.
 //! - [`is_still`] and [`holds_given`]: what an expression depends on, conditions of if-expressions left aside.
 //!
-//! The definitions of derivatives stand in specs/: `Derivative` (the derivative of an expression, node for node),
-//! `Carried` (an expression with its derivatives carried out, and whether that meets a given variable) and `Sigma` (the
-//! highest order of an unknown in it). The laws above them are contracts of functions that do nothing:
+//! Their definitions stand in specs/: `Derivative` (the derivative of an expression), `Carried` (an expression with its
+//! derivatives carried out, and whether that meets a given variable), `Still` (what it depends on) and `Sigma` (the highest
+//! order of an unknown in it). The laws above them are contracts of functions that do nothing:
 //! [`derivative_is_first_order_part`] (by `Dual`, the table of dual numbers), [`derivative_raises_orders`],
 //! [`orders_without_carrying_out`], [`given_variables_stay`] and [`carried_out_without_given`].
 #![tactic(auto)]
