@@ -1,0 +1,19 @@
+//! The irreducible blocks of a square system, in an order in which they can be solved.
+//!
+//! [`blocks`] lists the classes of equations that need each other through chains, in order of dependence.
+//!
+//! The needs of equations are the edges of a graph. A search by depth gives the order in which vertices finish; classes are gathered
+//! backwards from the vertices that finished last; the classes, each by its least vertex, are then placed one after another. All
+//! searches keep their paths in lists and recurse nowhere.
+#![tactic(auto)]
+
+mod finish;
+mod gather;
+mod leaders;
+mod list;
+mod needs;
+mod order;
+mod place;
+mod threads;
+
+pub use order::blocks;
