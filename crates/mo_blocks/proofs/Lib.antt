@@ -8,3 +8,4 @@ pub mod Waking
 pub mod Members
 pub mod Lists
 pub mod Arranging
+pub mod Dummying

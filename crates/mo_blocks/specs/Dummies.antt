@@ -46,3 +46,18 @@ states_to dummies d (suc n) = states_to dummies d n ++ states_below dummies (suc
 -- the states of n unknowns
 abbrev pub states_of : (c d t : ℕ → ℕ) → ℕ → ℕ → List (ℕ × ℕ)
 states_of c d t m n = states_to (dummies_of c d t m) d n
+
+-- the first k derivatives of unknown j
+abbrev pub derivatives_below : ℕ → ℕ → List (ℕ × ℕ)
+derivatives_below j zero = []
+derivatives_below j (suc k) = derivatives_below j k ++ (j, k) ∷ []
+
+-- the first derivatives of the first n unknowns, as many as `count` says of each
+abbrev pub derivatives_to : (ℕ → ℕ) → ℕ → List (ℕ × ℕ)
+derivatives_to count zero = []
+derivatives_to count (suc n) = derivatives_to count n ++ derivatives_below (suc n) (count n)
+
+-- of the places in the list, those of equations that are differentiated at least s times
+abbrev pub kept : (ℕ → ℕ) → ℕ → List ℕ → List ℕ
+kept c s [] = []
+kept c s (i ∷ is) = if nat_lt (c i) s then kept c s is else i ∷ kept c s is
