@@ -9,3 +9,5 @@ pub mod Members
 pub mod Lists
 pub mod Arranging
 pub mod Dummying
+pub mod Unique
+pub mod Staging

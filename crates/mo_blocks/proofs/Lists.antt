@@ -13,7 +13,7 @@ numbers-set [] b v = refl
 numbers-set (x ∷ xs) zero v = refl
 numbers-set (x ∷ xs) (suc b) v = ap (λ (ys : List (List ℕ)). x.items ∷ ys) (numbers-set xs b v)
 
-length-numbers : (xs : List (Vec ℕ Global)) → length (numbers_in xs) ≡ length xs
+pub length-numbers : (xs : List (Vec ℕ Global)) → length (numbers_in xs) ≡ length xs
 length-numbers [] = refl
 length-numbers (x ∷ xs) = ap suc (length-numbers xs)
 

@@ -2,8 +2,9 @@
 -- equations using dummy derivatives, SIAM J. Sci. Comput. 14, 1993). c and t go by the places of equations, d by the numbers of
 -- unknowns; t gives each equation its unknown. At stage s the equations are the derivatives of order c - s + 1 of those that are
 -- differentiated at least s times, and each makes the highest derivative of its unknown a dummy.
-use Rattle.std.specs.Prelude.{ℕ, ◌+◌, ◌-◌, Bool, false, ◌&&◌, ◌||◌, ◌==◌, if◌then◌else◌, List, [], ◌∷◌, ◌++◌, map, nat_lt}
+use Rattle.std.specs.Prelude.{◌≡◌, ℕ, ◌+◌, ◌-◌, ◌<◌, ◌≤◌, Contains, Bool, false, ◌&&◌, ◌||◌, ◌==◌, if◌then◌else◌, List, [], ◌∷◌, ◌++◌, map, nat_lt}
 use Rattle.std.proofs.Common.{zero, suc}
+use Rattle.mo_incidence.specs.Signature.{Signature, row_len, unknown_at, order_at}
 
 -- the equations before place n that are differentiated at least s times
 abbrev pub differentiated : (ℕ → ℕ) → ℕ → ℕ → List ℕ
@@ -61,3 +62,18 @@ derivatives_to count (suc n) = derivatives_to count n ++ derivatives_below (suc 
 abbrev pub kept : (ℕ → ℕ) → ℕ → List ℕ → List ℕ
 kept c s [] = []
 kept c s (i ∷ is) = if nat_lt (c i) s then kept c s is else i ∷ kept c s is
+
+-- each equation has a dummy at each stage up to its c, and a dummy of a stage is that of one equation
+pub record HaveOwn (c t : ℕ → ℕ) (m : ℕ) (dummies : List (ℕ × ℕ × ℕ × ℕ)) : Type 0 where
+  pub some : (i s : ℕ) → i < m → 0 < s → s ≤ c i → (k : ℕ) × Contains dummies (t i, k, s, suc i)
+  pub own : (x y : ℕ × ℕ × ℕ × ℕ) → Contains dummies x → Contains dummies y → x.2 ≡ y.2 → x.0 ≡ y.0 → x ≡ y
+
+-- a dummy of stage s is the highest derivative of its unknown in derivative c - s + 1 of its equation: that of the entry's order raised
+-- by the number of derivatives
+pub record AreHighest (g : Signature) (c : ℕ → ℕ) (dummies : List (ℕ × ℕ × ℕ × ℕ)) : Type 0 where
+  pub entry : (x : ℕ × ℕ × ℕ × ℕ) → Contains dummies x
+      → (k : ℕ) × (k < row_len g (x.3 - 1)) × (unknown_at g (x.3 - 1) k ≡ x.0) × (x.1 ≡ order_at g (x.3 - 1) k + (c (x.3 - 1) - x.2 + 1))
+
+-- the next derivative of a dummy of stage s + 1 is a dummy of stage s of the same equation
+pub record AreFollowed (dummies : List (ℕ × ℕ × ℕ × ℕ)) : Type 0 where
+  pub next : (j k s e : ℕ) → 0 < s → Contains dummies (j, k, suc s, e) → Contains dummies (j, suc k, s, e)

@@ -4,7 +4,7 @@ ghost use Rattle.std.proofs.Common.{suc};
 ghost use Rattle.mo_incidence.specs.Signature.{equations};
 ghost use Rattle.mo_incidence.specs.Assignment.{Assigns, CoversAll};
 ghost use Rattle.mo_incidence.specs.Offsets.{IsTight, by_place, by_number};
-ghost use Rattle.mo_blocks.specs.Dummies.{differentiated, dummy, kept, dummies_of, states_of, derivatives_below, derivatives_to};
+ghost use Rattle.mo_blocks.specs.Dummies.{differentiated, dummy, kept, dummies_of, states_of, derivatives_below, derivatives_to, HaveOwn, AreHighest, AreFollowed};
 
 use mo_incidence::{Dummies, Incidence, Offsets};
 use mo_syntax::NoMemory;
@@ -131,6 +131,9 @@ pub fn dummies(alloc: Global, inc: &Incidence, offsets: &Offsets) -> Result<Dumm
     requires all { CoversAll inc.now (by_place offsets.now.pairs.items) }
     ensures chosen { IfOk result (λ found. found.chosen.items ≡ dummies_of (by_place offsets.now.c.items) (by_number offsets.now.d.items) (by_place offsets.now.pairs.items) (equations inc.now)) }
     ensures states { IfOk result (λ found. found.states.items ≡ states_of (by_place offsets.now.c.items) (by_number offsets.now.d.items) (by_place offsets.now.pairs.items) (equations inc.now) inc.now.unknowns) }
+    ensures own { IfOk result (λ found. HaveOwn (by_place offsets.now.c.items) (by_place offsets.now.pairs.items) (equations inc.now) found.chosen.items) }
+    ensures highest { IfOk result (λ found. AreHighest inc.now (by_place offsets.now.c.items) found.chosen.items) }
+    ensures followed { IfOk result (λ found. AreFollowed found.chosen.items) }
 {
     let _equations = inc.equations();
     let chosen = choose(alloc, inc, &offsets.c, &offsets.d, &offsets.pairs)?;

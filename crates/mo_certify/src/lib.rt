@@ -2,14 +2,19 @@
 //!
 //! - [`deficit_holds`]: the listed equations mention fewer unknowns than they are, so no assignment covers all equations.
 //! - [`offsets_hold`]: the listed offsets and pairs are admissible.
+//! - [`blocks_hold`]: besides, the system is square, and the listed blocks are its irreducible blocks in order of dependence.
 #![tactic(auto)]
 
 mod admissible;
+mod block_lists;
 mod deficiency;
 mod marks;
 
 pub use admissible::offsets_hold;
+pub use block_lists::blocks_hold;
 pub use deficiency::deficit_holds;
 
+#[cfg(test)]
+mod block_tests;
 #[cfg(test)]
 mod tests;
