@@ -2,3 +2,4 @@ pub mod Marking
 pub mod Rows
 pub mod Leastness
 pub mod Following
+pub mod BlockLists

@@ -3,16 +3,21 @@
 //! - [`deficit_holds`]: the listed equations mention fewer unknowns than they are, so no assignment covers all equations.
 //! - [`offsets_hold`]: the listed offsets and pairs are admissible.
 //! - [`least_holds`]: the listed reasons show them to be the least.
+//! - [`blocks_hold`]: besides, the system is square, and the listed blocks are its irreducible blocks in order of dependence.
 #![tactic(auto)]
 
 mod admissible;
+mod block_lists;
 mod deficiency;
 mod least;
 mod marks;
 
 pub use admissible::offsets_hold;
+pub use block_lists::blocks_hold;
 pub use deficiency::deficit_holds;
 pub use least::least_holds;
 
+#[cfg(test)]
+mod block_tests;
 #[cfg(test)]
 mod tests;

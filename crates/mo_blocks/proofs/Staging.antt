@@ -1,0 +1,117 @@
+-- Laws of dummies and states.
+use Rattle.std.proofs.Common.{◌≡◌, ℕ, zero, suc, ◌+◌, ◌-◌, ◌<◌, ◌≤◌, inl, inr, true, false, nat_lt, if◌then◌else◌, List, [], ◌∷◌, length, map, refl, sym, ap, ◌∙◌, arith, length-append}
+use Rattle.std.proofs.lemmas.List.{length-map}
+use Rattle.std.proofs.lemmas.Bool.{cases_lt}
+use Rattle.std.proofs.lemmas.Bool.Decides.{nat_tests}
+use Rattle.mo_incidence.specs.Counting.{sum_below}
+use Rattle.mo_incidence.specs.Signature.{Signature, equations, row_len, unknown_at, order_at}
+use Rattle.mo_incidence.specs.Assignment.{Assigns, CoversAll}
+use Rattle.mo_incidence.specs.Offsets.{IsTight, by_place, by_number}
+use Rattle.mo_blocks.specs.Dummies.{differentiated, dummy, dummies_to, greatest, dummies_of, HaveOwn, AreHighest, AreFollowed}
+use Rattle.mo_blocks.proofs.Dummying.{dummies-only, dummies-all, greatest-above, tight-low}
+
+tight-entry : (g : Signature) (c d : ℕ → ℕ) (i j : ℕ) → IsTight g c d i j → (k : ℕ) × (k < row_len g i) × (unknown_at g i k ≡ j) × (d j ≡ c i + order_at g i k)
+unfolding IsTight
+tight-entry g c d i j t = t
+
+tuple-same : (a b c d s e f : ℕ) → a ≡ b → c ≡ d → e ≡ f → ◌≡◌ {A = ℕ × ℕ × ℕ × ℕ} (a, c, s, e) (b, d, s, f)
+tuple-same a b c d s e f p q r = rw (p, q, r) refl
+
+module _ (g : Signature) (c d t : ℕ → ℕ) (assigns : Assigns (IsTight g c d) (equations g) t) (all : CoversAll g t) where
+  pub own-dummies : HaveOwn c t (equations g) (dummies_of c d t (equations g))
+  own-dummies = record {
+    some = λ i s il some le. (d (t i) - s + 1, dummies-all c d t (equations g) (greatest c (equations g)) i s il some (omega (arith, greatest-above c (equations g) i il)) le);
+    own = λ x y hx hy stage unknown.
+        let a = dummies-only c d t (equations g) (greatest c (equations g)) x hx in
+        let b = dummies-only c d t (equations g) (greatest c (equations g)) y hy in
+        let r : a.1 ≡ b.1 = ap (λ (z : ℕ × ℕ × ℕ × ℕ). z.2) a.6 ∙ stage ∙ sym (ap (λ (z : ℕ × ℕ × ℕ × ℕ). z.2) b.6) in
+        let u : t a.0 ≡ t b.0 = ap (λ (z : ℕ × ℕ × ℕ × ℕ). z.0) a.6 ∙ unknown ∙ sym (ap (λ (z : ℕ × ℕ × ℕ × ℕ). z.0) b.6) in
+        let i : a.0 ≡ b.0 = assigns.apart a.0 b.0 a.2 b.2 (all a.0 a.2) u in
+        sym a.6 ∙ ap (λ (z : ℕ). dummy d t z a.0) r ∙ ap (λ (z : ℕ). dummy d t b.1 z) i ∙ b.6;
+  }
+
+  highest-at : (i r : ℕ) → i < equations g → r ≤ c i
+      → (k : ℕ) × (k < row_len g (suc i - 1)) × (unknown_at g (suc i - 1) k ≡ t i) × (d (t i) - r + 1 ≡ order_at g (suc i - 1) k + (c (suc i - 1) - r + 1))
+  highest-at i r il le =
+      let e = tight-entry g c d i (t i) (assigns.allowed i il (all i il)) in
+      let back : suc i - 1 ≡ i = omega arith in
+      rw back (e.0, e.1, e.2, omega (arith, e.3))
+
+  pub highest-dummies : AreHighest g c (dummies_of c d t (equations g))
+  highest-dummies = record {
+    entry = λ x hx.
+        let a = dummies-only c d t (equations g) (greatest c (equations g)) x hx in
+        rw (← a.6) (highest-at a.0 a.1 a.2 a.5);
+  }
+
+  pub followed-dummies : AreFollowed (dummies_of c d t (equations g))
+  followed-dummies = record {
+    next = λ j k s e some hx.
+        let a = dummies-only c d t (equations g) (greatest c (equations g)) (j, k, suc s, e) hx in
+        let j_is : t a.0 ≡ j = ap (λ (z : ℕ × ℕ × ℕ × ℕ). z.0) a.6 in
+        let k_is : d (t a.0) - a.1 + 1 ≡ k = ap (λ (z : ℕ × ℕ × ℕ × ℕ). z.1) a.6 in
+        let s_is : a.1 ≡ suc s = ap (λ (z : ℕ × ℕ × ℕ × ℕ). z.2) a.6 in
+        let e_is : suc a.0 ≡ e = ap (λ (z : ℕ × ℕ × ℕ × ℕ). z.3) a.6 in
+        let low = tight-low g c d a.0 (t a.0) (assigns.allowed a.0 a.2 (all a.0 a.2)) in
+        let order : d (t a.0) - s + 1 ≡ suc k = omega (arith, a.5) in
+        let there = dummies-all c d t (equations g) (greatest c (equations g)) a.0 s a.2 some (omega (arith, a.4)) (omega (arith, a.5)) in
+        let same : dummy d t s a.0 ≡ (j, suc k, s, e) = tuple-same (t a.0) j (d (t a.0) - s + 1) (suc k) s (suc a.0) e j_is order e_is in
+        rw same at there;
+  }
+
+-- the smaller of two numbers
+at_most : ℕ → ℕ → ℕ
+at_most s x = if nat_lt s x then s else x
+
+at-low : (s x : ℕ) → s < x → at_most s x ≡ s
+unfolding at_most
+at-low s x l = let yes : nat_lt s x ≡ true = grind (arith, nat_tests) in rw yes refl
+
+at-high : (s x : ℕ) → x ≤ s → at_most s x ≡ x
+unfolding at_most
+at-high s x l = let no_lt : nat_lt s x ≡ false = grind (arith, nat_tests) in rw no_lt refl
+
+length-diff : (c : ℕ → ℕ) (s m : ℕ) → length (differentiated c (suc s) m) + sum_below (λ i. at_most s (c i)) m ≡ sum_below (λ i. at_most (suc s) (c i)) m
+length-diff c s zero = refl
+length-diff c s (suc n) =
+    let rest = length-diff c s n in
+    elim (cases_lt (c n) (suc s)) [
+      | inl l ↦
+          let yes : nat_lt (c n) (suc s) ≡ true = grind (arith, nat_tests) in
+          let a = at-high s (c n) (omega arith) in
+          let b = at-high (suc s) (c n) (omega arith) in
+          rw yes (omega arith)
+      | inr l ↦
+          let no_lt : nat_lt (c n) (suc s) ≡ false = grind (arith, nat_tests) in
+          let a = at-low s (c n) (omega arith) in
+          let b : at_most (suc s) (c n) ≡ suc s = elim (cases_lt (suc s) (c n)) [
+            | inl h ↦ at-low (suc s) (c n) h
+            | inr h ↦ at-high (suc s) (c n) h ∙ (omega arith)
+          ] in
+          let size = length-append (differentiated c (suc s) n) (n ∷ []) in
+          rw no_lt (omega arith)
+    ]
+
+sum-none : (c : ℕ → ℕ) (n : ℕ) → 0 ≡ sum_below (λ i. at_most 0 (c i)) n
+sum-none c zero = refl
+sum-none c (suc n) =
+    let rest = sum-none c n in
+    let none : at_most 0 (c n) ≡ 0 = elim (cases_lt 0 (c n)) [
+      | inl h ↦ at-low 0 (c n) h
+      | inr h ↦ at-high 0 (c n) h ∙ (omega arith)
+    ] in
+    omega arith
+
+length-dummies : (c d t : ℕ → ℕ) (m s : ℕ) → length (dummies_to c d t m s) ≡ sum_below (λ i. at_most s (c i)) m
+length-dummies c d t m zero = sum-none c m
+length-dummies c d t m (suc s) =
+    let rest = length-dummies c d t m s in
+    let more = length-diff c s m in
+    let size = length-append (dummies_to c d t m s) (map (dummy d t (suc s)) (differentiated c (suc s) m)) in
+    let mapped = length-map (differentiated c (suc s) m) (dummy d t (suc s)) in
+    omega arith
+
+-- the chosen dummies are those of the definition
+pub chosen-here : (c d pairs c' d' pairs' : List ℕ) (m : ℕ) (chosen : List (ℕ × ℕ × ℕ × ℕ)) → c' ≡ c → d' ≡ d → pairs' ≡ pairs
+    → chosen ≡ dummies_of (by_place c') (by_number d') (by_place pairs') m → chosen ≡ dummies_of (by_place c) (by_number d) (by_place pairs) m
+chosen-here c d pairs c' d' pairs' m chosen c_is d_is p_is is = rw (c_is, d_is, p_is) at is

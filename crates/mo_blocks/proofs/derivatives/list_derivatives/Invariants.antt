@@ -1,0 +1,6 @@
+use Rattle.std.proofs.Common.{◌≡◌, ◌++◌}
+use Rattle.mo_blocks.specs.Dummies.{derivatives_below}
+use Rattle.mo_blocks.proofs.derivatives.list_derivatives.Given as goal
+
+abbrev pub invariant-loop-k : goal.invariant-loop-k
+invariant-loop-k l = l.states.items ≡ l.fn.states.items ++ derivatives_below l.unknown l.k

@@ -1,0 +1,6 @@
+use Rattle.std.proofs.Common.{◌≡◌, ◌-◌, slice_index}
+use Rattle.mo_blocks.specs.Dummies.{derivatives_to}
+use Rattle.mo_blocks.proofs.derivatives.list_states.Given as goal
+
+abbrev pub invariant-loop-u : goal.invariant-loop-u
+invariant-loop-u l = l.states.items ≡ derivatives_to (λ u. slice_index l.d u - slice_index l.depth u) l.u

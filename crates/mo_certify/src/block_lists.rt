@@ -1,0 +1,64 @@
+//! Whether listed blocks are the irreducible blocks in order.
+ghost use Rattle.std.specs.Prelude.{◌≡◌, ◌↔◌, IsTrue, IfOk, true, false};
+ghost use Rattle.mo_incidence.specs.Signature.{equations};
+ghost use Rattle.mo_incidence.specs.Offsets.{by_place, by_number};
+ghost use Rattle.mo_blocks.specs.Blocks.{AreBlocksInOrder, numbers_in};
+ghost use Rattle.mo_certify.specs.Offsets.{AreOffsets};
+
+use crate::admissible::offsets_hold;
+use mo_blocks::blocks;
+use mo_incidence::{Blocks, Incidence, Offsets};
+use mo_syntax::NoMemory;
+use std::alloc::Global;
+
+/// Whether two lists have the same numbers.
+fn same_numbers(left: &[u32], right: &[u32]) -> bool
+    ensures yes { result ≡ true → left.now ≡ right.now }
+    ensures no { result ≡ false → left.now ≡ right.now → ⊥ }
+{
+    if left.len() != right.len() {
+        return false;
+    }
+    for k in 0..left.len() {
+        if left[k] != right[k] {
+            return false;
+        }
+    }
+    true
+}
+
+/// Whether two lists have the same lists.
+fn same_lists(left: &[Vec<u32>], right: &[Vec<u32>]) -> bool
+    ensures yes { result ≡ true → numbers_in left.now ≡ numbers_in right.now }
+    ensures no { result ≡ false → numbers_in left.now ≡ numbers_in right.now → ⊥ }
+{
+    if left.len() != right.len() {
+        return false;
+    }
+    for b in 0..left.len() {
+        if !same_numbers(&left[b], &right[b]) {
+            return false;
+        }
+    }
+    true
+}
+
+/// Whether the listed offsets and pairs are admissible, the system is square, and the lists are its irreducible blocks in order of
+/// dependence. It accepts any lists, and finds the blocks itself. `NoMemory` is the only other answer.
+pub fn blocks_hold(
+    alloc: Global,
+    inc: &Incidence,
+    offsets: &Offsets,
+    listed: &Blocks,
+) -> Result<bool, NoMemory>
+    ensures exact { IfOk result (λ yes. IsTrue yes ↔ (AreOffsets inc.now offsets.now.c.items offsets.now.d.items offsets.now.pairs.items × (equations inc.now ≡ inc.now.unknowns) × AreBlocksInOrder inc.now (by_place offsets.now.c.items) (by_number offsets.now.d.items) (by_place offsets.now.pairs.items) (numbers_in listed.now.0.items))) }
+{
+    if !offsets_hold(alloc, inc, offsets)? {
+        return Ok(false);
+    }
+    if inc.equations() != inc.unknowns() {
+        return Ok(false);
+    }
+    let found = blocks(alloc, inc, offsets)?;
+    Ok(same_lists(&found.0, &listed.0))
+}
