@@ -111,29 +111,55 @@ fn lists_of(alloc: Global, given: &[&[u32]]) -> Result<Blocks, Fail> {
     Ok(Blocks(lists))
 }
 
+fn offsets_of(alloc: Global, c: &[u32], d: &[u32], pairs: &[u32]) -> Result<Offsets, Fail> {
+    Ok(Offsets {
+        c: c.to_vec(alloc)?,
+        d: d.to_vec(alloc)?,
+        pairs: pairs.to_vec(alloc)?,
+    })
+}
+
+/// Whether the lists are right, and those that are found too.
+fn are_blocks(
+    alloc: Global,
+    incidence: &Incidence,
+    offsets: &Offsets,
+    right: &Blocks,
+) -> Result<bool, Fail> {
+    if !offsets_hold(alloc, incidence, offsets)? || incidence.equations() != incidence.unknowns() {
+        return Err("offsets".into());
+    }
+    let found = blocks(alloc, incidence, offsets)?;
+    Ok(
+        blocks_hold(alloc, incidence, offsets, right)?
+            && blocks_hold(alloc, incidence, offsets, &found)?,
+    )
+}
+
+/// Whether the dummies and states are these.
+fn are_dummies(
+    alloc: Global,
+    incidence: &Incidence,
+    offsets: &Offsets,
+    chosen: &[(u32, u32, u32, u32)],
+    states: &[(u32, u32)],
+) -> Result<bool, Fail> {
+    if !offsets_hold(alloc, incidence, offsets)? || incidence.equations() != incidence.unknowns() {
+        return Err("offsets".into());
+    }
+    let found = dummies(alloc, incidence, offsets)?;
+    Ok(found.chosen.as_slice() == chosen && found.states.as_slice() == states)
+}
+
 #[test]
 fn blocks_and_dummies_of_small_systems(rt: HostRuntime) -> Result<(), Fail> {
     let alloc = rt.alloc();
     for (unknowns, rows, c, d, pairs, right, chosen, states) in CASES {
         let incidence = incidence_of(alloc, unknowns, rows)?;
-        let offsets = Offsets {
-            c: c.to_vec(alloc)?,
-            d: d.to_vec(alloc)?,
-            pairs: pairs.to_vec(alloc)?,
-        };
+        let offsets = offsets_of(alloc, c, d, pairs)?;
         let right = lists_of(alloc, right)?;
-        assert!(rt; blocks_hold(alloc, &incidence, &offsets, &right)?);
-        if !offsets_hold(alloc, &incidence, &offsets)? {
-            return Err("offsets".into());
-        }
-        if incidence.equations() != incidence.unknowns() {
-            return Err("square".into());
-        }
-        let found = blocks(alloc, &incidence, &offsets)?;
-        assert!(rt; blocks_hold(alloc, &incidence, &offsets, &found)?);
-        let found = dummies(alloc, &incidence, &offsets)?;
-        assert_eq!(rt; found.chosen.as_slice(), chosen);
-        assert_eq!(rt; found.states.as_slice(), states);
+        assert!(rt; are_blocks(alloc, &incidence, &offsets, &right)?);
+        assert!(rt; are_dummies(alloc, &incidence, &offsets, chosen, states)?);
     }
     Ok(())
 }
@@ -143,11 +169,7 @@ fn other_lists_are_no_blocks(rt: HostRuntime) -> Result<(), Fail> {
     let alloc = rt.alloc();
     let (unknowns, rows, c, d, pairs, ..) = CASES[1];
     let incidence = incidence_of(alloc, unknowns, rows)?;
-    let offsets = Offsets {
-        c: c.to_vec(alloc)?,
-        d: d.to_vec(alloc)?,
-        pairs: pairs.to_vec(alloc)?,
-    };
+    let offsets = offsets_of(alloc, c, d, pairs)?;
     let wrong: [&[&[u32]]; 6] = [
         &[&[1, 2]],
         &[&[1], &[2]],
