@@ -1,4 +1,5 @@
 pub mod Faults
+pub mod Answers
 pub mod Lexeme
 pub mod Codes
 pub mod Grammar

@@ -9,6 +9,7 @@
 mod fault;
 mod laws;
 mod printed;
+mod reading;
 mod token_code;
 
 pub use fault::Fault;
@@ -19,5 +20,9 @@ pub use laws::{
 pub use printed::{
     arguments, class_heads, compositions, equalities, equation_lists, external_calls, imports,
     primaries,
+};
+pub use reading::{
+    Halt, Reading, are_next, is_any, is_next, is_next_any, past_limit, rest_from, stop_at, take,
+    take_any, token_at,
 };
 pub use token_code::code;
