@@ -15,3 +15,4 @@ pub mod Productions
 pub mod Tables
 pub mod Language
 pub mod Printed
+pub mod Classless

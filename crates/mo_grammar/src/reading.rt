@@ -1,14 +1,16 @@
 //! What readers of tokens are built of: the next token, tests of what comes next, and why reading halts.
-ghost use Rattle.std.specs.Prelude.{◌≡◌, ◌<◌, ◌≤◌, ◌+◌, List as Seq, [], ◌∷◌, length, drop, map, IfOk, IfErr, IfSome, IfNone, Some, None, IsTrue, ◌↔◌, if◌then◌else◌};
-ghost use Rattle.mo_grammar.specs.Lexeme.{lexeme, lexemes, code_of_kind};
+ghost use Rattle.std.specs.Prelude.{◌≡◌, ◌==◌, ◌<◌, ◌≤◌, ◌+◌, List as Seq, [], ◌∷◌, length, drop, map, IfOk, IfErr, IfSome, IfNone, Some, None, IsTrue, ◌↔◌, if◌then◌else◌};
+ghost use Rattle.mo_grammar.specs.Lexeme.{lexeme, lexemes, code_of, code_of_kind};
 ghost use Rattle.mo_grammar.specs.Grammar.{has};
-ghost use Rattle.mo_grammar.specs.Reading.{read, reads_token, next_in, next_two};
-ghost use Rattle.mo_grammar.specs.Answers.{Gives, from, broken_at};
+ghost use Rattle.mo_grammar.specs.Reading.{read, reads_token, next_in, next_two, place_of_first};
+ghost use Rattle.mo_grammar.specs.Forms.{flag as flag_form};
+ghost use Rattle.mo_grammar.specs.Language.{whole_limits, reads_form};
+ghost use Rattle.mo_grammar.specs.Answers.{Gives, with_rest, from, broken_at};
 
 use crate::fault::Fault;
 use crate::token_code::code;
-use mo_syntax::{Broken, NoMemory, Place, Stop, Token, TokenKind};
-use std::alloc::{AllocError, AllocFailed};
+use mo_syntax::{Broken, List, NoMemory, Place, Stop, Token, TokenKind};
+use std::alloc::Global;
 
 /// Why a reader gives no value.
 #[derive(Clone, Copy, Debug)]
@@ -44,13 +46,20 @@ pub fn is_any(kind: TokenKind, wanted: &[TokenKind]) -> bool
     false
 }
 
+/// Whether the token has that kind.
+pub fn is(token: &Token, wanted: TokenKind) -> bool
+    ensures { result ≡ (code_of_kind wanted == code_of (lexeme token.now)) }
+{
+    code(wanted) == code(token.kind)
+}
+
 /// The next token, which has that kind, or stuck at it.
 pub fn take<'t, 'a>(tokens: &'t [Token<'a>], wanted: TokenKind) -> Reading<'t, 'a, Token<'a>>
     ensures reads { Gives (λ x. read (lexeme x.0) (lexemes x.1.now)) result (reads_token (code_of_kind wanted ∷ []) (lexemes tokens.now)) }
     ensures shorter { IfOk result (λ x. length x.1.now < length tokens.now) }
 {
     match tokens {
-        [token, rest @ ..] if code(wanted) == code(token.kind) => Ok((*token, rest)),
+        [token, rest @ ..] if is(token, wanted) => Ok((*token, rest)),
         _ => Err(Halt::Stuck(Fault::Misplaced, tokens)),
     }
 }
@@ -71,7 +80,7 @@ pub fn is_next(tokens: &[Token], wanted: TokenKind) -> bool
     ensures { result ≡ next_in (code_of_kind wanted ∷ []) (lexemes tokens.now) }
 {
     match tokens {
-        [token, ..] => code(wanted) == code(token.kind),
+        [token, ..] => is(token, wanted),
         [] => false,
     }
 }
@@ -91,8 +100,37 @@ pub fn are_next(tokens: &[Token], first: TokenKind, second: &[TokenKind]) -> boo
     ensures { result ≡ next_two (code_of_kind first) (map code_of_kind second.now) (lexemes tokens.now) }
 {
     match tokens {
-        [token, then, ..] => code(first) == code(token.kind) && is_any(then.kind, second),
+        [token, then, ..] => is(token, first) && is_any(then.kind, second),
         _ => false,
+    }
+}
+
+/// Whether the next token has that kind, and the tokens behind it if it has.
+pub fn flag<'t, 'a>(tokens: &'t [Token<'a>], wanted: TokenKind) -> (bool, &'t [Token<'a>])
+    ensures reads { reads_form (flag_form (code_of_kind wanted)) whole_limits (lexemes tokens.now) ≡ with_rest result }
+    ensures no_longer { length result.1.now ≤ length tokens.now }
+{
+    match tokens {
+        [token, rest @ ..] if is(token, wanted) => (true, rest),
+        _ => (false, tokens),
+    }
+}
+
+/// Nothing read yet, and all tokens behind it: where a loop over items starts.
+pub fn none_yet<'t, 'a, T>(alloc: Global, tokens: &'t [Token<'a>]) -> (List<T>, &'t [Token<'a>])
+    ensures none { result.0 ≡ [] }
+    ensures all { result.1.now ≡ tokens.now }
+{
+    (List::new(alloc), tokens)
+}
+
+/// The place of the next token.
+pub fn place_of(tokens: &[Token]) -> Place
+    ensures { result ≡ place_of_first (lexemes tokens.now) }
+{
+    match tokens {
+        [token, ..] => token.place,
+        [] => Place { file: 0, byte: 0 },
     }
 }
 
@@ -111,13 +149,9 @@ pub fn past_limit<'t, 'a>(tokens: &'t [Token<'a>], opening: TokenKind) -> Halt<'
 pub fn stop_at(fault: Fault, rest: &[Token]) -> Stop
     ensures { result ≡ Stop.Broken (broken_at fault (lexemes rest.now)) }
 {
-    let place = match rest {
-        [token, ..] => token.place,
-        [] => Place { file: 0, byte: 0 },
-    };
     Stop::Broken(Broken {
         rule: fault.rule(),
-        place,
+        place: place_of(rest),
     })
 }
 

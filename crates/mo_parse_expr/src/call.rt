@@ -7,6 +7,8 @@ ghost use Rattle.mo_grammar.specs.Symbols.{Expressions};
 ghost use Rattle.mo_grammar.specs.Language.{IsLongestFront, Spells};
 ghost use Rattle.mo_grammar.specs.Answers.{from, limits_at, IsLongestSpelling, IsAnswer, IsRefusal};
 
+use crate::readers;
+use mo_grammar::{Halt, rest_from, stop_at};
 use mo_syntax::{Expr, Stop, Token};
 use std::alloc::Global;
 
@@ -30,5 +32,10 @@ pub fn expression(
     ensures later { IfOk result (λ x. at < x.1) }
     ensures within { IfOk result (λ x. x.1 ≤ length tokens.now) }
 {
-    Err(Stop::NoMemory)
+    let rest = rest_from(tokens, at);
+    match readers::expression(alloc, 128u32.saturating_sub(nest), rest) {
+        Ok((value, behind)) => Ok((value, tokens.len() - behind.len())),
+        Err(Halt::Stuck(fault, behind)) => Err(stop_at(fault, behind)),
+        Err(Halt::NoMemory) => Err(Stop::NoMemory),
+    }
 }

@@ -7,8 +7,10 @@
 
 mod atom;
 mod call;
+mod marks;
 pub mod readers;
 mod sum;
+mod trees;
 
 pub use call::expression;
 pub use sum::longest_sum;
