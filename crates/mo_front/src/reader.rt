@@ -8,7 +8,7 @@ ghost use Rattle.mo_front.specs.Form.{IsReal, IsEnding, IsModel};
 ghost use Rattle.mo_front.specs.Reading.{BeginsDeclaration, NoDeclaration, ReadsDeclarations, StandsAt, StandsNot, BeginsEquation, NoEquation, ReadsEquations, ReadsSection, BeginsModel, NoHeader};
 
 use crate::model::{NameAt, OneModel};
-use mo_parse_expr::expression;
+use mo_parse_expr::longest_sum;
 use mo_syntax::{Equation, EquationKind, Expr, List, NoMemory, Stop, Text, Token, TokenKind};
 use mo_tables::{keywords, operators};
 use std::alloc::Global;
@@ -126,7 +126,7 @@ fn side(alloc: Global, tokens: &[Token], at: usize) -> Result<Option<(Expr, usiz
     let Some(_) = token_at(tokens, at) else {
         return Ok(None);
     };
-    match expression(alloc, tokens, at, 0) {
+    match longest_sum(alloc, tokens, at, 0) {
         Ok(found) => Ok(Some(found)),
         Err(Stop::Broken(_)) => Ok(None),
         Err(Stop::NoMemory) => Err(NoMemory),

@@ -4,10 +4,11 @@ use Rattle.mo_syntax.specs.declared.place.Place.{Place}
 use Rattle.mo_syntax.specs.declared.expr.Expr.{Expr}
 use Rattle.mo_syntax.specs.declared.expr.Args.{Args}
 use Rattle.mo_syntax.specs.declared.expr.ReferenceOf.{ReferenceOf}
+use Rattle.mo_syntax.specs.declared.expr.TermOf.{TermOf}
 use Rattle.mo_syntax.specs.declared.expr.CalleeOf.TheVariants.{Named}
 use Rattle.mo_syntax.specs.declared.expr.Node.TheVariants.{Call, outs-Ref, outs-Sum, outs-Product, outs-Power, outs-Relation, outs-Not, outs-All, outs-Any, outs-Range, outs-Call}
 use Rattle.mo_syntax.specs.declared.equation.EquationKind.{EquationKind}
-use Rattle.mo_grammar.specs.Codes.{ident, dot, plus, minus, dot_plus, dot_minus, times, divides, dot_times, dot_divides, or_word, and_word, colon, power, dot_power, less, less_equal, greater, greater_equal, equal_equal, not_equal}
+use Rattle.mo_grammar.specs.Codes.{ident, dot, plus, minus, dot_plus, dot_minus, or_word, and_word, colon, power, dot_power, less, less_equal, greater, greater_equal, equal_equal, not_equal}
 use Rattle.mo_grammar.specs.Lexeme.{Lexeme, code_of}
 use Rattle.mo_grammar.specs.Grammar.{Limits, token, seq, made, placed, many, symbol, has, first_passes, SpelledBy, SpelledIn, SpelledOr}
 use Rattle.mo_grammar.specs.Reading.{first_codes, apart}
@@ -15,7 +16,7 @@ use Rattle.mo_grammar.specs.Forms.{optional, behind}
 use Rattle.mo_grammar.specs.Trees.{expr_at, reference_tree, power_tree, product_tree, sum_tree, relation_tree, all_tree, any_tree, range_tree}
 use Rattle.mo_grammar.specs.ClassTrees.{name_called, name_called_by, is_call, call_of}
 use Rattle.mo_grammar.specs.Symbols.{Form, Simples, Logicals, Conjunctions, Negations, Relations, Sums, Products, Powers, Primaries, CallArguments, References}
-use Rattle.mo_grammar.specs.Expressions.{add, literal, word_call, output_list, matrix, array}
+use Rattle.mo_grammar.specs.Expressions.{further_factor, further_term, add, literal, word_call, output_list, matrix, array}
 use Rattle.mo_grammar.specs.Classes.{printed_equality, equality_or_call}
 use Rattle.mo_grammar.specs.Productions.{rule}
 use Rattle.mo_grammar.specs.Tables.{tables}
@@ -78,7 +79,7 @@ up_simple : (n : ℕ) (l : Limits) (w : List Lexeme) (a : Expr) (t : Lexeme) (mo
 unfolding rule
 up_simple n l w a t more e s =
     let one = with_optional power_tree (λ p a. refl) (symbol Primaries) (seq (token (power ∷ dot_power ∷ [])) (symbol Primaries)) n l w a t more e s in
-    let two = with_many product_tree (λ p a. refl) (symbol Powers) (seq (token (times ∷ divides ∷ dot_times ∷ dot_divides ∷ [])) (symbol Powers)) (suc n) l w a t more e one in
+    let two = with_many product_tree (λ p a. refl) (symbol Powers) further_factor (suc n) l w a t more e one in
     let three : SpelledIn rule (suc (suc (suc n))) Sums l w a = ((None, (t.place, (a, []))), ([], w, refl, inr (refl, refl), (t, more, e, refl, (w, [], sym (append-nil w), two, refl))), refl) in
     let four = with_optional relation_tree (λ p a. refl) (symbol Sums) (seq (token (less ∷ less_equal ∷ greater ∷ greater_equal ∷ equal_equal ∷ not_equal ∷ [])) (symbol Sums)) (suc (suc (suc n))) l w a t more e three in
     let five : SpelledIn rule (suc (suc (suc (suc (suc n))))) Negations l w a = ((t.place, (false, a)), (t, more, e, refl, ([], w, refl, inr (refl, refl), four)), refl) in
@@ -112,7 +113,7 @@ down_sum : (n : ℕ) (l : Limits) (w : List Lexeme) (a : Expr) (call : Reference
 unfolding rule name_called
 down_sum n l w a call e t more shape lead ((None, (p, (b, o))), (front, rest, cut, so, (u, v, at, place, (f, r, cut2, sg, sm))), q) = go o sm q so
   where
-    go : (o : List (Lexeme × Expr)) → SpelledBy (SpelledIn rule n) (many (seq add (symbol Products))) l r o → sum_tree (None, (p, (b, o))) ≡ a → SpelledBy (SpelledIn rule n) (optional add) l front None → SpelledIn rule n Products l w a
+    go : (o : List (TermOf Expr)) → SpelledBy (SpelledIn rule n) (many further_term) l r o → sum_tree (None, (p, (b, o))) ≡ a → SpelledBy (SpelledIn rule n) (optional add) l front None → SpelledIn rule n Products l w a
     go [] none q (inr left) = subst (λ v. SpelledIn rule n Products l v a) (sym (cut ∙ ap (λ v. v ++ rest) left.0 ∙ cut2 ∙ ap (λ v. f ++ v) none ∙ append-nil f)) (subst (SpelledIn rule n Products l f) q sg)
     go o s q (inl some) = let clash = some.2 in cc
     go (c ∷ list) so q (inr left) = absurd (not_called a call e (ap name_called (sym q) ∙ ap name_called_by (outs-Sum _)))
@@ -144,7 +145,7 @@ unfolding rule name_called
 down_product zero l w a call e t more shape lead s = absurd s
 down_product (suc n) l w a call e t more shape lead s =
     down_power n l w a call e t more shape lead
-    (alone_many product_tree (λ p a. refl) (λ p a b c. ap name_called_by (outs-Product _)) (symbol Powers) (seq (token (times ∷ divides ∷ dot_times ∷ dot_divides ∷ [])) (symbol Powers)) n l w a call e s)
+    (alone_many product_tree (λ p a. refl) (λ p a b c. ap name_called_by (outs-Product _)) (symbol Powers) further_factor n l w a call e s)
 
 down_arith : (n : ℕ) (l : Limits) (w : List Lexeme) (a : Expr) (call : ReferenceOf Expr × Args) → name_called a ≡ Some call → (t : Lexeme) (more : List Lexeme) → w ≡ t ∷ more → Leads t → SpelledIn rule n Sums l w a → Called l w a
 down_arith zero l w a call e t more shape lead s = absurd s

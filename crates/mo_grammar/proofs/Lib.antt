@@ -17,6 +17,8 @@ pub mod Examples
 pub mod Extending
 pub mod Tested
 pub mod Loops
+pub mod Classless
+pub mod Calls
 pub mod EqualityForms
 pub mod EquationListForms
 pub mod ArgumentForms

@@ -3,13 +3,13 @@ use Rattle.std.proofs.Common.{◌≡◌, ◌+◌, ◌*◌, ◌<◌, ◌≤◌, �
 use Rattle.mo_grammar.specs.declared.fault.Fault.{Fault}
 use Rattle.mo_grammar.specs.Lexeme.{Lexeme}
 use Rattle.mo_grammar.specs.Grammar.{Limits, many}
-use Rattle.mo_grammar.specs.Reading.{Outcome, read, stuck, unfinished, ◌>>=◌, may_be_empty, first_codes, next_in, each_from, reads_by, reads_as}
+use Rattle.mo_grammar.specs.Reading.{Outcome, read, stuck, unfinished, is_decided, ◌>>=◌, may_be_empty, first_codes, next_in, each_from, reads_by, reads_as}
 use Rattle.mo_grammar.specs.Symbols.{Form}
 use Rattle.mo_grammar.specs.Productions.{rule}
 use Rattle.mo_grammar.specs.Tables.{tables}
 use Rattle.mo_grammar.specs.Language.{reads, reads_form}
 use Rattle.mo_grammar.proofs.Codes.{choose_true}
-use Rattle.mo_grammar.proofs.Decided.{Decided}
+use Rattle.mo_grammar.proofs.Decided.{Decided, decided}
 use Rattle.mo_grammar.proofs.Entering.{no_item}
 use Rattle.mo_grammar.proofs.Steps.{agrees, below_top, takes_some, as_agrees}
 use Rattle.mo_grammar.proofs.Tested.{passed}
@@ -74,3 +74,8 @@ many_stuck {A = A} g l front (t ∷ w) fault rest n r =
 -- Where no item begins, there are no more.
 pub many_done : {A : Type 0} (g : Form A) (l : Limits) (w : List Lexeme) → next_in (first_codes tables.starts g) w ≡ false → reads_form (many g) l w ≡ read [] w
 many_done g l w n = no_item (first_codes tables.starts g) (reads_by tables.starts reads g l) (length w) w n
+
+-- A turn of a loop: one more value is read, and put behind those that were read before.
+pub turn : {A : Type 0} (g : Form A) → is_decided tables g ≡ true → may_be_empty g ≡ false → (l : Limits) (front now : List A) (w : List Lexeme) (a : A) (rest : List Lexeme) (all : Outcome (List A)) → true ≡ next_in (first_codes tables.starts g) w → reads_form g l w ≡ read a rest → now ≡ front ++ a ∷ [] → with_front front (reads_form (many g) l w) ≡ all → with_front now (reads_form (many g) l rest) ≡ all
+turn g d e l front now w a rest all n r pushed so_far =
+    ap (λ list. with_front list (reads_form (many g) l rest)) pushed ∙ sym (many_turn g (decided tables g d) e l front w a rest (sym n) r) ∙ so_far

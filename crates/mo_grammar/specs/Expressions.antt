@@ -9,11 +9,14 @@ use Rattle.mo_syntax.specs.declared.expr.Arg.TheVariants.{Value}
 use Rattle.mo_syntax.specs.declared.expr.ReferenceOf.{ReferenceOf}
 use Rattle.mo_syntax.specs.declared.expr.PartOf.{PartOf}
 use Rattle.mo_syntax.specs.declared.expr.IndexOf.{IndexOf}
+use Rattle.mo_syntax.specs.declared.expr.BranchOf.{BranchOf}
+use Rattle.mo_syntax.specs.declared.expr.FactorOf.{FactorOf}
+use Rattle.mo_syntax.specs.declared.expr.TermOf.{TermOf}
 use Rattle.mo_grammar.specs.Lexeme.{Lexeme}
 use Rattle.mo_grammar.specs.Codes.{ident, whole, decimal, string, open_paren, close_paren, open_bracket, close_bracket, open_brace, close_brace, semicolon, comma, dot, colon, equals, less, less_equal, greater, greater_equal, not_equal, equal_equal, plus, minus, times, divides, power, dot_plus, dot_minus, dot_times, dot_divides, dot_power, if_word, then_word, elseif_word, else_word, or_word, and_word, not_word, false_word, true_word, end_word, der_word, initial_word, pure_word, for_word, in_word, function_word}
 use Rattle.mo_grammar.specs.Grammar.{a_construct, token, seq, either, either2, many, made, placed, nested, symbol}
 use Rattle.mo_grammar.specs.Forms.{optional, flag, behind, between, separated}
-use Rattle.mo_grammar.specs.Trees.{Given, InBraces, whole_tree, decimal_tree, string_tree, truth_tree, end_tree, part_of, reference_of, name_reference, reference_tree, call_tree, index_of, args_or_none, named_argument, named_arguments, given_named, given_more, args_given, args_iterated, following_iters, following_more, args_from, partial_argument, if_tree, range_tree, any_tree, all_tree, not_tree, relation_tree, sum_tree, product_tree, power_tree, outputs_tree, matrix_tree, braces_iters, braces_more, array_tree, whole_dimension}
+use Rattle.mo_grammar.specs.Trees.{Given, InBraces, whole_tree, decimal_tree, string_tree, truth_tree, end_tree, part_of, reference_of, name_reference, reference_tree, call_tree, index_of, args_or_none, named_argument, named_arguments, given_named, given_more, args_given, args_iterated, following_iters, following_more, args_from, partial_argument, branch_of, if_tree, range_tree, any_tree, all_tree, not_tree, relation_tree, term_of, sum_tree, factor_of, product_tree, power_tree, outputs_tree, matrix_tree, braces_iters, braces_more, array_tree, whole_dimension}
 use Rattle.mo_grammar.specs.Symbols.{Expressions, Simples, Logicals, Conjunctions, Negations, Relations, Sums, Products, Powers, Primaries, CallArguments, Arguments, MoreArguments, OneArgument, Indices, References, Subscripts, TypeSpecs, Names, Form}
 
 -- name: IDENT {"." IDENT}
@@ -138,17 +141,25 @@ primary =
 abbrev pub factor : Form Expr
 factor = made power_tree (placed (seq (symbol Primaries) (optional (seq (token (power ∷ dot_power ∷ [])) (symbol Primaries)))))
 
+-- ("*" | "/" | ".*" | "./") factor
+abbrev pub further_factor : Form (FactorOf Expr)
+further_factor = made factor_of (seq (token (times ∷ divides ∷ dot_times ∷ dot_divides ∷ [])) (symbol Powers))
+
 -- term: factor {("*" | "/" | ".*" | "./") factor}
 abbrev pub term : Form Expr
-term = made product_tree (placed (seq (symbol Powers) (many (seq (token (times ∷ divides ∷ dot_times ∷ dot_divides ∷ [])) (symbol Powers)))))
+term = made product_tree (placed (seq (symbol Powers) (many further_factor)))
 
 -- add: "+" | "-" | ".+" | ".-"
 abbrev pub add : Form Lexeme
 add = token (plus ∷ minus ∷ dot_plus ∷ dot_minus ∷ [])
 
+-- add term
+abbrev pub further_term : Form (TermOf Expr)
+further_term = made term_of (seq add (symbol Products))
+
 -- arith: [add] term {add term}
 abbrev pub arith : Form Expr
-arith = made sum_tree (seq (optional add) (placed (seq (symbol Products) (many (seq add (symbol Products))))))
+arith = made sum_tree (seq (optional add) (placed (seq (symbol Products) (many further_term))))
 
 -- relation: arith [("<" | "<=" | ">" | ">=" | "==" | "<>") arith]
 abbrev pub relation : Form Expr
@@ -170,11 +181,15 @@ logical = made any_tree (placed (seq (symbol Conjunctions) (many (behind or_word
 abbrev pub simple : Form Expr
 simple = made range_tree (placed (seq (symbol Logicals) (optional (behind colon (seq (symbol Logicals) (optional (behind colon (symbol Logicals))))))))
 
+-- elseif expr then expr
+abbrev pub further_branch : Form (BranchOf Expr)
+further_branch = made branch_of (seq (behind elseif_word (symbol Expressions)) (behind then_word (symbol Expressions)))
+
 -- if expr then expr {elseif expr then expr} else expr
 abbrev pub if_expression : Form Expr
 if_expression =
     nested a_construct (made if_tree (placed (behind if_word (seq (symbol Expressions) (seq (behind then_word (symbol Expressions))
-    (seq (many (seq (behind elseif_word (symbol Expressions)) (behind then_word (symbol Expressions)))) (behind else_word (symbol Expressions))))))))
+    (seq (many further_branch) (behind else_word (symbol Expressions))))))))
 
 -- expr: simple | if expr then expr {elseif expr then expr} else expr
 abbrev pub expr : Form Expr

@@ -1,4 +1,5 @@
 pub mod Faults
+pub mod Answers
 pub mod Lexeme
 pub mod Codes
 pub mod Grammar
@@ -14,3 +15,4 @@ pub mod Productions
 pub mod Tables
 pub mod Language
 pub mod Printed
+pub mod Classless

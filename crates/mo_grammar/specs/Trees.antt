@@ -141,8 +141,8 @@ abbrev pub branch_of : Expr × Expr → BranchOf Expr
 branch_of (condition, value) = record { condition = condition; value = value }
 
 -- an if-expression from its first condition, its first value, its other branches and the value of `else`
-abbrev pub if_tree : Place × (Expr × (Expr × (List (Expr × Expr) × Expr))) → Expr
-if_tree (place, x) = expr_at place (If (branch_of (x.0, x.1.0) ∷ map branch_of x.1.1.0) x.1.1.1)
+abbrev pub if_tree : Place × (Expr × (Expr × (List (BranchOf Expr) × Expr))) → Expr
+if_tree (place, x) = expr_at place (If (branch_of (x.0, x.1.0) ∷ x.1.1.0) x.1.1.1)
 
 -- a range from its first value and one or two more
 abbrev pub range_node : Expr → Expr → Option Expr → Node
@@ -184,14 +184,14 @@ term_of (t, a) = record { minus = is_minus t; dotted = code_of t == dot_plus || 
 abbrev pub first_term : Expr → TermOf Expr
 first_term a = record { minus = false; dotted = false; value = a }
 
-abbrev pub terms_tree : Place → Expr → List (Lexeme × Expr) → Expr
+abbrev pub terms_tree : Place → Expr → List (TermOf Expr) → Expr
 terms_tree place a [] = a
-terms_tree place a (x ∷ more) = expr_at place (Sum (first_term a ∷ map term_of (x ∷ more)))
+terms_tree place a (b ∷ more) = expr_at place (Sum (first_term a ∷ b ∷ more))
 
 -- a leading plus leaves no trace, a leading minus makes a first term that is subtracted
-abbrev pub sum_tree : Option Lexeme × (Place × (Expr × List (Lexeme × Expr))) → Expr
+abbrev pub sum_tree : Option Lexeme × (Place × (Expr × List (TermOf Expr))) → Expr
 sum_tree (None, x) = terms_tree x.0 x.1.0 x.1.1
-sum_tree (Some t, x) = if is_minus t then expr_at t.place (Sum (term_of (t, x.1.0) ∷ map term_of x.1.1)) else terms_tree x.0 x.1.0 x.1.1
+sum_tree (Some t, x) = if is_minus t then expr_at t.place (Sum (term_of (t, x.1.0) ∷ x.1.1)) else terms_tree x.0 x.1.0 x.1.1
 
 abbrev pub factor_of : Lexeme × Expr → FactorOf Expr
 factor_of (t, a) = record { divide = code_of t == divides || code_of t == dot_divides; dotted = code_of t == dot_times || code_of t == dot_divides; value = a }
@@ -199,9 +199,9 @@ factor_of (t, a) = record { divide = code_of t == divides || code_of t == dot_di
 abbrev pub first_factor : Expr → FactorOf Expr
 first_factor a = record { divide = false; dotted = false; value = a }
 
-abbrev pub product_tree : Place × (Expr × List (Lexeme × Expr)) → Expr
+abbrev pub product_tree : Place × (Expr × List (FactorOf Expr)) → Expr
 product_tree (place, (a, [])) = a
-product_tree (place, (a, x ∷ more)) = expr_at place (Product (first_factor a ∷ map factor_of (x ∷ more)))
+product_tree (place, (a, b ∷ more)) = expr_at place (Product (first_factor a ∷ b ∷ more))
 
 abbrev pub power_tree : Place × (Expr × Option (Lexeme × Expr)) → Expr
 power_tree (place, (a, None)) = a

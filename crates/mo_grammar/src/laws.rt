@@ -1,11 +1,12 @@
 //! The laws of the grammar, for every production of it. Each function does nothing: its contract is the law.
-ghost use Rattle.std.specs.Prelude.{◌≡◌, ℕ, List, [], ◌∷◌, ◌++◌};
+ghost use Rattle.std.specs.Prelude.{◌≡◌, ℕ, List, [], ◌∷◌, ◌++◌, true};
 ghost use Rattle.mo_grammar.specs.declared.fault.Fault.{Fault};
 ghost use Rattle.mo_grammar.specs.declared.fault.Fault.TheVariants.{Misplaced, Misnamed};
 ghost use Rattle.mo_grammar.specs.Lexeme.{Lexeme};
-ghost use Rattle.mo_grammar.specs.Grammar.{Limits, at_most, end_name_in};
+ghost use Rattle.mo_grammar.specs.Grammar.{EndName, Limits, at_most, end_name_in};
 ghost use Rattle.mo_grammar.specs.Reading.{read, stuck, unfinished};
 ghost use Rattle.mo_grammar.specs.Symbols.{Symbol, ValueOf};
+ghost use Rattle.mo_grammar.specs.Classless.{is_classless};
 ghost use Rattle.mo_grammar.specs.Language.{Spells, Begins, IsLongestFront, IsImpossibleAfter, HasFaultAfter, EndsBeforeNames, reads};
 
 /// Tokens spell at most one tree of a production, whatever the limits are.
@@ -49,4 +50,9 @@ pub fn first_impossible()
 pub fn unfinished_front()
     ensures misplaced { (x : Symbol) → EndsBeforeNames x → (l : Limits) (tokens rest : List Lexeme) → reads x l tokens ≡ stuck Misplaced rest → (front : List Lexeme) × IsLongestFront x (end_name_in l) tokens front rest × ((m : Limits) (a : ValueOf x) → end_name_in m ≡ end_name_in l → Spells x m front a → ⊥) }
     ensures misnamed { (x : Symbol) → EndsBeforeNames x → (l : Limits) (tokens rest : List Lexeme) → reads x l tokens ≡ stuck Misnamed rest → (front : List Lexeme) × IsLongestFront x (end_name_in l) tokens front rest × ((m : Limits) (a : ValueOf x) → end_name_in m ≡ end_name_in l → Spells x m front a → ⊥) }
+{}
+
+/// What holds no class is read in the same way whatever the limit of classes and the name behind `end` are.
+pub fn classes_leave_alone()
+    ensures { (x : Symbol) → is_classless x ≡ true → (constructs classes others : ℕ) (name other : EndName) (tokens : List Lexeme) → reads x (at_most constructs classes name) tokens ≡ reads x (at_most constructs others other) tokens }
 {}

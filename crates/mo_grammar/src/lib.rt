@@ -9,15 +9,20 @@
 mod fault;
 mod laws;
 mod printed;
+mod reading;
 mod token_code;
 
 pub use fault::Fault;
 pub use laws::{
-    beginnings_extend, first_impossible, fronts_begin, longest_spelling, one_tree, reading_ends,
-    unfinished_front,
+    beginnings_extend, classes_leave_alone, first_impossible, fronts_begin, longest_spelling,
+    one_tree, reading_ends, unfinished_front,
 };
 pub use printed::{
     arguments, class_heads, compositions, equalities, equation_lists, external_calls, imports,
     primaries,
+};
+pub use reading::{
+    Halt, Reading, are_next, flag, is, is_any, is_next, is_next_any, none_yet, past_limit,
+    place_of, rest_from, stop_at, take, take_any, token_at,
 };
 pub use token_code::code;

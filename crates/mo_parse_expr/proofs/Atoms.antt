@@ -1,13 +1,9 @@
 -- Names and numbers.
-use Rattle.std.proofs.Common.{◌≡◌, ℕ, ◌<◌, ◌≤◌, Bool, true, false, ◌&&◌, List, [], ◌∷◌, length, refl, ap, ◌∙◌, arith, ℤ, pos, Err, Result, w64, rules}
+use Rattle.std.proofs.Common.{◌≡◌, ℕ, ◌<◌, ◌≤◌, Bool, true, List, [], ◌∷◌, length, arith, ℤ, Err, Result, w64, rules}
 use Rattle.std.specs.List.{list_all}
 use Rattle.std.specs.Char.{is_ascii_digit}
 use Rattle.std.specs.Str.Parse.{digits_value, ParsesSigned}
 use Rattle.std.proofs.lemmas.Str.Parse.{IsDigitsTest, IsNumeralModel, numerals_by_value, parse_signed_digits}
-use Rattle.mo_syntax.specs.declared.expr.Expr.{Expr}
-use Rattle.mo_syntax.specs.declared.expr.Node as node
-use Rattle.mo_syntax.specs.declared.token.TokenKind.TheVariants.{Whole}
-use Rattle.mo_syntax.specs.Lexeme.{Lexeme}
 use Rattle.mo_parse_expr.specs.Sums.{Atom, name, whole, decimal, are_digits, whole_at}
 
 pub ruleset atoms = (name, whole, decimal)

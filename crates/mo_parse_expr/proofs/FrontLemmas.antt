@@ -1,10 +1,9 @@
 -- How the fronts that readers find grow.
-use Rattle.std.proofs.Common.{◌≡◌, ℕ, ◌+◌, ◌<◌, ◌≤◌, Bool, true, false, List, [], ◌∷◌, ◌++◌, length, drop, refl, ap, sym, ◌∙◌, arith, append_assoc, append-nil, subst, Option, Some, None, Result, Ok, Err, IfOk, IfNone}
+use Rattle.std.proofs.Common.{◌≡◌, Bool, false, List, [], ◌∷◌, ◌++◌, refl, ap, sym, ◌∙◌, append_assoc, append-nil, subst, Option, Some, None, Result, Ok, Err, IfOk, IfNone}
 use Rattle.mo_syntax.specs.declared.expr.Expr.{Expr}
 use Rattle.mo_syntax.specs.declared.expr.TermOf.{TermOf}
 use Rattle.mo_syntax.specs.declared.expr.FactorOf.{FactorOf}
 use Rattle.mo_syntax.specs.declared.place.Place.{Place}
-use Rattle.mo_syntax.specs.declared.token.TokenKind.TheVariants.{Operator}
 use Rattle.mo_syntax.specs.Lexeme.{Lexeme}
 use Rattle.mo_parse_expr.specs.Sums.{Atom, Factors, none as no_factors, times, Product, product, Sign, plus, minus, Terms, none as no_terms, more, Sum, unsigned, signed, Times, Plus, Minus, multiplied, term_of, product_tree, sum_tree, NoSum}
 use Rattle.mo_parse_expr.specs.Fronts.{BeginsFactor, NoFactor, ReadsFactors, ReadsProduct, NoProduct, ReadsTerm, ReadsTerms, ReadsSum, Ends, IsSignAt}

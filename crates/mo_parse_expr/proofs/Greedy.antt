@@ -1,13 +1,12 @@
 -- What is read up to where it cannot go on is the longest, and the only one.
-use Rattle.std.proofs.Common.{◌≡◌, ℕ, ◌+◌, ◌<◌, ◌≤◌, Bool, true, false, List, [], ◌∷◌, ◌++◌, length, refl, ap, sym, ◌∙◌, arith, append_assoc, subst, length-append, ◌⊎◌, inl, inr}
+use Rattle.std.proofs.Common.{◌≡◌, ℕ, ◌+◌, ◌≤◌, Bool, false, List, ◌∷◌, ◌++◌, length, refl, ap, sym, ◌∙◌, arith, append_assoc, subst, length-append, ◌⊎◌, inl, inr}
 use Rattle.mo_syntax.specs.declared.expr.Expr.{Expr}
 use Rattle.mo_syntax.specs.declared.expr.TermOf.{TermOf}
 use Rattle.mo_syntax.specs.declared.expr.FactorOf.{FactorOf}
-use Rattle.mo_syntax.specs.declared.token.TokenKind.{TokenKind}
-use Rattle.mo_syntax.specs.declared.token.TokenKind.TheVariants.{Ident, Whole, Decimal, Operator}
+use Rattle.mo_syntax.specs.declared.token.TokenKind.TheVariants.{Operator}
 use Rattle.mo_syntax.specs.Lexeme.{Lexeme}
-use Rattle.mo_parse_expr.specs.Sums.{Atom, name, whole, decimal, Factors, none as no_factors, times, Product, product, Sign, plus, minus, Terms, none as no_terms, more, Sum, unsigned, signed, Times, Plus, Minus, multiplied, term_of, product_tree, sum_tree, IsLongestSum}
-use Rattle.mo_parse_expr.specs.Fronts.{BeginsFactor, NoFactor, ReadsFactors, ReadsProduct, NoProduct, NoTerm, Ends}
+use Rattle.mo_parse_expr.specs.Sums.{Atom, name, whole, decimal, Factors, none as no_factors, times, Product, product, Sign, plus, minus, Terms, none as no_terms, more, Sum, unsigned, signed, Times, product_tree, sum_tree, IsLongestSum}
+use Rattle.mo_parse_expr.specs.Fronts.{NoFactor, NoProduct, NoTerm, Ends}
 
 -- ---- atoms and signs
 

@@ -1,3 +1,5 @@
 pub mod Atoms
 pub mod Greedy
 pub mod FrontLemmas
+pub mod ArgumentLoops
+pub mod Values

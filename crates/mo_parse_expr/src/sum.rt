@@ -276,7 +276,7 @@ fn sum(alloc: Global, tokens: &[Token], at: usize) -> Result<Option<(Expr, usize
 /// How deep the expression stands, `_nest`, plays no part, since nothing nests in these expressions.
 ///
 /// Breaks rule 6 at the token `at` where no sum begins there. `NoMemory` is the only other answer.
-pub fn expression(
+pub fn longest_sum(
     alloc: Global,
     tokens: &[Token],
     at: usize,
@@ -300,7 +300,7 @@ pub fn expression(
 
 #[cfg(test)]
 mod tests {
-    use super::expression;
+    use super::longest_sum;
     use mo_syntax::{Expr, NoMemory, Node, Place, Stop, Token, TokenKind, nodes};
     use std::alloc::Global;
 
@@ -354,7 +354,7 @@ mod tests {
         if at >= tokens.len() {
             return Ok((0, 0, 0));
         }
-        let (found, end) = expression(alloc, tokens.as_slice(), at, 0)?;
+        let (found, end) = longest_sum(alloc, tokens.as_slice(), at, 0)?;
         Ok((end, nodes(&found), terms(&found)))
     }
 

@@ -1,4 +1,4 @@
-use Rattle.std.proofs.Common.{◌≡◌, ◌≤◌, ◌-◌, length}
+use Rattle.std.proofs.Common.{◌≤◌, ◌-◌, length}
 use Rattle.mo_parse_expr.specs.Sums.{from}
 use Rattle.mo_parse_expr.proofs.FrontLemmas.{FactorsSoFar}
 use Rattle.mo_parse_expr.proofs.sum.factors.Given as goal

@@ -1,4 +1,4 @@
-use Rattle.std.proofs.Common.{◌≡◌, ◌≤◌, ◌-◌, length}
+use Rattle.std.proofs.Common.{◌≤◌, ◌-◌, length}
 use Rattle.mo_parse_expr.specs.Sums.{from}
 use Rattle.mo_parse_expr.specs.Fronts.{NoFactor, ReadsTerms}
 use Rattle.mo_parse_expr.proofs.sum.terms.Given as goal

@@ -1,6 +1,6 @@
 -- What is read up to where a sum ends is the longest.
 use Rattle.mo_parse_expr.proofs.Greedy.{ended_sum}
-use Rattle.mo_parse_expr.proofs.sum.expression.Goals as goal
+use Rattle.mo_parse_expr.proofs.sum.longest_sum.Goals as goal
 
 pub returns-in-Some-clause-longest : goal.returns-in-Some-clause-longest
 returns-in-Some-clause-longest c =
