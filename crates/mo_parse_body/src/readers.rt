@@ -7,6 +7,6 @@ pub use crate::equations::equation;
 pub use crate::modifications::{
     annotation, class_modification, comment, constraint, declaration, short_body,
 };
-pub use crate::parts::{Declaration, component};
+pub use crate::parts::{Declaration, component, first_place, flag};
 pub use crate::prefixes::{class_prefixes, component_prefix, strings};
 pub use crate::statements::{statement, statements};
