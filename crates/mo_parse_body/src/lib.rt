@@ -6,11 +6,7 @@
 #![tactic(auto)]
 
 mod call;
-mod equations;
-mod modifications;
 mod parts;
-mod prefixes;
 pub mod readers;
-mod statements;
 
 pub use call::{class_mod, equation_item, statement};

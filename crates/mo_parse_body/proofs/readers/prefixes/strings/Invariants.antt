@@ -6,7 +6,7 @@ use Rattle.mo_grammar.specs.Forms.{behind}
 use Rattle.mo_grammar.specs.Classes.{strings}
 use Rattle.mo_grammar.specs.Language.{whole_limits, reads_form}
 use Rattle.mo_parse_body.proofs.Untraced.{untraced}
-use Rattle.mo_parse_body.proofs.prefixes.strings.Given as goal
+use Rattle.mo_parse_body.proofs.readers.prefixes.strings.Given as goal
 
 abbrev pub invariant-loop-rest : goal.invariant-loop-rest
 invariant-loop-rest l = record {

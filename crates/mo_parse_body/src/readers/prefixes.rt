@@ -6,7 +6,8 @@ ghost use Rattle.mo_grammar.specs.Grammar.{token, made};
 ghost use Rattle.mo_grammar.specs.Forms.{optional, behind};
 ghost use Rattle.mo_grammar.specs.ClassTrees.{vary_of, way_of, kind_of, kinded, way_or_neither, vary_or_free, is_code};
 ghost use Rattle.mo_grammar.specs.Classes.{strings as strings_form, prefix, class_prefixes as class_prefixes_form};
-ghost use Rattle.mo_grammar.specs.Reading.{read};
+ghost use Rattle.mo_grammar.specs.Reading.{read, next_in, first_codes};
+ghost use Rattle.mo_grammar.specs.Tables.{tables};
 ghost use Rattle.mo_grammar.specs.Language.{whole_limits, reads_form};
 ghost use Rattle.mo_grammar.specs.Answers.{Gives, with_rest};
 ghost use Rattle.mo_parse_body.specs.Parts.{class_words as class_words_form, word_pure, word_operator};
@@ -159,6 +160,30 @@ fn way(token: &Token) -> Causal
     } else {
         Causal::Output
     }
+}
+
+/// Whether the prefixes of a class begin with the next token.
+pub fn begins_class(tokens: &[Token]) -> bool
+    ensures { result ≡ next_in (first_codes tables.starts class_prefixes_form) (lexemes tokens.now) }
+{
+    is_next_any(
+        tokens,
+        &[
+            Keyword(keywords::PARTIAL),
+            Keyword(keywords::CLASS),
+            Keyword(keywords::MODEL),
+            Keyword(keywords::RECORD),
+            Keyword(keywords::BLOCK),
+            Keyword(keywords::CONNECTOR),
+            Keyword(keywords::TYPE),
+            Keyword(keywords::PACKAGE),
+            Keyword(keywords::FUNCTION),
+            Keyword(keywords::EXPANDABLE),
+            Keyword(keywords::PURE),
+            Keyword(keywords::IMPURE),
+            Keyword(keywords::OPERATOR),
+        ],
+    )
 }
 
 /// The words that say which kind of class is defined.

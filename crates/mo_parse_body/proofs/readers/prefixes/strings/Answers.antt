@@ -6,7 +6,7 @@ use Rattle.mo_grammar.specs.Grammar.{token}
 use Rattle.mo_grammar.specs.Forms.{behind}
 use Rattle.mo_grammar.specs.Language.{whole_limits}
 use Rattle.mo_parse_body.proofs.Untraced.{untraced_turn}
-use Rattle.mo_parse_body.proofs.prefixes.strings.Goals as goal
+use Rattle.mo_parse_body.proofs.readers.prefixes.strings.Goals as goal
 
 pub loop-rest-preserved : goal.loop-rest-preserved
 loop-rest-preserved c = record {
