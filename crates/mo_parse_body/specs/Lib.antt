@@ -1,0 +1,4 @@
+pub mod EquationParts
+pub mod Parts
+pub mod Seen
+pub mod StatementParts
