@@ -6,3 +6,4 @@ pub mod Offsets
 pub mod Given
 pub mod Gathered
 pub mod Model
+pub mod Reasons

@@ -1,3 +1,2 @@
 pub mod Raising
-pub mod Reasons
 pub mod Ranks

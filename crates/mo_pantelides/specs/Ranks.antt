@@ -2,7 +2,7 @@
 use Rattle.std.specs.Prelude.{◌≡◌, ◌≢◌, ℕ, ◌+◌, ◌-◌, ◌<◌, ◌≤◌, ◌⊎◌, List, length}
 use Rattle.std.proofs.Common.{get_or, set}
 use Rattle.mo_incidence.specs.Signature.{Signature, equations}
-use Rattle.mo_pantelides.specs.Reasons.{IsCandidate, IsWithin, LeadsTo}
+use Rattle.mo_incidence.specs.Reasons.{IsCandidate, IsWithin, LeadsTo}
 
 -- the equations in the queue have marks, one more than a number of steps that is enough, and these ascend
 pub record IsRanking (g : Signature) (c d t : ℕ → ℕ) (q mk : List ℕ) (tail : ℕ) : Type 0 where

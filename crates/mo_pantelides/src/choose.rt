@@ -7,7 +7,7 @@ ghost use Rattle.mo_incidence.specs.Assignment.{Mentions, Assigns, CoversAll};
 ghost use Rattle.mo_incidence.specs.Offsets.{IsTight, IsLeast, by_place, by_number};
 ghost use Rattle.mo_match.specs.Searching.{IsMatching};
 ghost use Rattle.mo_match.specs.Results.{IsMadeFor};
-ghost use Rattle.mo_pantelides.specs.Reasons.{listed_reasons, AreReasonsOf};
+ghost use Rattle.mo_incidence.specs.Reasons.{listed_reasons, AreReasonsOf};
 ghost use Rattle.mo_pantelides.specs.Ranks.{IsChosenTo, Considers};
 
 use crate::ranks::{find_ranks, led_by};

@@ -1,6 +1,6 @@
 use Rattle.std.proofs.Common.{◌≡◌, ◌≤◌, ◌-◌, vec_capacity, slice_index}
 use Rattle.mo_incidence.specs.Offsets.{by_place}
-use Rattle.mo_pantelides.specs.Reasons.{listed_reasons}
+use Rattle.mo_incidence.specs.Reasons.{listed_reasons}
 use Rattle.mo_pantelides.proofs.choose.list_reasons.Given as goal
 
 abbrev pub invariant-loop-i : goal.invariant-loop-i
