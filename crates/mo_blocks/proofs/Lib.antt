@@ -11,3 +11,4 @@ pub mod Arranging
 pub mod Dummying
 pub mod Unique
 pub mod Staging
+pub mod Counts

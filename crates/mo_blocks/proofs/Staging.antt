@@ -1,13 +1,9 @@
 -- Laws of dummies and states.
-use Rattle.std.proofs.Common.{◌≡◌, ℕ, zero, suc, ◌+◌, ◌-◌, ◌<◌, ◌≤◌, inl, inr, true, false, nat_lt, if◌then◌else◌, List, [], ◌∷◌, length, map, refl, sym, ap, ◌∙◌, arith, length-append}
-use Rattle.std.proofs.lemmas.List.{length-map}
-use Rattle.std.proofs.lemmas.Bool.{cases_lt}
-use Rattle.std.proofs.lemmas.Bool.Decides.{nat_tests}
-use Rattle.mo_incidence.specs.Counting.{sum_below}
+use Rattle.std.proofs.Common.{◌≡◌, ℕ, suc, ◌+◌, ◌-◌, ◌<◌, ◌≤◌, List, refl, sym, ap, ◌∙◌, arith}
 use Rattle.mo_incidence.specs.Signature.{Signature, equations, row_len, unknown_at, order_at}
 use Rattle.mo_incidence.specs.Assignment.{Assigns, CoversAll}
 use Rattle.mo_incidence.specs.Offsets.{IsTight, by_place, by_number}
-use Rattle.mo_blocks.specs.Dummies.{differentiated, dummy, dummies_to, greatest, dummies_of, HaveOwn, AreHighest, AreFollowed}
+use Rattle.mo_blocks.specs.Dummies.{dummy, greatest, dummies_of, HaveOwn, AreHighest, AreFollowed}
 use Rattle.mo_blocks.proofs.Dummying.{dummies-only, dummies-all, greatest-above, tight-low}
 
 tight-entry : (g : Signature) (c d : ℕ → ℕ) (i j : ℕ) → IsTight g c d i j → (k : ℕ) × (k < row_len g i) × (unknown_at g i k ≡ j) × (d j ≡ c i + order_at g i k)
@@ -58,58 +54,6 @@ module _ (g : Signature) (c d t : ℕ → ℕ) (assigns : Assigns (IsTight g c d
         let same : dummy d t s a.0 ≡ (j, suc k, s, e) = tuple-same (t a.0) j (d (t a.0) - s + 1) (suc k) s (suc a.0) e j_is order e_is in
         rw same at there;
   }
-
--- the smaller of two numbers
-at_most : ℕ → ℕ → ℕ
-at_most s x = if nat_lt s x then s else x
-
-at-low : (s x : ℕ) → s < x → at_most s x ≡ s
-unfolding at_most
-at-low s x l = let yes : nat_lt s x ≡ true = grind (arith, nat_tests) in rw yes refl
-
-at-high : (s x : ℕ) → x ≤ s → at_most s x ≡ x
-unfolding at_most
-at-high s x l = let no_lt : nat_lt s x ≡ false = grind (arith, nat_tests) in rw no_lt refl
-
-length-diff : (c : ℕ → ℕ) (s m : ℕ) → length (differentiated c (suc s) m) + sum_below (λ i. at_most s (c i)) m ≡ sum_below (λ i. at_most (suc s) (c i)) m
-length-diff c s zero = refl
-length-diff c s (suc n) =
-    let rest = length-diff c s n in
-    elim (cases_lt (c n) (suc s)) [
-      | inl l ↦
-          let yes : nat_lt (c n) (suc s) ≡ true = grind (arith, nat_tests) in
-          let a = at-high s (c n) (omega arith) in
-          let b = at-high (suc s) (c n) (omega arith) in
-          rw yes (omega arith)
-      | inr l ↦
-          let no_lt : nat_lt (c n) (suc s) ≡ false = grind (arith, nat_tests) in
-          let a = at-low s (c n) (omega arith) in
-          let b : at_most (suc s) (c n) ≡ suc s = elim (cases_lt (suc s) (c n)) [
-            | inl h ↦ at-low (suc s) (c n) h
-            | inr h ↦ at-high (suc s) (c n) h ∙ (omega arith)
-          ] in
-          let size = length-append (differentiated c (suc s) n) (n ∷ []) in
-          rw no_lt (omega arith)
-    ]
-
-sum-none : (c : ℕ → ℕ) (n : ℕ) → 0 ≡ sum_below (λ i. at_most 0 (c i)) n
-sum-none c zero = refl
-sum-none c (suc n) =
-    let rest = sum-none c n in
-    let none : at_most 0 (c n) ≡ 0 = elim (cases_lt 0 (c n)) [
-      | inl h ↦ at-low 0 (c n) h
-      | inr h ↦ at-high 0 (c n) h ∙ (omega arith)
-    ] in
-    omega arith
-
-length-dummies : (c d t : ℕ → ℕ) (m s : ℕ) → length (dummies_to c d t m s) ≡ sum_below (λ i. at_most s (c i)) m
-length-dummies c d t m zero = sum-none c m
-length-dummies c d t m (suc s) =
-    let rest = length-dummies c d t m s in
-    let more = length-diff c s m in
-    let size = length-append (dummies_to c d t m s) (map (dummy d t (suc s)) (differentiated c (suc s) m)) in
-    let mapped = length-map (differentiated c (suc s) m) (dummy d t (suc s)) in
-    omega arith
 
 -- the chosen dummies are those of the definition
 pub chosen-here : (c d pairs c' d' pairs' : List ℕ) (m : ℕ) (chosen : List (ℕ × ℕ × ℕ × ℕ)) → c' ≡ c → d' ≡ d → pairs' ≡ pairs
