@@ -326,13 +326,6 @@ module _ (g : Signature) (c d t : ℕ → ℕ) (sources targets class leader pla
       let size : length leader' ≡ equations g = rw (← l_is) at (leaders-here.size ∙ classes-here.size) in
       rw (← size, ← l_is) arranged
 
-  pub found-known : (i : ℕ) → i < length leader → (get_or leader i 0 < length leader) × (0 < get_or placed (get_or leader i 0) 0) × (get_or placed (get_or leader i 0) 0 ≤ count)
-  found-known i l =
-      let inside : i < equations g = omega (arith, leaders-here.size, classes-here.size) in
-      let known = place-known (Needs g c d t) (equations g) sources targets class leader placed count (needs-graph g c d t sources targets sound needs)
-      (edge-need g c d t sources targets sound needs) (need-edge g c d t sources targets sound needs) classes-here leaders-here arranged-here i inside in
-      (omega (arith, leaders-here.low i (omega (arith, leaders-here.size))), known.0, known.1)
-
   pub found-in-order : (bs : List (List ℕ)) (leader'' placed'' : List ℕ) → leader'' ≡ leader → placed'' ≡ placed → length bs ≡ count
       → ((b : ℕ) → b < count → get_or bs b [] ≡ members (λ i. get_or placed'' (get_or leader'' i 0) 0) (suc b) (length leader''))
       → AreBlocksInOrder g c d t bs

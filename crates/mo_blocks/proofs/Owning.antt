@@ -1,12 +1,12 @@
 -- Who has which unknown, and the needs that are listed.
-use Rattle.std.proofs.Common.{◌≡◌, ◌≢◌, ℕ, suc, ◌+◌, ◌-◌, ◌<◌, ◌≤◌, inl, inr, List, [], ◌∷◌, ◌++◌, length, get_or, set, refl, sym, ap, ◌∙◌, arith, length-append, length-set, get_or-set_other, get_or-set_same}
+use Rattle.std.proofs.Common.{◌≡◌, ◌≢◌, ℕ, suc, ◌+◌, ◌-◌, ◌<◌, ◌≤◌, inl, inr, List, [], ◌∷◌, ◌++◌, length, get_or, set, refl, sym, ap, ◌∙◌, arith, length-append, get_or-set_other, get_or-set_same}
 use Rattle.std.proofs.Math.Seq.{get_or-append_seam}
 use Rattle.std.proofs.Math.ListN.{get_or-append}
 use Rattle.std.proofs.lemmas.Bool.Decides.{eqb_tells}
 use Rattle.mo_incidence.specs.Signature.{Signature, equations, row_len, unknown_at, order_at, entries, IsSound}
 use Rattle.mo_incidence.specs.Offsets.{IsTight, by_place, by_number}
 use Rattle.mo_blocks.specs.Blocks.{Needs}
-use Rattle.mo_blocks.specs.Edges.{Edge, IsGraph, IsNeed, AreOwners, HasNeeds, AreLeaders, IsLeadingTo}
+use Rattle.mo_blocks.specs.Edges.{Edge, IsGraph, IsNeed, AreOwners, HasNeeds}
 use Rattle.mo_blocks.proofs.Chains.{below-next, edge-where}
 
 pub owners-begin : (t : ℕ → ℕ) (owner : List ℕ) → ((j : ℕ) → get_or owner j 0 ≡ 0) → AreOwners 0 t owner
@@ -154,60 +154,6 @@ module _ (g : Signature) (c d t : ℕ → ℕ) (sources targets : List ℕ) (sou
 
   pub need-edge : (i k : ℕ) → Needs g c d t i k → Edge sources targets i k
   need-edge i k need = let at = tight-need g c d t i k need.tight in to.rows i at.0 k need.from at.1 need.to at.2
-
-pub leading-begin : (class first leader : List ℕ) → length leader ≡ length class → ((q : ℕ) → get_or first q 0 ≡ 0) → IsLeadingTo class first leader 0
-leading-begin class first leader size clear = record { size = size; least = λ q some. absurd (some (clear q)); led = λ i l. absurd (omega arith) }
-
-module _ (class first leader : List ℕ) (i : ℕ) (to : IsLeadingTo class first leader i) (il : i < length class) where
-  l-at : (x : ℕ) → get_or (set leader i x) i 0 ≡ x
-  l-at x = get_or-set_same leader i x 0 (omega (arith, to.size))
-
-  l-off : (x r : ℕ) → r < i → get_or (set leader i x) r 0 ≡ get_or leader r 0
-  l-off x r l = let ne : r ≢ i = omega arith in get_or-set_other leader i r x 0 ne
-
-  pub leading-old : get_or first (get_or class i 0) 0 ≢ 0 → IsLeadingTo class first (set leader i (get_or first (get_or class i 0) 0 - 1)) (i + 1)
-  leading-old some = record {
-    size = length-set leader i (get_or first (get_or class i 0) 0 - 1) ∙ to.size;
-    least = λ q known. let there = to.least q known in (omega (arith, there.0), there.1);
-    led = λ r l. elim (below-next r i l) [
-      | inl h ↦ rw (l-off (get_or first (get_or class i 0) 0 - 1) r h) (to.led r h)
-      | inr e ↦ rw (e, l-at) (omega arith, omega (arith, (to.least (get_or class i 0) some).0))
-    ];
-  }
-
-  pub leading-new : get_or class i 0 < length first → get_or first (get_or class i 0) 0 ≡ 0 → IsLeadingTo class (set first (get_or class i 0) (i + 1)) (set leader i i) (i + 1)
-  leading-new room none =
-      let at : get_or (set first (get_or class i 0) (i + 1)) (get_or class i 0) 0 ≡ i + 1 = get_or-set_same first (get_or class i 0) (i + 1) 0 room in
-      record {
-        size = length-set leader i i ∙ to.size;
-        least = λ q. elim (eqb_tells q (get_or class i 0)) [
-          | inl e ↦ rw (e.1, at) (λ some. let back' : i + 1 - 1 ≡ i = omega arith in (omega arith, rw back' refl))
-          | inr e ↦ rw (get_or-set_other first (get_or class i 0) q (i + 1) 0 e.1) (λ known. let there = to.least q known in (omega (arith, there.0), there.1))
-        ];
-        led = λ r l. elim (below-next r i l) [
-          | inl h ↦
-              let was = to.led r h in
-              let ne : get_or class r 0 ≢ get_or class i 0 = λ e. (let clash : get_or first (get_or class r 0) 0 ≡ 0 = rw e none in omega (arith, was.0)) in
-              rw (l-off i r h, get_or-set_other first (get_or class i 0) (get_or class r 0) (i + 1) 0 ne) was
-          | inr e ↦ rw (e, l-at, at) (omega arith, omega arith)
-        ];
-      }
-
-pub leading-over : (class first leader : List ℕ) (n : ℕ) → n ≡ length class → IsLeadingTo class first leader n → AreLeaders class leader
-leading-over class first leader n all to = record {
-  size = to.size;
-  low = λ i l. (to.led i (omega arith)).1;
-  same = λ i l.
-      let here = (to.led i (omega arith)).0 in
-      let there = (to.least (get_or class i 0) (omega arith)).1 in
-      let back : get_or first (get_or class i 0) 0 - 1 ≡ get_or leader i 0 = omega arith in
-      rw back at there;
-  one = λ i k l l' same.
-      let here = (to.led i (omega arith)).0 in
-      let there = (to.led k (omega arith)).0 in
-      let both : suc (get_or leader i 0) ≡ suc (get_or leader k 0) = sym here ∙ ap (λ (z : ℕ). get_or first z 0) same ∙ there in
-      omega arith;
-}
 
 -- the unknown at which an equation is tight is known
 pub tight-known : (g : Signature) (c d : ℕ → ℕ) (i j : ℕ) → IsSound g → i < equations g → IsTight g c d i j → (0 < j) × (j ≤ g.unknowns)
