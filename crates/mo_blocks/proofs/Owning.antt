@@ -1,5 +1,5 @@
 -- Who has which unknown, and the needs that are listed.
-use Rattle.std.proofs.Common.{◌≡◌, ◌≢◌, ℕ, suc, ◌+◌, ◌-◌, ◌<◌, ◌≤◌, inl, inr, List, [], ◌∷◌, ◌++◌, length, get_or, set, refl, sym, ap, ◌∙◌, arith, length-append, get_or-set_other, get_or-set_same}
+use Rattle.std.proofs.Common.{◌≡◌, ◌≢◌, ℕ, suc, ◌+◌, ◌-◌, ◌<◌, ◌≤◌, inl, inr, List, [], ◌∷◌, ◌++◌, length, get_or, set, sym, ap, ◌∙◌, arith, length-append, get_or-set_other, get_or-set_same}
 use Rattle.std.proofs.Math.Seq.{get_or-append_seam}
 use Rattle.std.proofs.Math.ListN.{get_or-append}
 use Rattle.std.proofs.lemmas.Bool.Decides.{eqb_tells}
@@ -8,9 +8,6 @@ use Rattle.mo_incidence.specs.Offsets.{IsTight, by_place, by_number}
 use Rattle.mo_blocks.specs.Blocks.{Needs}
 use Rattle.mo_blocks.specs.Edges.{Edge, IsGraph, IsNeed, AreOwners, HasNeeds}
 use Rattle.mo_blocks.proofs.Chains.{below-next, edge-where}
-
-pub owners-begin : (t : ℕ → ℕ) (owner : List ℕ) → ((j : ℕ) → get_or owner j 0 ≡ 0) → AreOwners 0 t owner
-owners-begin t owner clear = record { owned = λ i l. absurd (omega arith); owns = λ j x e. absurd (omega (arith, clear j)) }
 
 pub owners-next : (i : ℕ) (t : ℕ → ℕ) (owner : List ℕ) → AreOwners i t owner → t i < length owner → ((r : ℕ) → r < i → t r ≢ t i) → AreOwners (i + 1) t (set owner (t i) (i + 1))
 owners-next i t owner to l apart =
@@ -40,25 +37,6 @@ module _ (g : Signature) (c d pairs owner : List ℕ) (i k u order : ℕ) (is_u 
   pub need-some : (get_or d (u - 1) 0 ≡ get_or c i 0 + order) → (x : ℕ) → get_or owner u 0 ≡ suc x → (x < equations g) × IsNeed g (by_place c) (by_number d) (by_place pairs) i k x
   need-some tight x e = let there = owners.owns u x e in (there.0, record { unknown = sym u-is ∙ sym there.1; tight = rw (there.1, ← order-is) tight })
 
-  pub need-only : (x : ℕ) → get_or owner u 0 ≡ suc x → (v : ℕ) → v < equations g → IsNeed g (by_place c) (by_number d) (by_place pairs) i k v → v ≡ x
-  need-only x e v l need =
-      let here : get_or owner (get_or pairs v 0) 0 ≡ suc v = owners.owned v l in
-      let same : u ≡ get_or pairs v 0 = u-is ∙ need.unknown in
-      let both : suc v ≡ suc x = sym here ∙ ap (λ (z : ℕ). get_or owner z 0) (sym same) ∙ e in
-      omega arith
-
-  pub need-loose : (get_or d (u - 1) 0 ≢ get_or c i 0 + order) → (v : ℕ) → v < equations g → IsNeed g (by_place c) (by_number d) (by_place pairs) i k v → ⊥
-  need-loose slack v l need =
-      let same : u ≡ get_or pairs v 0 = u-is ∙ need.unknown in
-      slack (rw (same, order-is) need.tight)
-
-  pub need-unowned : get_or owner u 0 ≡ 0 → (v : ℕ) → v < equations g → IsNeed g (by_place c) (by_number d) (by_place pairs) i k v → ⊥
-  need-unowned none v l need =
-      let here : get_or owner (get_or pairs v 0) 0 ≡ suc v = owners.owned v l in
-      let same : u ≡ get_or pairs v 0 = u-is ∙ need.unknown in
-      let clash : get_or owner (get_or pairs v 0) 0 ≡ 0 = rw same at none in
-      omega arith
-
 edge-kept : (sources targets : List ℕ) (a b u v : ℕ) → length targets ≡ length sources → Edge sources targets u v → Edge (sources ++ a ∷ []) (targets ++ b ∷ []) u v
 unfolding Edge
 edge-kept sources targets a b u v size edge =
@@ -78,15 +56,6 @@ need-tight g c d t i k x l need = (k, l, need.unknown, need.tight)
 tight-need : (g : Signature) (c d t : ℕ → ℕ) (i x : ℕ) → IsTight g c d i (t x) → (k : ℕ) × (k < row_len g i) × IsNeed g c d t i k x
 unfolding IsTight
 tight-need g c d t i x tight = (tight.0, tight.1, record { unknown = tight.2; tight = tight.3 })
-
-pub needs-begin : (g : Signature) (c d t : ℕ → ℕ) → HasNeeds g c d t [] [] 0 0
-needs-begin g c d t = record {
-  same = refl;
-  only = λ x l. absurd (omega arith);
-  rows = λ r k v l. absurd (omega arith);
-  here = λ k v l. absurd (omega arith);
-  few = omega arith;
-}
 
 module _ (g : Signature) (c d t : ℕ → ℕ) (sources targets : List ℕ) (i k : ℕ) (il : i < equations g) (kl : k < row_len g i) (to : HasNeeds g c d t sources targets i k) where
   pub needs-push : (x : ℕ) → (x < equations g) × IsNeed g c d t i k x → ((v : ℕ) → v < equations g → IsNeed g c d t i k v → v ≡ x)
@@ -110,30 +79,6 @@ module _ (g : Signature) (c d t : ℕ → ℕ) (sources targets : List ℕ) (i k
         ];
         few = omega (arith, to.few);
       }
-
-  pub needs-pass : ((v : ℕ) → v < equations g → IsNeed g c d t i k v → ⊥) → HasNeeds g c d t sources targets i (k + 1)
-  needs-pass none = record {
-    same = to.same;
-    only = to.only;
-    rows = to.rows;
-    here = λ n v nl vl there. elim (below-next n k nl) [
-      | inl h ↦ to.here n v h vl there
-      | inr e ↦ absurd (none v vl (rw e at there))
-    ];
-    few = omega (arith, to.few);
-  }
-
-pub needs-row : (g : Signature) (c d t : ℕ → ℕ) (sources targets : List ℕ) (i k : ℕ) → k ≡ row_len g i → HasNeeds g c d t sources targets i k → HasNeeds g c d t sources targets (i + 1) 0
-needs-row g c d t sources targets i k all to = record {
-  same = to.same;
-  only = to.only;
-  rows = λ r n v rl nl vl there. elim (below-next r i rl) [
-    | inl h ↦ to.rows r n v h nl vl there
-    | inr e ↦ rw e (to.here n v (let here : n < row_len g i = rw e at nl in omega arith) vl (rw e at there))
-  ];
-  here = λ n v nl. absurd (omega arith);
-  few = let next : i + 1 ≡ suc i = omega arith in rw next (omega (arith, to.few));
-}
 
 pub row-back : (g : Signature) (i n : ℕ) → n ≡ row_len g (i + 1 - 1) → n ≡ row_len g i
 row-back g i n e = let there : i + 1 - 1 ≡ i = omega arith in rw there at e
