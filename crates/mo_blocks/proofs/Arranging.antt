@@ -6,7 +6,7 @@ use Rattle.mo_incidence.specs.Signature.{Signature, equations, IsSound}
 use Rattle.mo_blocks.specs.Blocks.{Needs, Leads, IsBlock, IsPlaced, IsReady, IsNext, IsInOrder, AreBlocksInOrder}
 use Rattle.mo_blocks.specs.Edges.{Edge, IsGraph, AreLeaders, AreReplaced, HasNeeds}
 use Rattle.mo_blocks.specs.Gathering.{AreClasses}
-use Rattle.mo_blocks.specs.Placing.{IsOrdered, IsLed, HasRanks}
+use Rattle.mo_blocks.specs.Placing.{IsOrdered, HasRanks}
 use Rattle.mo_blocks.specs.Listing.{members, IsArranged}
 use Rattle.mo_blocks.proofs.Chains.{edge-at, edge-where}
 use Rattle.mo_blocks.proofs.Owning.{needs-graph, edge-need, need-edge}
@@ -51,10 +51,6 @@ module _ (Need : ℕ → ℕ → Type 0) (m : ℕ) (sources targets class leader
   place-in i l =
       let some = arranged.ordered.all (get_or leader i 0) (leader-in i l) (leader-leads i l) in
       (omega arith, (ordered.placed_in (get_or leader i 0) some).0)
-
-  pub place-known : (i : ℕ) → i < m → (0 < get_or placed (get_or leader i 0) 0) × (get_or placed (get_or leader i 0) 0 ≤ count)
-  unfolding place
-  place-known = place-in
 
   place-order : (i q : ℕ) → i < m → place i ≡ suc q → get_or arranged.order q 0 ≡ get_or leader i 0
   unfolding place
@@ -276,40 +272,6 @@ ranks-rise m sources targets class leader new_sources new_targets graph classes 
       rw (rs.at x xs, rt.at x xt, leaders.same (get_or sources x 0) sm, leaders.same (get_or targets x 0) tm) (omega (arith, falls, apart));
 }
 
-leader-again : (class leader : List ℕ) → AreLeaders class leader → (i : ℕ) → i < length class → get_or leader (get_or leader i 0) 0 ≡ get_or leader i 0
-leader-again class leader leaders i l = leaders.one (get_or leader i 0) i (omega (arith, leaders.low i l)) l (leaders.same i l)
-
-pub edges-led : (m : ℕ) (sources targets class leader new_sources new_targets : List ℕ) → IsGraph m sources targets → length class ≡ m → AreLeaders class leader
-    → AreReplaced leader sources new_sources → AreReplaced leader targets new_targets → IsLed new_sources new_targets leader
-edges-led m sources targets class leader new_sources new_targets graph size leaders rs rt = record {
-  source = λ x l.
-      let xs : x < length sources = omega (arith, rs.size) in
-      let sm : get_or sources x 0 < length class = omega (arith, graph.source x xs) in
-      rw (rs.at x xs) (leader-again class leader leaders (get_or sources x 0) sm);
-  target = λ x l.
-      let xs : x < length sources = omega (arith, rs.size) in
-      let xt : x < length targets = omega (arith, graph.same) in
-      let tm : get_or targets x 0 < length class = omega (arith, graph.target x xs) in
-      rw (rt.at x xt) (leader-again class leader leaders (get_or targets x 0) tm);
-}
-
-pub edges-graph : (m : ℕ) (sources targets class leader new_sources new_targets : List ℕ) → IsGraph m sources targets → length class ≡ m → AreLeaders class leader
-    → AreReplaced leader sources new_sources → AreReplaced leader targets new_targets → IsGraph m new_sources new_targets
-edges-graph m sources targets class leader new_sources new_targets graph size leaders rs rt = record {
-  same = rt.size ∙ graph.same ∙ sym rs.size;
-  source = λ x l.
-      let xs : x < length sources = omega (arith, rs.size) in
-      let sm : get_or sources x 0 < m = graph.source x xs in
-      rw (rs.at x xs) (omega (arith, leaders.low (get_or sources x 0) (omega arith)));
-  target = λ x l.
-      let xs : x < length sources = omega (arith, rs.size) in
-      let xt : x < length targets = omega (arith, graph.same) in
-      let tm : get_or targets x 0 < m = graph.target x xs in
-      rw (rt.at x xt) (omega (arith, leaders.low (get_or targets x 0) (omega arith)));
-  few = omega (arith, graph.few, rs.size);
-  small = graph.small;
-}
-
 -- what the steps give together
 module _ (g : Signature) (c d t : ℕ → ℕ) (sources targets class leader placed : List ℕ) (count m : ℕ) (sound : IsSound g) (m_is : m ≡ equations g)
     (needs : HasNeeds g c d t sources targets (equations g) 0)
@@ -325,13 +287,6 @@ module _ (g : Signature) (c d t : ℕ → ℕ) (sources targets class leader pla
   arranged-here =
       let size : length leader' ≡ equations g = rw (← l_is) at (leaders-here.size ∙ classes-here.size) in
       rw (← size, ← l_is) arranged
-
-  pub found-known : (i : ℕ) → i < length leader → (get_or leader i 0 < length leader) × (0 < get_or placed (get_or leader i 0) 0) × (get_or placed (get_or leader i 0) 0 ≤ count)
-  found-known i l =
-      let inside : i < equations g = omega (arith, leaders-here.size, classes-here.size) in
-      let known = place-known (Needs g c d t) (equations g) sources targets class leader placed count (needs-graph g c d t sources targets sound needs)
-      (edge-need g c d t sources targets sound needs) (need-edge g c d t sources targets sound needs) classes-here leaders-here arranged-here i inside in
-      (omega (arith, leaders-here.low i (omega (arith, leaders-here.size))), known.0, known.1)
 
   pub found-in-order : (bs : List (List ℕ)) (leader'' placed'' : List ℕ) → leader'' ≡ leader → placed'' ≡ placed → length bs ≡ count
       → ((b : ℕ) → b < count → get_or bs b [] ≡ members (λ i. get_or placed'' (get_or leader'' i 0) 0) (suc b) (length leader''))

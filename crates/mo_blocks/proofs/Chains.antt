@@ -17,9 +17,6 @@ leads-on (Leads.step e p) q = Leads.step e (leads-on p q)
 pub leads-edge : {E : ℕ → ℕ → Type 0} {u v w : ℕ} → Leads E u v → E v w → Leads E u w
 leads-edge p e = leads-on p (Leads.step e Leads.none)
 
-pub leads-one : {E : ℕ → ℕ → Type 0} {u v : ℕ} → E u v → Leads E u v
-leads-one e = Leads.step e Leads.none
-
 pub edge-at : (sources targets : List ℕ) (x : ℕ) → x < length sources → Edge sources targets (get_or sources x 0) (get_or targets x 0)
 unfolding Edge
 edge-at sources targets x l = (x, l, refl, refl)

@@ -1,5 +1,5 @@
 -- Dummies and states.
-use Rattle.std.proofs.Common.{◌≡◌, ℕ, zero, suc, ◌+◌, ◌-◌, ◌<◌, ◌≤◌, inl, inr, Bool, true, false, nat_lt, List, [], ◌∷◌, ◌++◌, length, get_or, map, Contains, refl, sym, ap, ◌∙◌, arith}
+use Rattle.std.proofs.Common.{◌≡◌, ℕ, zero, suc, ◌+◌, ◌-◌, ◌<◌, ◌≤◌, inl, inr, Bool, true, false, nat_lt, List, [], ◌∷◌, ◌++◌, length, get_or, map, Contains, refl, ap, ◌∙◌, arith}
 use Rattle.std.proofs.lemmas.List.{append-nil}
 use Rattle.std.proofs.lemmas.List.Elements.{Contains-append_left, Contains-append_right, Contains-append_cases}
 use Rattle.std.proofs.lemmas.Bool.{cases_lt, false≢true}
@@ -270,7 +270,7 @@ has-equation g c d t sound square assigns all u l =
       there.0,
       there.1,
       is,
-      λ x xl same. assigns.apart x there.0 xl there.1 (all x xl) (same ∙ sym is),
+      λ x xl same. assigns.apart x there.0 xl there.1 (all x xl) (omega (arith, same, is)),
       rw is at (tight-low g c d there.0 (t there.0) (assigns.allowed there.0 there.1 (all there.0 there.1))),
     )
 

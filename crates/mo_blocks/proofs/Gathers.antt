@@ -204,50 +204,7 @@ module _ (m : ℕ) (sources targets order : List ℕ) (count : ℕ) (finished : 
     done = to.done;
   }
 
-  -- the class is whole
-  pub gather-close : base < tail → head ≡ tail → IsGathered m sources targets order count class queue tail tail tail (number + 1) t
-  gather-close some whole = record {
-    class_all = to.class_all;
-    queue_all = to.queue_all;
-    room = to.room;
-    queue_in = to.queue_in;
-    listed = to.listed;
-    bounds = (omega arith, omega arith);
-    few = (omega arith, omega (arith, to.few));
-    early = λ s l. omega (arith, number-top (get_or queue s 0));
-    late = λ s l l'. absurd (omega arith);
-    shut = λ s u l. to.shut s u (omega arith);
-    falls = to.falls;
-    together = to.together;
-    home = λ s l l'. absurd (omega arith);
-    near = λ s l l'. absurd (omega arith);
-    done = to.done;
-  }
-
-  -- between two classes, the next vertex of the order is in one already
-  pub gather-skip : (left : ℕ) → t ≡ left + 1 → base ≡ tail → get_or class (get_or order left 0) 0 ≢ 0 → IsGathered m sources targets order count class queue tail tail tail number left
-  gather-skip left next between known = record {
-    class_all = to.class_all;
-    queue_all = to.queue_all;
-    room = to.room;
-    queue_in = to.queue_in;
-    listed = to.listed;
-    bounds = (omega arith, omega arith);
-    few = (omega (arith, to.few), omega (arith, to.few));
-    early = λ s l. to.early s (omega arith);
-    late = λ s l l'. absurd (omega arith);
-    shut = λ s u l. to.shut s u (omega (arith, to.bounds));
-    falls = to.falls;
-    together = to.together;
-    home = λ s l l'. absurd (omega arith);
-    near = λ s l l'. absurd (omega arith);
-    done = λ a la l. elim (eqb_tells a left) [
-      | inl e ↦ rw e.1 known
-      | inr e ↦ to.done a (omega (arith, e.1)) l
-    ];
-  }
-
-  -- or it begins one
+  -- between two classes, the next vertex of the order begins one
   module _ (left : ℕ) (next : t ≡ left + 1) (inside : left < count) (between : base ≡ tail) (free : get_or class (get_or order left 0) 0 ≡ 0) where
     pub gather-root : IsGathered m sources targets order count (set class (get_or order left 0) number) (set queue tail (get_or order left 0)) tail tail (tail + 1) number left
     gather-root =
@@ -382,10 +339,6 @@ module _ (sources targets last before order : List ℕ) (count : ℕ) (class que
   module _ (seen : (y : ℕ) → y < length targets → get_or targets y 0 ≡ v → cursor ≤ y → get_or class (get_or sources y 0) 0 ≢ 0) where
     seen-from : (y : ℕ) → y < length targets → get_or targets y 0 ≡ v → cursor - 1 + 1 ≤ y → get_or class (get_or sources y 0) 0 ≢ 0
     seen-from y l same le = seen y l same (omega arith)
-
-    pub row-seen : get_or class (get_or sources (cursor - 1) 0) 0 ≢ 0
-        → (y : ℕ) → y < length targets → get_or targets y 0 ≡ v → get_or before (cursor - 1) 0 ≤ y → get_or class (get_or sources y 0) 0 ≢ 0
-    row-seen known = seen-next sources targets last before class class threads v (cursor - 1) place-in key seen-from (λ u some. some) known
 
     pub row-taken : get_or class (get_or sources (cursor - 1) 0) 0 ≡ 0
         → (y : ℕ) → y < length targets → get_or targets y 0 ≡ v → get_or before (cursor - 1) 0 ≤ y → get_or (set class (get_or sources (cursor - 1) 0) number) (get_or sources y 0) 0 ≢ 0

@@ -1,5 +1,5 @@
 -- Lists that are held in vectors.
-use Rattle.std.proofs.Common.{◌≡◌, ◌≢◌, ℕ, zero, suc, ◌+◌, ◌-◌, ◌<◌, inl, inr, List, [], ◌∷◌, ◌++◌, length, get_or, set, take, refl, sym, ap, ◌∙◌, arith, length-set, get_or-set_same, get_or-set_other}
+use Rattle.std.proofs.Common.{◌≡◌, ◌≢◌, ℕ, zero, suc, ◌+◌, ◌-◌, ◌<◌, inl, inr, List, [], ◌∷◌, ◌++◌, length, get_or, set, take, refl, sym, ap, ◌∙◌, arith, get_or-set_same, get_or-set_other}
 use Rattle.std.proofs.Math.Seq.{take-append_seam}
 use Rattle.std.specs.Prelude.{Vec}
 use Rattle.std.specs.Global.{Global}
@@ -27,9 +27,6 @@ put-same xs b v l = rw (numbers-set xs b v) (get_or-set_same (numbers_in xs) b v
 
 pub put-other : (xs : List (Vec ℕ Global)) (b k : ℕ) (v : Vec ℕ Global) → k ≢ b → get_or (numbers_in (set xs b v)) k [] ≡ get_or (numbers_in xs) k []
 put-other xs b k v ne = rw (numbers-set xs b v) (get_or-set_other (numbers_in xs) b k v.items [] ne)
-
-pub put-count : (xs : List (Vec ℕ Global)) (b : ℕ) (v : Vec ℕ Global) → length (numbers_in (set xs b v)) ≡ length (numbers_in xs)
-put-count xs b v = rw (numbers-set xs b v) (length-set (numbers_in xs) b v.items)
 
 -- one number more was put
 module _ (xs ys : List (List ℕ)) (f : ℕ → ℕ) (i count : ℕ) (to : (b : ℕ) → b < count → get_or xs b [] ≡ members f (suc b) i)

@@ -1,16 +1,13 @@
 -- Who has which unknown, and the needs that are listed.
-use Rattle.std.proofs.Common.{◌≡◌, ◌≢◌, ℕ, suc, ◌+◌, ◌-◌, ◌<◌, ◌≤◌, inl, inr, List, [], ◌∷◌, ◌++◌, length, get_or, set, refl, sym, ap, ◌∙◌, arith, length-append, length-set, get_or-set_other, get_or-set_same}
+use Rattle.std.proofs.Common.{◌≡◌, ◌≢◌, ℕ, suc, ◌+◌, ◌-◌, ◌<◌, ◌≤◌, inl, inr, List, [], ◌∷◌, ◌++◌, length, get_or, set, sym, ap, ◌∙◌, arith, length-append, get_or-set_other, get_or-set_same}
 use Rattle.std.proofs.Math.Seq.{get_or-append_seam}
 use Rattle.std.proofs.Math.ListN.{get_or-append}
 use Rattle.std.proofs.lemmas.Bool.Decides.{eqb_tells}
 use Rattle.mo_incidence.specs.Signature.{Signature, equations, row_len, unknown_at, order_at, entries, IsSound}
 use Rattle.mo_incidence.specs.Offsets.{IsTight, by_place, by_number}
 use Rattle.mo_blocks.specs.Blocks.{Needs}
-use Rattle.mo_blocks.specs.Edges.{Edge, IsGraph, IsNeed, AreOwners, HasNeeds, AreLeaders, IsLeadingTo}
+use Rattle.mo_blocks.specs.Edges.{Edge, IsGraph, IsNeed, AreOwners, HasNeeds}
 use Rattle.mo_blocks.proofs.Chains.{below-next, edge-where}
-
-pub owners-begin : (t : ℕ → ℕ) (owner : List ℕ) → ((j : ℕ) → get_or owner j 0 ≡ 0) → AreOwners 0 t owner
-owners-begin t owner clear = record { owned = λ i l. absurd (omega arith); owns = λ j x e. absurd (omega (arith, clear j)) }
 
 pub owners-next : (i : ℕ) (t : ℕ → ℕ) (owner : List ℕ) → AreOwners i t owner → t i < length owner → ((r : ℕ) → r < i → t r ≢ t i) → AreOwners (i + 1) t (set owner (t i) (i + 1))
 owners-next i t owner to l apart =
@@ -40,25 +37,6 @@ module _ (g : Signature) (c d pairs owner : List ℕ) (i k u order : ℕ) (is_u 
   pub need-some : (get_or d (u - 1) 0 ≡ get_or c i 0 + order) → (x : ℕ) → get_or owner u 0 ≡ suc x → (x < equations g) × IsNeed g (by_place c) (by_number d) (by_place pairs) i k x
   need-some tight x e = let there = owners.owns u x e in (there.0, record { unknown = sym u-is ∙ sym there.1; tight = rw (there.1, ← order-is) tight })
 
-  pub need-only : (x : ℕ) → get_or owner u 0 ≡ suc x → (v : ℕ) → v < equations g → IsNeed g (by_place c) (by_number d) (by_place pairs) i k v → v ≡ x
-  need-only x e v l need =
-      let here : get_or owner (get_or pairs v 0) 0 ≡ suc v = owners.owned v l in
-      let same : u ≡ get_or pairs v 0 = u-is ∙ need.unknown in
-      let both : suc v ≡ suc x = sym here ∙ ap (λ (z : ℕ). get_or owner z 0) (sym same) ∙ e in
-      omega arith
-
-  pub need-loose : (get_or d (u - 1) 0 ≢ get_or c i 0 + order) → (v : ℕ) → v < equations g → IsNeed g (by_place c) (by_number d) (by_place pairs) i k v → ⊥
-  need-loose slack v l need =
-      let same : u ≡ get_or pairs v 0 = u-is ∙ need.unknown in
-      slack (rw (same, order-is) need.tight)
-
-  pub need-unowned : get_or owner u 0 ≡ 0 → (v : ℕ) → v < equations g → IsNeed g (by_place c) (by_number d) (by_place pairs) i k v → ⊥
-  need-unowned none v l need =
-      let here : get_or owner (get_or pairs v 0) 0 ≡ suc v = owners.owned v l in
-      let same : u ≡ get_or pairs v 0 = u-is ∙ need.unknown in
-      let clash : get_or owner (get_or pairs v 0) 0 ≡ 0 = rw same at none in
-      omega arith
-
 edge-kept : (sources targets : List ℕ) (a b u v : ℕ) → length targets ≡ length sources → Edge sources targets u v → Edge (sources ++ a ∷ []) (targets ++ b ∷ []) u v
 unfolding Edge
 edge-kept sources targets a b u v size edge =
@@ -78,15 +56,6 @@ need-tight g c d t i k x l need = (k, l, need.unknown, need.tight)
 tight-need : (g : Signature) (c d t : ℕ → ℕ) (i x : ℕ) → IsTight g c d i (t x) → (k : ℕ) × (k < row_len g i) × IsNeed g c d t i k x
 unfolding IsTight
 tight-need g c d t i x tight = (tight.0, tight.1, record { unknown = tight.2; tight = tight.3 })
-
-pub needs-begin : (g : Signature) (c d t : ℕ → ℕ) → HasNeeds g c d t [] [] 0 0
-needs-begin g c d t = record {
-  same = refl;
-  only = λ x l. absurd (omega arith);
-  rows = λ r k v l. absurd (omega arith);
-  here = λ k v l. absurd (omega arith);
-  few = omega arith;
-}
 
 module _ (g : Signature) (c d t : ℕ → ℕ) (sources targets : List ℕ) (i k : ℕ) (il : i < equations g) (kl : k < row_len g i) (to : HasNeeds g c d t sources targets i k) where
   pub needs-push : (x : ℕ) → (x < equations g) × IsNeed g c d t i k x → ((v : ℕ) → v < equations g → IsNeed g c d t i k v → v ≡ x)
@@ -111,30 +80,6 @@ module _ (g : Signature) (c d t : ℕ → ℕ) (sources targets : List ℕ) (i k
         few = omega (arith, to.few);
       }
 
-  pub needs-pass : ((v : ℕ) → v < equations g → IsNeed g c d t i k v → ⊥) → HasNeeds g c d t sources targets i (k + 1)
-  needs-pass none = record {
-    same = to.same;
-    only = to.only;
-    rows = to.rows;
-    here = λ n v nl vl there. elim (below-next n k nl) [
-      | inl h ↦ to.here n v h vl there
-      | inr e ↦ absurd (none v vl (rw e at there))
-    ];
-    few = omega (arith, to.few);
-  }
-
-pub needs-row : (g : Signature) (c d t : ℕ → ℕ) (sources targets : List ℕ) (i k : ℕ) → k ≡ row_len g i → HasNeeds g c d t sources targets i k → HasNeeds g c d t sources targets (i + 1) 0
-needs-row g c d t sources targets i k all to = record {
-  same = to.same;
-  only = to.only;
-  rows = λ r n v rl nl vl there. elim (below-next r i rl) [
-    | inl h ↦ to.rows r n v h nl vl there
-    | inr e ↦ rw e (to.here n v (let here : n < row_len g i = rw e at nl in omega arith) vl (rw e at there))
-  ];
-  here = λ n v nl. absurd (omega arith);
-  few = let next : i + 1 ≡ suc i = omega arith in rw next (omega (arith, to.few));
-}
-
 pub row-back : (g : Signature) (i n : ℕ) → n ≡ row_len g (i + 1 - 1) → n ≡ row_len g i
 row-back g i n e = let there : i + 1 - 1 ≡ i = omega arith in rw there at e
 
@@ -154,60 +99,6 @@ module _ (g : Signature) (c d t : ℕ → ℕ) (sources targets : List ℕ) (sou
 
   pub need-edge : (i k : ℕ) → Needs g c d t i k → Edge sources targets i k
   need-edge i k need = let at = tight-need g c d t i k need.tight in to.rows i at.0 k need.from at.1 need.to at.2
-
-pub leading-begin : (class first leader : List ℕ) → length leader ≡ length class → ((q : ℕ) → get_or first q 0 ≡ 0) → IsLeadingTo class first leader 0
-leading-begin class first leader size clear = record { size = size; least = λ q some. absurd (some (clear q)); led = λ i l. absurd (omega arith) }
-
-module _ (class first leader : List ℕ) (i : ℕ) (to : IsLeadingTo class first leader i) (il : i < length class) where
-  l-at : (x : ℕ) → get_or (set leader i x) i 0 ≡ x
-  l-at x = get_or-set_same leader i x 0 (omega (arith, to.size))
-
-  l-off : (x r : ℕ) → r < i → get_or (set leader i x) r 0 ≡ get_or leader r 0
-  l-off x r l = let ne : r ≢ i = omega arith in get_or-set_other leader i r x 0 ne
-
-  pub leading-old : get_or first (get_or class i 0) 0 ≢ 0 → IsLeadingTo class first (set leader i (get_or first (get_or class i 0) 0 - 1)) (i + 1)
-  leading-old some = record {
-    size = length-set leader i (get_or first (get_or class i 0) 0 - 1) ∙ to.size;
-    least = λ q known. let there = to.least q known in (omega (arith, there.0), there.1);
-    led = λ r l. elim (below-next r i l) [
-      | inl h ↦ rw (l-off (get_or first (get_or class i 0) 0 - 1) r h) (to.led r h)
-      | inr e ↦ rw (e, l-at) (omega arith, omega (arith, (to.least (get_or class i 0) some).0))
-    ];
-  }
-
-  pub leading-new : get_or class i 0 < length first → get_or first (get_or class i 0) 0 ≡ 0 → IsLeadingTo class (set first (get_or class i 0) (i + 1)) (set leader i i) (i + 1)
-  leading-new room none =
-      let at : get_or (set first (get_or class i 0) (i + 1)) (get_or class i 0) 0 ≡ i + 1 = get_or-set_same first (get_or class i 0) (i + 1) 0 room in
-      record {
-        size = length-set leader i i ∙ to.size;
-        least = λ q. elim (eqb_tells q (get_or class i 0)) [
-          | inl e ↦ rw (e.1, at) (λ some. let back' : i + 1 - 1 ≡ i = omega arith in (omega arith, rw back' refl))
-          | inr e ↦ rw (get_or-set_other first (get_or class i 0) q (i + 1) 0 e.1) (λ known. let there = to.least q known in (omega (arith, there.0), there.1))
-        ];
-        led = λ r l. elim (below-next r i l) [
-          | inl h ↦
-              let was = to.led r h in
-              let ne : get_or class r 0 ≢ get_or class i 0 = λ e. (let clash : get_or first (get_or class r 0) 0 ≡ 0 = rw e none in omega (arith, was.0)) in
-              rw (l-off i r h, get_or-set_other first (get_or class i 0) (get_or class r 0) (i + 1) 0 ne) was
-          | inr e ↦ rw (e, l-at, at) (omega arith, omega arith)
-        ];
-      }
-
-pub leading-over : (class first leader : List ℕ) (n : ℕ) → n ≡ length class → IsLeadingTo class first leader n → AreLeaders class leader
-leading-over class first leader n all to = record {
-  size = to.size;
-  low = λ i l. (to.led i (omega arith)).1;
-  same = λ i l.
-      let here = (to.led i (omega arith)).0 in
-      let there = (to.least (get_or class i 0) (omega arith)).1 in
-      let back : get_or first (get_or class i 0) 0 - 1 ≡ get_or leader i 0 = omega arith in
-      rw back at there;
-  one = λ i k l l' same.
-      let here = (to.led i (omega arith)).0 in
-      let there = (to.led k (omega arith)).0 in
-      let both : suc (get_or leader i 0) ≡ suc (get_or leader k 0) = sym here ∙ ap (λ (z : ℕ). get_or first z 0) same ∙ there in
-      omega arith;
-}
 
 -- the unknown at which an equation is tight is known
 pub tight-known : (g : Signature) (c d : ℕ → ℕ) (i j : ℕ) → IsSound g → i < equations g → IsTight g c d i j → (0 < j) × (j ≤ g.unknowns)

@@ -76,26 +76,6 @@ module _ (sources targets last before leader order placed waits : List ℕ) (cou
           (λ _. has-new s s' (get_or sources (cursor - 1) 0) up),
     )
 
--- between two vertices it does not matter which one was the last
-pub placing-settled : (m : ℕ) (sources targets leader order placed waits : List ℕ) (count : ℕ) (Ready : ℕ → Type 0) (awake other : ℕ)
-    → Places m sources targets leader order placed waits count Ready awake 0 → Places m sources targets leader order placed waits count Ready other 0
-placing-settled m sources targets leader order placed waits count Ready awake other (open_at, to) = (
-  open_at,
-  record {
-    order_all = to.order_all;
-    placed_all = to.placed_all;
-    waits_all = to.waits_all;
-    ordered = to.ordered;
-    waits_are = to.waits_are;
-    open_one = λ x l is.
-        let one = to.open_one x l is in
-        (one.0, one.1, elim one.2 [ inl w ↦ inl w | inr w ↦ absurd (omega (arith, w.1)) ]);
-    open_none = λ x l none differ. ((to.open_none x l none differ).0, λ _. omega arith);
-    ready_in = to.ready_in;
-    ready_all = to.ready_all;
-  },
-)
-
 -- the least ready vertex is placed
 module _ (sources targets last before leader order placed waits : List ℕ) (count : ℕ) (s s' : BTreeSet ℕ)
     (graph : IsGraph (length placed) sources targets) (threads : AreThreaded targets last before)

@@ -119,12 +119,6 @@ module _ (m : ℕ) (sources targets path mark cursor order : List ℕ) (top coun
       },
     )
 
-    pub enter-seen : get_or (set mark w 1) w 0 ≢ 0
-    enter-seen = rw m-at (omega arith)
-
-    pub enter-kept : (v : ℕ) → get_or mark v 0 ≢ 0 → get_or (set mark w 1) v 0 ≢ 0
-    enter-kept = m-kept
-
   -- one edge was looked at
   module _ (last before : List ℕ) (threads : AreThreaded sources last before) (v x : ℕ) (vm : v < m) (here : get_or cursor v 0 ≡ suc x)
       (seen : get_or mark (get_or targets x 0) 0 ≢ 0) where
