@@ -14,3 +14,6 @@ mod trees;
 
 pub use call::expression;
 pub use sum::longest_sum;
+
+#[cfg(test)]
+mod tests;

@@ -5,29 +5,12 @@ ghost use Rattle.mo_parse_expr.specs.Sums.{from, Times, Plus, Minus, product_tre
 ghost use Rattle.mo_parse_expr.specs.Fronts.{BeginsFactor, NoFactor, ReadsFactors, ReadsProduct, NoProduct, ReadsTerm, NoTerm, ReadsTerms, Ends, ReadsSum, IsSignAt};
 
 use crate::atom::atom;
+use mo_grammar::{rest_from, token_at};
 use mo_syntax::{
     Boxed, Broken, Expr, Factor, List, NoMemory, Node, Place, Rule, Stop, Term, Token, TokenKind,
 };
 use mo_tables::operators;
 use std::alloc::Global;
-
-/// The tokens from a place on.
-fn rest_from<'t, 'a>(tokens: &'t [Token<'a>], at: usize) -> &'t [Token<'a>]
-    requires { at ≤ length tokens.now }
-    ensures { result.now ≡ drop at tokens.now }
-{
-    let (_, rest) = tokens.split_at(at);
-    rest
-}
-
-/// The token at a place, None past the end.
-fn token_at<'t, 'a>(tokens: &'t [Token<'a>], at: usize) -> Option<&'t Token<'a>>
-    ensures found { IfSome result (λ t. from tokens.now at ≡ lexeme t.now ∷ from tokens.now (at + 1)) }
-    ensures within { IfSome result (λ t. at < length tokens.now) }
-    ensures none { IfNone result (from tokens.now at ≡ []) }
-{
-    tokens.get(at)
-}
 
 fn is_times(kind: TokenKind) -> bool
     ensures yes { result ≡ true → kind ≡ Times }
