@@ -8,28 +8,11 @@ ghost use Rattle.mo_front.specs.Form.{IsReal, IsEnding, IsModel};
 ghost use Rattle.mo_front.specs.Reading.{BeginsDeclaration, NoDeclaration, ReadsDeclarations, StandsAt, StandsNot, BeginsEquation, NoEquation, ReadsEquations, ReadsSection, BeginsModel, NoHeader};
 
 use crate::model::{NameAt, OneModel};
+use mo_grammar::{rest_from, token_at};
 use mo_parse_expr::longest_sum;
 use mo_syntax::{Equation, EquationKind, Expr, List, NoMemory, Stop, Text, Token, TokenKind};
 use mo_tables::{keywords, operators};
 use std::alloc::Global;
-
-/// The tokens from a place on.
-fn rest_from<'t, 'a>(tokens: &'t [Token<'a>], at: usize) -> &'t [Token<'a>]
-    requires { at ≤ length tokens.now }
-    ensures { result.now ≡ drop at tokens.now }
-{
-    let (_, rest) = tokens.split_at(at);
-    rest
-}
-
-/// The token at a place, None past the end.
-fn token_at<'t, 'a>(tokens: &'t [Token<'a>], at: usize) -> Option<&'t Token<'a>>
-    ensures found { IfSome result (λ t. from tokens.now at ≡ lexeme t.now ∷ from tokens.now (at + 1)) }
-    ensures within { IfSome result (λ t. at < length tokens.now) }
-    ensures none { IfNone result (from tokens.now at ≡ []) }
-{
-    tokens.get(at)
-}
 
 fn is_kind(token: &Token, wanted: TokenKind) -> bool
     ensures yes { result ≡ true → (lexeme token.now).kind ≡ wanted }
