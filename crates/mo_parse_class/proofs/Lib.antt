@@ -1,0 +1,11 @@
+pub mod Apart
+pub mod ClassLimits
+pub mod Compositions
+pub mod ElementLists
+pub mod Ended
+pub mod ImportNames
+pub mod Mapped
+pub mod Members
+pub mod Passed
+pub mod SectionLists
+pub mod WholeFiles

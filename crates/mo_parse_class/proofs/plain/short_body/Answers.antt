@@ -1,0 +1,10 @@
+-- It is read in a class as outside of all.
+use Rattle.std.proofs.Common.{refl}
+use Rattle.mo_grammar.specs.Lexeme.{lexemes}
+use Rattle.mo_grammar.specs.Grammar.{either, this_name}
+use Rattle.mo_grammar.specs.Classes.{enumeration, short_class}
+use Rattle.mo_parse_class.proofs.Apart.{within}
+use Rattle.mo_parse_class.proofs.plain.short_body.Goals as goal
+
+pub returns-clause-reads : goal.returns-clause-reads
+returns-clause-reads c = within (either enumeration short_class) refl _ c.short_body.result c.args.left.constructs c.args.left.classes (this_name c.args.left.name.now) (lexemes c.args.tokens.now) c.short_body.ensures.reads

@@ -1,0 +1,10 @@
+-- It is read in a class as outside of all.
+use Rattle.std.proofs.Common.{refl}
+use Rattle.mo_grammar.specs.Lexeme.{lexemes}
+use Rattle.mo_grammar.specs.Grammar.{this_name}
+use Rattle.mo_grammar.specs.Classes.{statements}
+use Rattle.mo_parse_class.proofs.Apart.{within}
+use Rattle.mo_parse_class.proofs.plain.statements.Goals as goal
+
+pub returns-clause-reads : goal.returns-clause-reads
+returns-clause-reads c = within statements refl _ c.statements.result c.args.left.constructs c.args.left.classes (this_name c.args.left.name.now) (lexemes c.args.tokens.now) c.statements.ensures.reads

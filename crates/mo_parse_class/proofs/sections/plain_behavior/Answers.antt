@@ -1,0 +1,13 @@
+-- Of the sections none but these is left.
+use Rattle.std.proofs.Common.{sym, subst}
+use Rattle.mo_grammar.specs.Lexeme.{lexemes}
+use Rattle.mo_grammar.specs.Symbols.{Sections}
+use Rattle.mo_grammar.specs.Language.{reads}
+use Rattle.mo_grammar.specs.Answers.{Gives}
+use Rattle.mo_parse_class.specs.Left.{limits}
+use Rattle.mo_parse_class.specs.Parts.{with_items}
+use Rattle.mo_parse_class.proofs.SectionLists.{plain_is}
+use Rattle.mo_parse_class.proofs.sections.plain_behavior.Goals as goal
+
+pub returns-clause-reads : goal.returns-clause-reads
+returns-clause-reads c = subst (λ o. Gives (λ x. with_items x.0 (reads Sections (limits c.args.left) (lexemes x.1.now))) c.behavior.result o) (sym (plain_is (limits c.args.left) (lexemes c.args.tokens.now) c.requires.begins c.requires.not_public c.requires.not_protected c.requires.not_initial)) c.behavior.ensures.reads

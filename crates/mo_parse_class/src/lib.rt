@@ -1,0 +1,18 @@
+//! Classes and files read from tokens.
+//!
+//! - [`stored_definition`]: the tree of a whole file, or the first token that cannot stand where it stands, with its rule.
+#![tactic(auto)]
+
+mod call;
+mod classes;
+mod components;
+mod elements;
+mod endings;
+mod file;
+mod imports;
+mod left;
+mod parts;
+mod plain;
+mod sections;
+
+pub use call::stored_definition;
