@@ -7,6 +7,8 @@ ghost use Rattle.mo_grammar.specs.Symbols.{ClassMods, EquationItems, StatementIt
 ghost use Rattle.mo_grammar.specs.Language.{IsLongestFront, Spells};
 ghost use Rattle.mo_grammar.specs.Answers.{from, limits_at, IsLongestSpelling, IsAnswer, IsRefusal};
 
+use crate::readers;
+use mo_grammar::{Halt, rest_from, stop_at};
 use mo_syntax::{Equation, Mods, Statement, Stop, Token};
 use std::alloc::Global;
 
@@ -31,7 +33,12 @@ pub fn class_mod(
     ensures later { IfOk result (λ x. at < x.1) }
     ensures within { IfOk result (λ x. x.1 ≤ length tokens.now) }
 {
-    Err(Stop::NoMemory)
+    let rest = rest_from(tokens, at);
+    match readers::class_modification(alloc, 128u32.saturating_sub(nest), rest) {
+        Ok((value, behind)) => Ok((value, tokens.len() - behind.len())),
+        Err(Halt::Stuck(fault, behind)) => Err(stop_at(fault, behind)),
+        Err(Halt::NoMemory) => Err(Stop::NoMemory),
+    }
 }
 
 /// Reads the equation that stands at `at`, `nest` constructs deep, and answers it with the place behind it.
@@ -54,7 +61,12 @@ pub fn equation_item(
     ensures later { IfOk result (λ x. at < x.1) }
     ensures within { IfOk result (λ x. x.1 ≤ length tokens.now) }
 {
-    Err(Stop::NoMemory)
+    let rest = rest_from(tokens, at);
+    match readers::equation(alloc, 128u32.saturating_sub(nest), rest) {
+        Ok((value, behind)) => Ok((value, tokens.len() - behind.len())),
+        Err(Halt::Stuck(fault, behind)) => Err(stop_at(fault, behind)),
+        Err(Halt::NoMemory) => Err(Stop::NoMemory),
+    }
 }
 
 /// Reads the statement that stands at `at`, `nest` constructs deep, and answers it with the place behind it.
@@ -77,5 +89,10 @@ pub fn statement(
     ensures later { IfOk result (λ x. at < x.1) }
     ensures within { IfOk result (λ x. x.1 ≤ length tokens.now) }
 {
-    Err(Stop::NoMemory)
+    let rest = rest_from(tokens, at);
+    match readers::statement(alloc, 128u32.saturating_sub(nest), rest) {
+        Ok((value, behind)) => Ok((value, tokens.len() - behind.len())),
+        Err(Halt::Stuck(fault, behind)) => Err(stop_at(fault, behind)),
+        Err(Halt::NoMemory) => Err(Stop::NoMemory),
+    }
 }

@@ -1,55 +1,25 @@
-//! Small parts of declarations, and the tools that readers share.
+//! Small parts of trees.
 ghost use Rattle.std.specs.Prelude.{◌≡◌, ◌≤◌, [], ◌∷◌, length, IfOk};
-ghost use Rattle.mo_grammar.specs.Lexeme.{lexeme, lexemes, code_of_kind};
+ghost use Rattle.mo_grammar.specs.Lexeme.{lexeme, lexemes};
 ghost use Rattle.mo_grammar.specs.Codes.{equals};
 ghost use Rattle.mo_grammar.specs.Grammar.{symbol};
 ghost use Rattle.mo_grammar.specs.Symbols.{Expressions, Subscripts};
 ghost use Rattle.mo_grammar.specs.ClassTrees.{component_of, mods_or_none, binding_or_none, modifies, argument_of as argument_tree, argument_element, path_of};
 ghost use Rattle.mo_grammar.specs.Trees.{or_nothing};
-ghost use Rattle.mo_grammar.specs.Forms.{optional, behind, flag as flag_form};
-ghost use Rattle.mo_grammar.specs.Reading.{place_of_first};
-ghost use Rattle.mo_grammar.specs.Language.{whole_limits, limits_inside, reads_form};
+ghost use Rattle.mo_grammar.specs.Forms.{optional, behind};
+ghost use Rattle.mo_grammar.specs.Language.{limits_inside, reads_form};
 ghost use Rattle.mo_grammar.specs.Answers.{Gives, with_rest};
 ghost use Rattle.mo_parse_body.specs.Seen.{declared, argued};
 
-use mo_grammar::{Reading, code, is_next, take};
+use mo_grammar::{Reading, is_next, take};
 use mo_parse_expr::readers::{expression, subscripts};
 use mo_syntax::TokenKind::Operator;
 use mo_syntax::{
     Argument, ArgumentOf, Component, ComponentOf, Element, ElementFlags, Expr, Give, List, Mods,
-    ModsOf, NoMemory, Path, Place, Prefix, Reference, Text, Token, TokenKind, What,
+    ModsOf, NoMemory, Path, Place, Prefix, Reference, Text, Token, What,
 };
 use mo_tables::operators;
 use std::alloc::Global;
-
-/// Whether a token of that kind stands before what is left, and the tokens behind it.
-pub fn flag<'t, 'a>(tokens: &'t [Token<'a>], wanted: TokenKind) -> (bool, &'t [Token<'a>])
-    ensures reads { reads_form (flag_form (code_of_kind wanted)) whole_limits (lexemes tokens.now) ≡ with_rest result }
-    ensures no_longer { length result.1.now ≤ length tokens.now }
-{
-    match tokens {
-        [token, rest @ ..] if code(wanted) == code(token.kind) => (true, rest),
-        _ => (false, tokens),
-    }
-}
-
-/// The place of the next token.
-pub fn first_place(tokens: &[Token]) -> Place
-    ensures { result ≡ place_of_first (lexemes tokens.now) }
-{
-    match tokens {
-        [token, ..] => token.place,
-        [] => Place { file: 0, byte: 0 },
-    }
-}
-
-/// Nothing read yet, and all tokens behind it: where a loop over items starts.
-pub fn none_yet<'t, 'a, T>(alloc: Global, tokens: &'t [Token<'a>]) -> (List<T>, &'t [Token<'a>])
-    ensures none { result.0 ≡ [] }
-    ensures all { result.1.now ≡ tokens.now }
-{
-    (List::new(alloc), tokens)
-}
 
 /// The first element and then the others.
 pub fn joined<T: Drop>(alloc: Global, first: T, more: List<T>) -> Result<List<T>, NoMemory>

@@ -13,9 +13,7 @@ mod prefixes;
 mod short_classes;
 mod when_equations;
 
-pub use crate::parts::{
-    Declaration, component, first_place, flag, modifiers_or_none, optional_subscripts,
-};
+pub use crate::parts::{Declaration, component, modifiers_or_none, optional_subscripts};
 pub use algorithms::{statement, statements};
 pub use declarations::{annotation, comment, constraint, declaration};
 pub use equations::equation;

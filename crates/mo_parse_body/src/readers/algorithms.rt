@@ -9,12 +9,11 @@ ghost use Rattle.mo_grammar.specs.Language.{limits_inside, reads, reads_form};
 ghost use Rattle.mo_grammar.specs.Answers.{Gives, with_rest};
 ghost use Rattle.mo_parse_body.specs.StatementParts.{statement_line as statement_line_form, from_outputs, enclosed_outputs as enclosed_outputs_form, from_reference};
 
-use crate::parts::{first_place, none_yet};
 use crate::readers::declarations::comment;
 use crate::readers::nested_statements::{
     for_statement, if_statement, when_statement, while_statement,
 };
-use mo_grammar::{Reading, is_next, is_next_any, past_limit, take};
+use mo_grammar::{Reading, is_next, is_next_any, none_yet, past_limit, place_of, take};
 use mo_parse_expr::readers::{call_arguments, expression, outputs, reference};
 use mo_syntax::TokenKind::{Ident, Keyword, Operator};
 use mo_syntax::{Expr, List, Statement, StatementKind, StatementOf, Token};
@@ -32,7 +31,7 @@ pub fn statement<'t, 'a>(
     ensures reads { Gives with_rest result (reads StatementItems (limits_inside left) (lexemes tokens.now)) }
     ensures shorter { IfOk result (λ x. length x.1.now < length tokens.now) }
 {
-    let place = first_place(tokens);
+    let place = place_of(tokens);
     let (what, rest) = statement_kind(alloc, left, tokens)?;
     let rest = comment(alloc, left, rest)?;
     Ok((StatementOf { place, what }, rest))

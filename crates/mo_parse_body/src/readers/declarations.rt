@@ -47,7 +47,7 @@ fn argument_component<'t, 'a>(
     ensures reads { Gives (λ x. read (declares x.0) (lexemes x.1.now)) result (reads_form component1 (limits_inside left) (lexemes tokens.now)) }
     ensures shorter { IfOk result (λ x. length x.1.now < length tokens.now) }
 {
-    let (prefix, rest) = component_prefix(tokens);
+    let (prefix, rest) = component_prefix(tokens)?;
     let (base, rest) = type_specifier(alloc, left, rest)?;
     let (declaration, rest) = declaration(alloc, left, rest)?;
     let rest = comment(alloc, left, rest)?;

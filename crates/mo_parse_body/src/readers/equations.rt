@@ -9,11 +9,12 @@ ghost use Rattle.mo_grammar.specs.Language.{limits_inside, reads, reads_form};
 ghost use Rattle.mo_grammar.specs.Answers.{Gives, with_rest};
 ghost use Rattle.mo_parse_body.specs.EquationParts.{equation_kind as equation_kind_form, equation_line as equation_line_form, connected};
 
-use crate::parts::{first_place, none_yet};
 use crate::readers::declarations::comment;
 use crate::readers::if_equations::if_equation;
 use crate::readers::when_equations::when_equation;
-use mo_grammar::{Fault, Halt, Reading, are_next, is_next, is_next_any, past_limit, take};
+use mo_grammar::{
+    Fault, Halt, Reading, are_next, is_next, is_next_any, none_yet, past_limit, place_of, take,
+};
 use mo_parse_expr::readers::{expression, indices, reference, simple_expression};
 use mo_syntax::TokenKind::{Ident, Keyword, Operator};
 use mo_syntax::{
@@ -33,7 +34,7 @@ pub fn equation<'t, 'a>(
     ensures reads { Gives with_rest result (reads EquationItems (limits_inside left) (lexemes tokens.now)) }
     ensures shorter { IfOk result (λ x. length x.1.now < length tokens.now) }
 {
-    let place = first_place(tokens);
+    let place = place_of(tokens);
     let (what, rest) = equation_kind(alloc, left, tokens)?;
     let rest = comment(alloc, left, rest)?;
     Ok((EquationOf { place, what }, rest))

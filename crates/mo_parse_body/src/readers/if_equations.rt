@@ -9,9 +9,8 @@ ghost use Rattle.mo_grammar.specs.Language.{limits_inside, reads, reads_form};
 ghost use Rattle.mo_grammar.specs.Answers.{Gives, with_rest};
 ghost use Rattle.mo_parse_body.specs.EquationParts.{in_if, if_branch as if_branch_form, if_end as if_end_form, elseif_tail, reads_if_tail, behind_equations, behind_branch, joined_branch_else};
 
-use crate::parts::none_yet;
 use crate::readers::equations::equation_line;
-use mo_grammar::{Reading, are_next, is_next, is_next_any, past_limit, take};
+use mo_grammar::{Reading, are_next, is_next, is_next_any, none_yet, past_limit, take};
 use mo_parse_expr::readers::expression;
 use mo_syntax::TokenKind::Keyword;
 use mo_syntax::{Equation, EquationKind, Expr, List, Token};

@@ -13,12 +13,11 @@ ghost use Rattle.mo_parse_body.specs.Parts.{redeclared as redeclared_form, given
 ghost use Rattle.mo_parse_body.specs.Seen.{declares_limited, argued};
 
 use crate::parts::{
-    Argued, argument_of, element, first_place, flag, list_or_nothing, modifiers_or_none, modify,
-    named, optional_value,
+    Argued, argument_of, element, list_or_nothing, modifiers_or_none, modify, named, optional_value,
 };
 use crate::readers::declarations::{constraint, declares};
 use crate::readers::prefixes::strings;
-use mo_grammar::{Reading, is_next, is_next_any, past_limit, take, take_any};
+use mo_grammar::{Reading, flag, is_next, is_next_any, past_limit, place_of, take, take_any};
 use mo_parse_expr::readers::{expression, name};
 use mo_syntax::TokenKind::{Ident, Keyword, Operator};
 use mo_syntax::{Argument, Expr, Give, List, Mods, ModsOf, Reference, Token, What};
@@ -210,7 +209,7 @@ fn modifying<'t, 'a>(
     ensures reads { Gives (λ x. read (argued x.0) (lexemes x.1.now)) result (reads_form modifying_form (limits_inside left) (lexemes tokens.now)) }
     ensures shorter { IfOk result (λ x. length x.1.now < length tokens.now) }
 {
-    let place = first_place(tokens);
+    let place = place_of(tokens);
     let (name, rest) = name(alloc, left, tokens)?;
     let (binding, rest) = optional_modification(alloc, left, rest)?;
     let rest = strings(rest)?;

@@ -7,9 +7,9 @@ ghost use Rattle.mo_grammar.specs.Language.{limits_inside, reads_form};
 ghost use Rattle.mo_grammar.specs.Answers.{Gives, with_rest};
 ghost use Rattle.mo_parse_body.specs.StatementParts.{elseif_branch as elseif_branch_form, elsewhen_branch as elsewhen_branch_form, otherwise as otherwise_form};
 
-use crate::parts::{joined, list_or_nothing, none_yet};
+use crate::parts::{joined, list_or_nothing};
 use crate::readers::algorithms::statements;
-use mo_grammar::{Reading, is_next, past_limit, take};
+use mo_grammar::{Reading, is_next, none_yet, past_limit, take};
 use mo_parse_expr::readers::{expression, indices};
 use mo_syntax::TokenKind::Keyword;
 use mo_syntax::{Expr, List, Statement, StatementKind, Token};

@@ -13,8 +13,7 @@ ghost use Rattle.mo_grammar.specs.Answers.{Gives, with_rest};
 ghost use Rattle.mo_parse_body.specs.Parts.{class_words as class_words_form, word_pure, word_operator};
 ghost use Rattle.mo_parse_body.specs.Seen.{no_trace, maybe};
 
-use crate::parts::flag;
-use mo_grammar::{Halt, Reading, code, is_any, is_next, is_next_any, take, take_any};
+use mo_grammar::{Halt, Reading, code, flag, is_any, is_next, is_next_any, take, take_any};
 use mo_syntax::TokenKind::{Keyword, Operator, Str};
 use mo_syntax::{Causal, ClassFlags, ClassKind, Prefix, Token, TokenKind, Vary};
 use mo_tables::{keywords, operators};
@@ -70,9 +69,9 @@ fn is_kind(token: Option<Token>, wanted: TokenKind) -> bool
 }
 
 /// The type prefixes of a component. There may be none.
-pub fn component_prefix<'t, 'a>(tokens: &'t [Token<'a>]) -> (Prefix, &'t [Token<'a>])
-    ensures reads { reads_form prefix whole_limits (lexemes tokens.now) ≡ with_rest result }
-    ensures no_longer { length result.1.now ≤ length tokens.now }
+pub fn component_prefix<'t, 'a>(tokens: &'t [Token<'a>]) -> Reading<'t, 'a, Prefix>
+    ensures reads { Gives with_rest result (reads_form prefix whole_limits (lexemes tokens.now)) }
+    ensures no_longer { IfOk result (λ x. length x.1.now ≤ length tokens.now) }
 {
     let connecting = [Keyword(keywords::FLOW), Keyword(keywords::STREAM)];
     let (connects, rest) = take_optional(tokens, &connecting);
@@ -84,7 +83,7 @@ pub fn component_prefix<'t, 'a>(tokens: &'t [Token<'a>]) -> (Prefix, &'t [Token<
         vary: vary_of_option(vary),
         causal: causal_of_option(way),
     };
-    (prefix, rest)
+    Ok((prefix, rest))
 }
 
 fn vary_of_option(vary: Option<Vary>) -> Vary

@@ -9,9 +9,8 @@ ghost use Rattle.mo_grammar.specs.Language.{limits_inside, reads, reads_form};
 ghost use Rattle.mo_grammar.specs.Answers.{Gives, with_rest};
 ghost use Rattle.mo_parse_body.specs.EquationParts.{in_when, when_branch as when_branch_form, elsewhen_tail, reads_when_tail, behind_equations, behind_branch, joined_branch};
 
-use crate::parts::none_yet;
 use crate::readers::equations::equation_line;
-use mo_grammar::{Reading, are_next, is_next, past_limit, take};
+use mo_grammar::{Reading, are_next, is_next, none_yet, past_limit, take};
 use mo_parse_expr::readers::expression;
 use mo_syntax::TokenKind::Keyword;
 use mo_syntax::{Equation, EquationKind, Expr, List, Token};
