@@ -52,7 +52,7 @@ fn head<'t, 'a>(alloc: Global, left: Left, tokens: &'t [Token<'a>]) -> Reading<'
     ensures reads { Gives with_rest result (reads_form head_form (limits left.entry) (lexemes tokens.now)) }
     ensures shorter { IfOk result (λ x. length x.1.now < length tokens.now) }
 {
-    let (prefix, rest) = component_prefix(tokens);
+    let (prefix, rest) = component_prefix(tokens)?;
     let (base, rest) = type_specifier(alloc, left, rest)?;
     let (subs, rest) = optional_subscripts(alloc, left, rest)?;
     Ok(((prefix, (base, subs)), rest))
