@@ -13,9 +13,9 @@ use Rattle.mo_syntax.specs.declared.expr.Expr.{Expr}
 use Rattle.mo_syntax.specs.declared.expr.Args.{Args, out-Args, fold_out-Args}
 use Rattle.mo_syntax.specs.declared.expr.Arg.{Arg, fold_out-Arg}
 use Rattle.mo_syntax.specs.declared.expr.Arg.TheVariants.{Partial, outs-Partial}
-use Rattle.mo_syntax.specs.declared.expr.Node.{Node, fold_out-Node}
+use Rattle.mo_syntax.specs.declared.expr.Node.{fold_out-Node}
 use Rattle.mo_syntax.specs.declared.expr.Node.TheVariants.{If, Call, Tuple, ArrayFor, Matrix, outs-Tuple, outs-Matrix, outs-If, outs-ArrayFor, outs-Call}
-use Rattle.mo_syntax.specs.Count.{count_of, count_in_node, count_in_argument, count_in_arguments, count_in_option, count_in_part, count_in_reference, count_in_callee, count_in_index, in_option, in_part, in_reference, in_callee, in_index, in_argument, in_node, in_arguments, in_expr}
+use Rattle.mo_syntax.specs.Count.{count_of, count_in_node, count_in_argument, count_in_arguments, count_in_option, count_in_part, count_in_reference, count_in_callee, count_in_index, in_option, in_part, in_index, in_argument, in_node, in_arguments, in_expr}
 
 -- a sum over mapped elements is the sum of what they give
 pub sum_by-map : {A B : Type 0} (h : A → B) (f : B → ℕ) (g : A → ℕ) → ((a : A) → f (h a) ≡ g a) → (xs : List A) → sum_by f (map h xs) ≡ sum_by g xs

@@ -1,9 +1,6 @@
 -- How many expressions an expression is made of, itself included: subscripts, arguments and ranges count too.
 -- One number for each form, read from the numbers of its parts.
-use Rattle.std.specs.Prelude.{ℕ, ◌+◌, List, [], ◌∷◌, sum_by, Option, Some, None}
-use Rattle.mo_syntax.specs.declared.expr.TermOf.{TermOf}
-use Rattle.mo_syntax.specs.declared.expr.FactorOf.{FactorOf}
-use Rattle.mo_syntax.specs.declared.expr.BranchOf.{BranchOf}
+use Rattle.std.specs.Prelude.{ℕ, ◌+◌, sum_by, Option, Some, None}
 use Rattle.mo_syntax.specs.declared.expr.PartOf.{PartOf}
 use Rattle.mo_syntax.specs.declared.expr.ReferenceOf.{ReferenceOf}
 use Rattle.mo_syntax.specs.declared.expr.IndexOf.{IndexOf}

@@ -1,6 +1,6 @@
 -- How deep classes stand in each other: one for a class, and one more than the deepest class among its elements.
 -- The class of a redeclaring or replaceable argument of a modifier list is not counted.
-use Rattle.std.specs.Prelude.{ℕ, ◌+◌, max, List, fold, Option}
+use Rattle.std.specs.Prelude.{ℕ, ◌+◌, max, List, fold}
 use Rattle.mo_syntax.specs.declared.class.ClassDefOf.{ClassDefOf}
 use Rattle.mo_syntax.specs.declared.class.Body.{Body, Body-F, fold-Body}
 use Rattle.mo_syntax.specs.declared.class.Give.{Give-F}

@@ -1,6 +1,6 @@
 -- What was counted so far, and how deep each function goes.
 use Rattle.std.proofs.Common.{◌≡◌, ◌+◌, ◌*◌, ◌-◌, ◌^◌, min, sum_by, take}
-use Rattle.mo_syntax.specs.Count.{count_of, count_in_node, count_in_argument, count_in_arguments, count_in_option, count_in_part, count_in_reference, count_in_callee, count_in_index}
+use Rattle.mo_syntax.specs.Count.{count_of, count_in_argument, count_in_option, count_in_part, count_in_index}
 use Rattle.mo_syntax.proofs.count.+nodes.Given as goal
 
 abbrev pub invariant-of_exprs-loop-e : goal.invariant-of_exprs-loop-e
