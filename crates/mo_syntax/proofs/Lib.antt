@@ -1,1 +1,4 @@
+pub mod ClassCounts
 pub mod CountLemmas
+pub mod Outlines
+pub mod Searching

@@ -7,6 +7,7 @@
 
 mod boxed;
 mod class;
+mod classes;
 mod count;
 mod equation;
 mod expr;
@@ -23,6 +24,7 @@ pub use class::{
     Component, ComponentOf, Element, ElementFlags, Extends, ExtendsOf, FileTree, Give, Import,
     Item, Mods, ModsOf, Prefix, Vary, What,
 };
+pub use classes::class_count;
 pub use count::nodes;
 pub use equation::{Equation, EquationKind, EquationOf, Statement, StatementKind, StatementOf};
 pub use expr::{
