@@ -1,4 +1,5 @@
 pub mod ClassCounts
 pub mod CountLemmas
+pub mod Found
 pub mod Outlines
 pub mod Searching

@@ -19,7 +19,7 @@ use Rattle.mo_syntax.specs.declared.class.Item.TheVariants.{rolls-Import, rolls-
 use Rattle.mo_syntax.specs.declared.class.Give.{Give, Give-F, roll-Give, map-Give, ind-Give}
 use Rattle.mo_syntax.specs.declared.class.Give.TheVariants.{rolls-Modify, rolls-Redeclare, rolls-Replaceable}
 use Rattle.mo_syntax.specs.declared.class.ModsOf.{ModsOf}
-use Rattle.mo_syntax.specs.declared.class.What.{What, What-F, roll-What, map-What}
+use Rattle.mo_syntax.specs.declared.class.What.{What, What-F, roll-What, map-What, ind-What}
 use Rattle.mo_syntax.specs.declared.class.What.TheVariants.{rolls-Class, rolls-Component}
 use Rattle.mo_syntax.specs.Classes.{Home, Under, Inside, Apart, ClassRow, Declaration, Outline, Outlined, nothing, both, each, apart, in_class, outline_of_body, outline_of_give, outline_of_item, outline_of_what, outline_of_element}
 use Rattle.mo_syntax.specs.ClassTable.{path_eq, otherwise, first_row, with_outline}
@@ -60,7 +60,7 @@ pub path_eq-same : (xs : List (List ℕ)) → path_eq xs xs ≡ true
 path_eq-same [] = refl
 path_eq-same (x ∷ xs) = ap (λ b. b && path_eq xs xs) ((bytes_eq-Decides x x).1 refl) ∙ path_eq-same xs
 
-untrue : (b : Bool) → (b ≡ true → ⊥) → b ≡ false
+pub untrue : (b : Bool) → (b ≡ true → ⊥) → b ≡ false
 untrue true h = absurd (h refl)
 untrue false h = refl
 
@@ -218,7 +218,8 @@ step_element path node = at_limit node.flags node.what node.limit
     at_limit flags what (Some limit) = quiet_as path _ _ (rolled flags what.0 (Some (limit.0, mods_of path limit.1)))
         (quiet_both path (marked flags.redeclare (outline_of_what what.0)) (outline_of_mods (mods_of path limit.1)) (quiet_marked path flags.redeclare (outline_of_what what.0) what.1) (quiet_mods path limit.1))
 
--- every body of a class, and every argument
+-- ---- the whole of it
+
 pub quiet_body : (path : List (List ℕ)) (body : Body) → Quiet path (outline_of_body body)
 quiet_body path = ind-Body (λ b. Quiet path (outline_of_body b)) (λ g. Quiet path (outline_of_give g)) (λ i. Quiet path (outline_of_item i)) (λ w. Quiet path (outline_of_what w)) (λ e. Quiet path (outline_of_element e))
     (λ x y is. subst (λ z. Quiet path (outline_of_body (roll-Body z))) is (step_body path y))
@@ -229,6 +230,14 @@ quiet_body path = ind-Body (λ b. Quiet path (outline_of_body b)) (λ g. Quiet p
 
 pub quiet_give : (path : List (List ℕ)) (give : Give) → Quiet path (outline_of_give give)
 quiet_give path = ind-Give (λ b. Quiet path (outline_of_body b)) (λ g. Quiet path (outline_of_give g)) (λ i. Quiet path (outline_of_item i)) (λ w. Quiet path (outline_of_what w)) (λ e. Quiet path (outline_of_element e))
+    (λ x y is. subst (λ z. Quiet path (outline_of_body (roll-Body z))) is (step_body path y))
+    (λ x y is. subst (λ z. Quiet path (outline_of_give (roll-Give z))) is (step_give path y))
+    (λ x y is. subst (λ z. Quiet path (outline_of_item (roll-Item z))) is (step_item path y))
+    (λ x y is. subst (λ z. Quiet path (outline_of_what (roll-What z))) is (step_what path y))
+    (λ x y is. subst (λ z. Quiet path (outline_of_element (roll-Element z))) is (step_element path y))
+
+pub quiet_what : (path : List (List ℕ)) (what : What) → Quiet path (outline_of_what what)
+quiet_what path = ind-What (λ b. Quiet path (outline_of_body b)) (λ g. Quiet path (outline_of_give g)) (λ i. Quiet path (outline_of_item i)) (λ w. Quiet path (outline_of_what w)) (λ e. Quiet path (outline_of_element e))
     (λ x y is. subst (λ z. Quiet path (outline_of_body (roll-Body z))) is (step_body path y))
     (λ x y is. subst (λ z. Quiet path (outline_of_give (roll-Give z))) is (step_give path y))
     (λ x y is. subst (λ z. Quiet path (outline_of_item (roll-Item z))) is (step_item path y))

@@ -11,6 +11,7 @@ mod classes;
 mod count;
 mod equation;
 mod expr;
+mod finding;
 mod list;
 mod meaning;
 mod nesting;
@@ -31,6 +32,7 @@ pub use expr::{
     Arg, Args, Branch, BranchOf, Callee, CalleeOf, Expr, Factor, FactorOf, Index, IndexOf, Node,
     Part, PartOf, Reference, ReferenceOf, RelOp, Term, TermOf,
 };
+pub use finding::{ClassAt, class_at, find_class};
 pub use list::List;
 pub use meaning::{ClassId, FrameId, InstancePath, Kind, Role};
 pub use nesting::depth;
