@@ -1,0 +1,12 @@
+//! The class tree of a set of files (Modelica Language Specification 3.5, sections 5.3, 5.6 and 13.2.2.3): which classes it
+//! holds under which paths, and the rules that it may break.
+//!
+//! - `build`: the class tree of files, or the first of its rules that they break.
+//! - `asked`: the class that is asked for by its path, where it has a flat model.
+#![tactic(auto)]
+
+mod building;
+mod question;
+
+pub use building::build;
+pub use question::asked;
