@@ -1,5 +1,5 @@
 -- The outlines of the parts of a tree by the parts themselves, and how many classes stand in each.
-use Rattle.std.specs.Prelude.{ℕ, ◌+◌, Bool, List, ◌∷◌, Option, Some, None}
+use Rattle.std.specs.Prelude.{ℕ, ◌+◌, Bool, List, ◌∷◌, Option, Some, None, if◌then◌else◌}
 use Rattle.mo_syntax.specs.declared.expr.Expr.{Expr}
 use Rattle.mo_syntax.specs.declared.expr.ReferenceOf.{ReferenceOf}
 use Rattle.mo_syntax.specs.declared.class.Body.{Body}
@@ -25,6 +25,10 @@ outline_of_extending (Some mods) = outline_of_mods mods
 abbrev pub outline_of_limit : Option (ReferenceOf Expr × ModsOf Give) → Outline
 outline_of_limit None = nothing
 outline_of_limit (Some limit) = outline_of_mods limit.1
+
+-- a class or component that may be marked as replacing an inherited one
+abbrev pub marked : Bool → Outline → Outline
+marked redeclare part = if redeclare then apart part else part
 
 abbrev pub outline_of_class : Bool → ClassDefOf Body → Outline
 outline_of_class outermost class = in_class outermost (with_outline class)

@@ -6,7 +6,10 @@
 #![tactic(auto)]
 
 mod building;
+mod keys;
+mod names;
 mod question;
+mod walk;
 
 pub use building::build;
 pub use question::asked;
