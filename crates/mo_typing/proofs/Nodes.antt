@@ -16,6 +16,10 @@ list_any-map : {A B : Type 0} (f : B → Bool) (h : A → B) (xs : List A) → l
 list_any-map f h [] = refl
 list_any-map f h (x ∷ xs) = ap (λ b. f (h x) || b) (list_any-map f h xs)
 
+-- the kind of a part
+abbrev pub kind_in : Part → Outcome Kind
+kind_in part = part.kind
+
 pub at_Sum : (ts : List (Bool × Bool × ArrayExpr)) (place : Place) → kind_of_node (Sum ts) place ≡ sum_of (signed_parts ts) place
 at_Sum ts place = rw (fold_out-ArrayNode (Place → Outcome Kind) Part kind_node kind_part (Sum ts), outs-Sum ts)
     (ap (λ ps. sum_of ps place) (map-map (λ (t : Bool × Bool × Part). t.2) (λ t. (t.0, t.1, part_of t.2)) ts))

@@ -13,7 +13,7 @@ use Rattle.mo_flat.specs.declared.array.ArrayExpr.{ArrayExpr, ArrayExpr-F, fold-
 use Rattle.mo_flat.specs.declared.array.ArrayNode.{ArrayNode, ArrayNode-F, fold-ArrayNode}
 use Rattle.mo_typing.specs.declared.agree.Shared.{Shared}
 use Rattle.mo_typing.specs.declared.agree.Shared.TheVariants.{Unseen, Alike, Different}
-use Rattle.mo_typing.specs.Outcome.{Outcome, and_then, breaks}
+use Rattle.mo_typing.specs.Outcome.{Outcome, and_then, each, breaks}
 
 -- the one kind of two values, if there is one
 abbrev pub common : Kind → Kind → Option Kind
@@ -145,18 +145,18 @@ pub record Part : Type 0 where
 
 -- the kinds of all operands
 abbrev pub kinds_of : List Part → Outcome (List Kind)
-kinds_of [] = Ok []
-kinds_of (part ∷ parts) = and_then part.kind (λ kind. and_then (kinds_of parts) (λ kinds. Ok (kind ∷ kinds)))
+kinds_of = each (λ part. part.kind)
 
 -- a condition is Boolean
 abbrev pub condition : Part → Outcome Kind
 condition part = and_then part.kind (truth part.place)
 
--- the kinds of the values of all branches
+-- the kind of a branch's value, the condition being asked first
+abbrev pub branch_kind : Part × Part → Outcome Kind
+branch_kind branch = and_then (condition branch.0) (λ _. branch.1.kind)
+
 abbrev pub kinds_of_branches : List (Part × Part) → Outcome (List Kind)
-kinds_of_branches [] = Ok []
-kinds_of_branches (branch ∷ branches) =
-    and_then (condition branch.0) (λ _. and_then branch.1.kind (λ kind. and_then (kinds_of_branches branches) (λ kinds. Ok (kind ∷ kinds))))
+kinds_of_branches = each branch_kind
 
 abbrev pub sum_of : List Part → Place → Outcome Kind
 sum_of parts place = and_then (kinds_of parts) (arithmetic place)

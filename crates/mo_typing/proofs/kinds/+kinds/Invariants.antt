@@ -1,25 +1,26 @@
 use Rattle.std.proofs.Common.{◌≡◌, ◌+◌, ◌*◌, max, drop, Ok}
 use Rattle.mo_syntax.specs.declared.meaning.Kind.TheVariants.{Whole, Truth}
 use Rattle.mo_flat.specs.declared.array.ArrayExpr.{size-ArrayExpr}
-use Rattle.mo_typing.specs.Kinds.{part_of, with_number, with_truth, joined, settled}
+use Rattle.mo_typing.specs.Kinds.{part_of, with_number, with_truth, joined, settled, branch_kind}
 use Rattle.mo_typing.specs.declared.agree.Shared.TheVariants.{Unseen}
-use Rattle.mo_typing.proofs.Gathering.{gathered, gathered_branches}
+use Rattle.mo_typing.proofs.Gathering.{gathered}
+use Rattle.mo_typing.proofs.Nodes.{kind_in}
 use Rattle.mo_typing.proofs.kinds.+kinds.Given as goal
 
 abbrev pub invariant-have_kinds-loop-part : goal.invariant-have_kinds-loop-part
-invariant-have_kinds-loop-part l = gathered part_of (λ s kind. s) (λ s. Ok (tt {0})) (tt {0}) (drop l.part-index l.parts) ≡ gathered part_of (λ s kind. s) (λ s. Ok (tt {0})) (tt {0}) l.parts
+invariant-have_kinds-loop-part l = gathered part_of kind_in (λ s kind. s) (λ s. Ok (tt {0})) (tt {0}) (drop l.part-index l.parts) ≡ gathered part_of kind_in (λ s kind. s) (λ s. Ok (tt {0})) (tt {0}) l.parts
 
 abbrev pub invariant-of_array-loop-part : goal.invariant-of_array-loop-part
-invariant-of_array-loop-part l = gathered part_of joined (settled l.place) l.all (drop l.part-index l.parts) ≡ gathered part_of joined (settled l.place) Unseen l.parts
+invariant-of_array-loop-part l = gathered part_of kind_in joined (settled l.place) l.all (drop l.part-index l.parts) ≡ gathered part_of kind_in joined (settled l.place) Unseen l.parts
 
 abbrev pub invariant-of_branches-loop-branch : goal.invariant-of_branches-loop-branch
-invariant-of_branches-loop-branch l = gathered_branches (λ b. (part_of b.0, part_of b.1)) l.all (drop l.branch-index l.branches) ≡ gathered_branches (λ b. (part_of b.0, part_of b.1)) Unseen l.branches
+invariant-of_branches-loop-branch l = gathered (λ b. (part_of b.0, part_of b.1)) branch_kind joined (λ s. Ok s) l.all (drop l.branch-index l.branches) ≡ gathered (λ b. (part_of b.0, part_of b.1)) branch_kind joined (λ s. Ok s) Unseen l.branches
 
 abbrev pub invariant-of_logical-loop-part : goal.invariant-of_logical-loop-part
-invariant-of_logical-loop-part l = gathered part_of (with_truth l.place) (λ a. a) l.all (drop l.part-index l.parts) ≡ gathered part_of (with_truth l.place) (λ a. a) (Ok Truth) l.parts
+invariant-of_logical-loop-part l = gathered part_of kind_in (with_truth l.place) (λ a. a) l.all (drop l.part-index l.parts) ≡ gathered part_of kind_in (with_truth l.place) (λ a. a) (Ok Truth) l.parts
 
 abbrev pub invariant-of_terms-loop-term : goal.invariant-of_terms-loop-term
-invariant-of_terms-loop-term l = gathered (λ t. part_of t.2) (with_number l.place) (λ a. a) l.all (drop l.term-index l.terms) ≡ gathered (λ t. part_of t.2) (with_number l.place) (λ a. a) (Ok Whole) l.terms
+invariant-of_terms-loop-term l = gathered (λ t. part_of t.2) kind_in (with_number l.place) (λ a. a) l.all (drop l.term-index l.terms) ≡ gathered (λ t. part_of t.2) kind_in (with_number l.place) (λ a. a) (Ok Whole) l.terms
 
 abbrev pub decreases-kind_of : goal.decreases-kind_of
 decreases-kind_of l = 4 * goal.size-kind_of l + 0
