@@ -14,3 +14,10 @@ mod shape;
 
 pub use dims::dims_of;
 pub use kinds::kind_of;
+
+#[cfg(test)]
+mod dims_tests;
+#[cfg(test)]
+mod kind_tests;
+#[cfg(test)]
+mod row_words;
