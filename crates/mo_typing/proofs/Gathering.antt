@@ -25,7 +25,7 @@ stops : {X P Y S T : Type 0} (part : X → P) (asked : P → Outcome Y) (step : 
 stops part asked step finish s x xs b h = rw h refl
 
 -- the first of what is left
-opened : {X T : Type 0} (f : List X → T) (xs : List X) (i : ℕ) (x : X) → i < length xs → x ≡ get_or xs i x → f (x ∷ drop (i + 1) xs) ≡ f (drop i xs)
+pub opened : {X T : Type 0} (f : List X → T) (xs : List X) (i : ℕ) (x : X) → i < length xs → x ≡ get_or xs i x → f (x ∷ drop (i + 1) xs) ≡ f (drop i xs)
 opened f xs i x small is = ap f (rw add-one (ap (λ y. y ∷ drop (suc i) xs) is ∙ sym (drop-cons xs i x small)))
 
 -- one more operand has a value

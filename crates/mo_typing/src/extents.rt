@@ -149,12 +149,8 @@ fn push_kept(made: &mut List<u32>, subs: &[Subscript], k: usize, n: u32) -> Resu
     }
 }
 
-/// What subscripts leave of dimensions.
-pub(crate) fn subscripted(
-    alloc: Global,
-    subs: &[Subscript],
-    dims: &[u32],
-) -> Result<List<u32>, NoMemory>
+/// What subscripts leave of dimensions, one subscript for each or none at all. `NoMemory` is the only other answer.
+pub fn subscripted(alloc: Global, subs: &[Subscript], dims: &[u32]) -> Result<List<u32>, NoMemory>
     ensures { IfOk result (λ made. made ≡ subscripted subs.now dims.now) }
 {
     let mut made = List::new(alloc);
@@ -170,8 +166,9 @@ fn is_past(first: i64, step: i64, last: i64) -> bool
     if 0 < step { last < first } else { first < last }
 }
 
-/// A range.
-pub(crate) fn range(
+/// The dimensions of a range: how many numbers there are from the first one to the last one by a step. Rule 31 at `place` where the
+/// step is 0 or there are more than 4,294,967,295 numbers.
+pub fn range(
     alloc: Global,
     place: Place,
     first: i64,
@@ -217,7 +214,8 @@ pub(crate) fn sizes_of(alloc: Global, sizes: &[(Place, i64)]) -> Result<List<u32
     Ok(made)
 }
 
-fn shaped(function: u16, dims: List<u32>) -> Result<List<u32>, NoMemory>
+/// The dimensions that a function of sizes gives: `identity` is square. `NoMemory` is the only other answer.
+pub fn shaped(function: u16, dims: List<u32>) -> Result<List<u32>, NoMemory>
     ensures { IfOk result (λ made. made ≡ shaped function dims) }
 {
     let mut made = dims;

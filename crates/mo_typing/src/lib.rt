@@ -3,6 +3,8 @@
 //! - [`kind_of`]: the kind of each element of an array expression, or the first rule that its kinds break.
 //! - [`dims_of`]: its dimensions, or the first rule that they break.
 //!
+//! - [`matched`], [`range`], [`shaped`] and [`subscripted`]: the dimensions of some forms by themselves.
+//!
 //! Their definitions stand in specs/Kinds and specs/Dims. An expression need not be sound for them.
 #![tactic(auto)]
 
@@ -13,7 +15,9 @@ mod kinds;
 mod shape;
 
 pub use dims::dims_of;
+pub use extents::{range, shaped, subscripted};
 pub use kinds::kind_of;
+pub use shape::matched;
 
 #[cfg(test)]
 mod dims_tests;

@@ -21,8 +21,9 @@ fn are_equal(a: &[u32], b: &[u32]) -> bool
     a == b
 }
 
-/// The dimensions of operands whose dimensions must be equal.
-fn matched(place: Place, a: List<u32>, b: List<u32>) -> Result<List<u32>, Broken>
+/// The dimensions of two operands or sides whose dimensions must be equal: rule 33 at `place` where they are not as many, 31 where
+/// their sizes differ. Takes no memory.
+pub fn matched(place: Place, a: List<u32>, b: List<u32>) -> Result<List<u32>, Broken>
     ensures { result ≡ matched place a b }
 {
     if a.len() != b.len() {
