@@ -1,0 +1,3 @@
+pub mod Dims
+pub mod Kinds
+pub mod Outcome

@@ -1,0 +1,274 @@
+//! What the kinds of operands agree on.
+ghost use Rattle.std.specs.Prelude.{◌≡◌, ◌≤◌, ◌||◌, [], ◌∷◌, nat_eq, nat_lt};
+ghost use Rattle.mo_tables.specs.declared.functions.TheConstants.{ABS, ATAN2, CROSS, IDENTITY, MAX, MIN, NDIMS, NO_EVENT, PRODUCT, SUM, TRANSPOSE};
+ghost use Rattle.mo_typing.specs.Outcome.{breach};
+ghost use Rattle.mo_typing.specs.Kinds.{common, number, wider, with_number, is_truth, truth, with_truth, joined, settled, are_enumerations, relation, is_number, numeric, real_of, kept, both_numeric, call_of_one, call_of_two, takes_sizes, divided, raised};
+
+use mo_syntax::{Broken, Kind, Place, Rule};
+use mo_tables::functions;
+
+/// What values have in common.
+#[derive(Clone, Copy, Debug, Drop)]
+pub enum Shared {
+    /// No value was seen.
+    Unseen,
+    /// All values have this kind, or are Integers where it is Real.
+    Alike(Kind),
+    /// There is no one kind.
+    Different,
+}
+
+pub(crate) fn broken(rule: u8, place: Place) -> Broken
+    requires low { 1 ≤ rule }
+    requires high { rule ≤ 46 }
+    ensures { result ≡ breach rule place }
+{
+    Broken {
+        rule: Rule::new(rule),
+        place,
+    }
+}
+
+fn common(a: Kind, b: Kind) -> Option<Kind>
+    ensures { result ≡ common a b }
+{
+    match (a, b) {
+        (Kind::Real, Kind::Real) => Some(Kind::Real),
+        (Kind::Real, Kind::Whole) => Some(Kind::Real),
+        (Kind::Whole, Kind::Real) => Some(Kind::Real),
+        (Kind::Whole, Kind::Whole) => Some(Kind::Whole),
+        (Kind::Truth, Kind::Truth) => Some(Kind::Truth),
+        (Kind::Str, Kind::Str) => Some(Kind::Str),
+        (Kind::Enumeration(c), Kind::Enumeration(d)) if c.0 == d.0 => Some(Kind::Enumeration(c)),
+        _ => None,
+    }
+}
+
+/// An operand of `+`, `-`, `*`, `/` or `^`.
+fn number(place: Place, kind: Kind) -> Result<Kind, Broken>
+    ensures { result ≡ number place kind }
+{
+    match kind {
+        Kind::Real => Ok(Kind::Real),
+        Kind::Whole => Ok(Kind::Whole),
+        Kind::Enumeration(_) => Err(broken(39, place)),
+        Kind::Truth => Err(broken(33, place)),
+        Kind::Str => Err(broken(33, place)),
+    }
+}
+
+fn wider(a: Kind, b: Kind) -> Kind
+    ensures { result ≡ wider a b }
+{
+    match a {
+        Kind::Whole => match b {
+            Kind::Whole => Kind::Whole,
+            Kind::Real | Kind::Truth | Kind::Str | Kind::Enumeration(_) => Kind::Real,
+        },
+        Kind::Real | Kind::Truth | Kind::Str | Kind::Enumeration(_) => Kind::Real,
+    }
+}
+
+/// One more operand of arithmetic.
+pub(crate) fn with_number(
+    place: Place,
+    so_far: Result<Kind, Broken>,
+    kind: Kind,
+) -> Result<Kind, Broken>
+    ensures { result ≡ with_number place so_far kind }
+{
+    let a = so_far?;
+    let b = number(place, kind)?;
+    Ok(wider(a, b))
+}
+
+/// What must be Boolean.
+pub(crate) fn truth(place: Place, kind: Kind) -> Result<Kind, Broken>
+    ensures { result ≡ truth place kind }
+{
+    match kind {
+        Kind::Truth => Ok(Kind::Truth),
+        Kind::Real => Err(broken(33, place)),
+        Kind::Whole => Err(broken(33, place)),
+        Kind::Str => Err(broken(33, place)),
+        Kind::Enumeration(_) => Err(broken(33, place)),
+    }
+}
+
+/// One more operand of `and` or `or`.
+pub(crate) fn with_truth(
+    place: Place,
+    so_far: Result<Kind, Broken>,
+    kind: Kind,
+) -> Result<Kind, Broken>
+    ensures { result ≡ with_truth place so_far kind }
+{
+    so_far?;
+    truth(place, kind)
+}
+
+/// One more element of an array, or value of an if-expression.
+pub(crate) fn joined(so_far: Shared, kind: Kind) -> Shared
+    ensures { result ≡ joined so_far kind }
+{
+    match so_far {
+        Shared::Unseen => Shared::Alike(kind),
+        Shared::Different => Shared::Different,
+        Shared::Alike(a) => match common(a, kind) {
+            None => Shared::Different,
+            Some(b) => Shared::Alike(b),
+        },
+    }
+}
+
+/// The kind of all values.
+pub(crate) fn settled(place: Place, so_far: Shared) -> Result<Kind, Broken>
+    ensures { result ≡ settled place so_far }
+{
+    match so_far {
+        Shared::Unseen => Ok(Kind::Real),
+        Shared::Alike(kind) => Ok(kind),
+        Shared::Different => Err(broken(33, place)),
+    }
+}
+
+fn are_enumerations(a: Kind, b: Kind) -> bool
+    ensures { result ≡ are_enumerations a b }
+{
+    match a {
+        Kind::Enumeration(_) => match b {
+            Kind::Enumeration(_) => true,
+            Kind::Real | Kind::Whole | Kind::Truth | Kind::Str => false,
+        },
+        Kind::Real | Kind::Whole | Kind::Truth | Kind::Str => false,
+    }
+}
+
+pub(crate) fn relation(place: Place, a: Kind, b: Kind) -> Result<Kind, Broken>
+    ensures { result ≡ relation place a b }
+{
+    match common(a, b) {
+        Some(_) => Ok(Kind::Truth),
+        None => {
+            if are_enumerations(a, b) {
+                Err(broken(39, place))
+            } else {
+                Err(broken(33, place))
+            }
+        }
+    }
+}
+
+fn is_number(kind: Kind) -> bool
+    ensures { result ≡ is_number kind }
+{
+    match kind {
+        Kind::Real => true,
+        Kind::Whole => true,
+        Kind::Truth | Kind::Str | Kind::Enumeration(_) => false,
+    }
+}
+
+fn is_truth(kind: Kind) -> bool
+    ensures { result ≡ is_truth kind }
+{
+    match kind {
+        Kind::Truth => true,
+        Kind::Real | Kind::Whole | Kind::Str | Kind::Enumeration(_) => false,
+    }
+}
+
+/// An argument of a function of numbers.
+fn numeric(place: Place, kind: Kind) -> Result<Kind, Broken>
+    ensures { result ≡ numeric place kind }
+{
+    if is_number(kind) {
+        Ok(kind)
+    } else {
+        Err(broken(33, place))
+    }
+}
+
+/// What gives a Real of a number.
+pub(crate) fn real_of(place: Place, kind: Kind) -> Result<Kind, Broken>
+    ensures { result ≡ real_of place kind }
+{
+    numeric(place, kind)?;
+    Ok(Kind::Real)
+}
+
+/// The argument of `noEvent`.
+fn kept(place: Place, kind: Kind) -> Result<Kind, Broken>
+    ensures { result ≡ kept place kind }
+{
+    if is_number(kind) || is_truth(kind) {
+        Ok(kind)
+    } else {
+        Err(broken(33, place))
+    }
+}
+
+fn both_numeric(place: Place, a: Kind, b: Kind) -> Result<Kind, Broken>
+    ensures { result ≡ both_numeric place a b }
+{
+    let a = numeric(place, a)?;
+    let b = numeric(place, b)?;
+    Ok(wider(a, b))
+}
+
+/// A call with one argument.
+pub(crate) fn call_of_one(place: Place, function: u16, kind: Kind) -> Result<Kind, Broken>
+    ensures { result ≡ call_of_one place function kind }
+{
+    match function {
+        functions::NDIMS => Ok(Kind::Whole),
+        functions::TRANSPOSE => Ok(kind),
+        functions::NO_EVENT => kept(place, kind),
+        functions::ABS | functions::PRODUCT | functions::SUM => numeric(place, kind),
+        functions::ATAN2 | functions::CROSS | functions::MAX | functions::MIN => {
+            Err(broken(33, place))
+        }
+        _ => real_of(place, kind),
+    }
+}
+
+/// A call with two arguments.
+pub(crate) fn call_of_two(place: Place, function: u16, a: Kind, b: Kind) -> Result<Kind, Broken>
+    ensures { result ≡ call_of_two place function a b }
+{
+    match function {
+        functions::CROSS | functions::MAX | functions::MIN => both_numeric(place, a, b),
+        functions::ATAN2 => {
+            numeric(place, a)?;
+            real_of(place, b)
+        }
+        _ => Err(broken(33, place)),
+    }
+}
+
+/// Whether a function takes so many sizes.
+pub(crate) fn takes_sizes(function: u16, count: usize) -> bool
+    ensures { result ≡ takes_sizes function count }
+{
+    if function == functions::IDENTITY {
+        count == 1
+    } else {
+        count > 0
+    }
+}
+
+/// The kind of a product, by whether it divides.
+pub(crate) fn divided(divides: bool, kind: Kind) -> Kind
+    ensures { result ≡ divided divides kind }
+{
+    if divides { Kind::Real } else { kind }
+}
+
+/// A power of two operands.
+pub(crate) fn raised(place: Place, a: Kind, b: Kind) -> Result<Kind, Broken>
+    ensures { result ≡ raised place a b }
+{
+    let base = with_number(place, Ok(Kind::Whole), a);
+    with_number(place, base, b)?;
+    Ok(Kind::Real)
+}
