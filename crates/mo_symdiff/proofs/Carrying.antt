@@ -1,5 +1,5 @@
 -- Whether derivatives can be carried out, by the parts of an expression.
-use Rattle.std.proofs.Common.{◌≡◌, ℕ, ℤ, Bool, true, List, map, ap, ◌∙◌, sym}
+use Rattle.std.proofs.Common.{◌≡◌, ℕ, ℤ, Bool, true, List, ap, ◌∙◌, sym}
 use Rattle.std.specs.Prelude.{◌&&◌, not}
 use Rattle.std.specs.List.{list_all}
 use Rattle.std.proofs.lemmas.List.Folds.{list_all-map}

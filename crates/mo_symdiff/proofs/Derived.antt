@@ -1,7 +1,7 @@
 -- The derivative of an expression by its parts.
-use Rattle.std.proofs.Common.{◌≡◌, ℕ, ℤ, suc, pos, ◌+◌, ◌-◌, ◌<◌, ◌≤◌, Bool, true, false, List, [], ◌∷◌, ◌++◌, map, take, drop, get_or, length, refl, ap, ◌∙◌, sym, arith, append_assoc, add-one, take_all}
+use Rattle.std.proofs.Common.{◌≡◌, ℕ, ℤ, pos, ◌+◌, ◌-◌, ◌<◌, ◌≤◌, Bool, true, false, List, [], ◌∷◌, ◌++◌, map, take, drop, get_or, length, refl, ap, ◌∙◌, sym, arith, append_assoc, add-one, take_all}
 use Rattle.mo_flat.specs.Roles.{is_given, is_unknown}
-use Rattle.std.specs.Prelude.{◌&&◌, ◌||◌, not, if◌then◌else◌, min}
+use Rattle.std.specs.Prelude.{◌&&◌, ◌||◌, not, if◌then◌else◌}
 use Rattle.std.specs.List.{list_all}
 use Rattle.std.proofs.lemmas.Simd.{map-map}
 use Rattle.std.proofs.lemmas.List.{take_more, map-append, length-drop}
@@ -13,9 +13,9 @@ use Rattle.mo_flat.specs.declared.expr.FlatExpr.TheVariants.{Whole, Decimal, Str
 use Rattle.mo_flat.specs.declared.expr.FlatExpr.TheVariants.{rolls-Whole, rolls-Decimal, rolls-Str, rolls-Truth, rolls-Literal, rolls-Time, rolls-Var, rolls-Der, rolls-Sum, rolls-Product, rolls-Power, rolls-Call, rolls-Relation, rolls-Not, rolls-All, rolls-Any, rolls-If}
 use Rattle.mo_flat.specs.declared.expr.FlatExpr.TheVariants.{outs-Whole, outs-Decimal, outs-Str, outs-Truth, outs-Literal, outs-Time, outs-Var, outs-Der, outs-Power, outs-Relation, outs-Not}
 use Rattle.mo_flat.specs.declared.model.FlatVar.{FlatVar}
-use Rattle.mo_symdiff.specs.Derivative.{Part, args_slope, derive_node, derived, moving_terms, next_order, one, plain_factors, power_slope, product_terms, replaced_factor, slope_node, sum_of, with_slopes}
-use Rattle.mo_symdiff.specs.Still.{is_still, still_node}
-use Rattle.mo_symdiff.proofs.Tests.{still_at, still_Sum, still_Product, still_Call, still_All, still_Any, still_If}
+use Rattle.mo_symdiff.specs.Derivative.{Part, args_slope, derive_node, derived, moving_terms, next_order, one, plain_factors, power_slope, product_terms, replaced_factor, sum_of, with_slopes}
+use Rattle.mo_symdiff.specs.Still.{is_still}
+use Rattle.mo_symdiff.proofs.Tests.{still_at}
 
 -- what a step answers for a node: whether it is still, and its derivative
 pub IsSlope : List FlatVar → FlatExpr → Bool → FlatExpr → Type 0

@@ -4,6 +4,7 @@ pub mod DualAt
 pub mod DualLaw
 pub mod DualRing
 pub mod DualRows
+pub mod Reducing
 pub mod SigmaAt
 pub mod SigmaCarried
 pub mod SigmaDerived

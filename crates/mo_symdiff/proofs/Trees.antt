@@ -1,9 +1,9 @@
 -- The trees of the table of derivatives.
-use Rattle.std.proofs.Common.{◌≡◌, ℕ, zero, suc, ◌+◌, ◌<◌, Bool, true, false, List, [], ◌∷◌, ◌++◌, map, take, get_or, length, refl, ap, ◌∙◌, sym, arith}
+use Rattle.std.proofs.Common.{◌≡◌, ℕ, Bool, false, List, [], ◌∷◌, ◌++◌, map, length, refl, ap, ◌∙◌, sym, arith}
 use Rattle.std.proofs.lemmas.Simd.{map-map}
 use Rattle.std.proofs.lemmas.Grind.{common_steps}
 use Rattle.mo_flat.specs.declared.expr.FlatExpr.{FlatExpr}
-use Rattle.mo_flat.specs.declared.expr.FlatExpr.TheVariants.{Sum, Call}
+use Rattle.mo_flat.specs.declared.expr.FlatExpr.TheVariants.{Call}
 use Rattle.mo_symdiff.specs.Derivative.{sum_of, args_slope}
 
 -- one positive term is its sum

@@ -2,6 +2,8 @@ pub mod Carried
 pub mod Derivative
 pub mod Dual
 pub mod Orders
+pub mod Reduced
 pub mod Refusal
+pub mod Room
 pub mod Sigma
 pub mod Still
