@@ -1,0 +1,7 @@
+//! Elements of array expressions.
+#![tactic(auto)]
+
+mod build;
+mod indices;
+mod places;
+mod shape;
