@@ -14,6 +14,3 @@ mod trees;
 
 pub use call::expression;
 pub use sum::longest_sum;
-
-#[cfg(test)]
-mod tests;
