@@ -11,11 +11,11 @@ ghost use Rattle.mo_parse_class.specs.Left.{limits};
 ghost use Rattle.mo_parse_class.specs.Parts.{derived as derived_form, class_codes};
 
 use crate::left::Left;
-use crate::parts::{flag, identifiers, modifiers_or_none, optional_modifiers, texts};
+use crate::parts::{identifiers, optional_modifiers, texts};
 use crate::plain::{comment, short_body, type_specifier};
 use crate::sections::composition;
-use mo_grammar::{Fault, Halt, Reading, are_next, is_next, is_next_any, past_limit, take};
-use mo_parse_body::readers::{class_prefixes, strings};
+use mo_grammar::{Fault, Halt, Reading, are_next, flag, is_next, is_next_any, past_limit, take};
+use mo_parse_body::readers::{class_prefixes, modifiers_or_none, strings};
 use mo_syntax::TokenKind::{Ident, Keyword, Operator};
 use mo_syntax::{Body, ClassDef, ClassDefOf, ClassFlags, List, Reference, Text, Token};
 use mo_tables::{keywords, operators};

@@ -18,9 +18,10 @@ use crate::classes::{begins_class, class_definition};
 use crate::components::components;
 use crate::imports::import_clause;
 use crate::left::Left;
-use crate::parts::{flag, modifiers_or_none, none_yet, optional_annotation, optional_modifiers};
+use crate::parts::{optional_annotation, optional_modifiers};
 use crate::plain::{comment, constraint, type_specifier};
-use mo_grammar::{Reading, is_next, is_next_any, take};
+use mo_grammar::{Reading, flag, is_next, is_next_any, none_yet, take};
+use mo_parse_body::readers::modifiers_or_none;
 use mo_syntax::TokenKind::{Ident, Keyword, Operator};
 use mo_syntax::{
     Element, ElementFlags, ExtendsOf, Item, List, Mods, NoMemory, Reference, Token, What,

@@ -5,7 +5,7 @@ ghost use Rattle.mo_grammar.specs.Grammar.{many, placed, symbol};
 ghost use Rattle.mo_grammar.specs.Forms.{optional};
 ghost use Rattle.mo_grammar.specs.ClassTrees.{within_of};
 ghost use Rattle.mo_grammar.specs.Symbols.{Names, Files};
-ghost use Rattle.mo_grammar.specs.Reading.{read, next_in, place_of_first};
+ghost use Rattle.mo_grammar.specs.Reading.{read, next_in};
 ghost use Rattle.mo_grammar.specs.Language.{reads, reads_form};
 ghost use Rattle.mo_grammar.specs.Answers.{Gives, with_rest};
 ghost use Rattle.mo_parse_class.specs.Left.{limits};
@@ -13,9 +13,9 @@ ghost use Rattle.mo_parse_class.specs.Parts.{within_clause as within_form, defin
 
 use crate::classes::class_definition;
 use crate::left::Left;
-use crate::parts::{flag, none_yet, path};
+use crate::parts::path;
 use crate::plain::name;
-use mo_grammar::{Reading, is_next, is_next_any, take};
+use mo_grammar::{Reading, flag, is_next, is_next_any, none_yet, place_of, take};
 use mo_syntax::TokenKind::{End, Ident, Keyword, Operator};
 use mo_syntax::{ClassDef, FileTree, List, NoMemory, Path, Place, Token};
 use mo_tables::{keywords, operators};
@@ -90,16 +90,6 @@ fn optional_name<'t, 'a>(
     let place = place_of(tokens);
     let (names, rest) = name(alloc, left, tokens)?;
     Ok((Some((place, names)), rest))
-}
-
-/// The place of the next token.
-fn place_of(tokens: &[Token]) -> Place
-    ensures { result ≡ place_of_first (lexemes tokens.now) }
-{
-    match tokens {
-        [token, ..] => token.place,
-        [] => Place { file: 0, byte: 0 },
-    }
 }
 
 /// The class definitions that stand there, each with its semicolon. There may be none.

@@ -1,11 +1,11 @@
 //! Small parts, and the tools that readers share.
 ghost use Rattle.std.specs.Prelude.{◌≡◌, ◌<◌, ◌≤◌, [], ◌∷◌, length, map, IfOk};
-ghost use Rattle.mo_grammar.specs.Lexeme.{lexeme, lexemes, code_of_kind};
+ghost use Rattle.mo_grammar.specs.Lexeme.{lexeme, lexemes};
 ghost use Rattle.mo_grammar.specs.Codes.{ident, comma};
 ghost use Rattle.mo_grammar.specs.Grammar.{token, symbol};
-ghost use Rattle.mo_grammar.specs.Forms.{behind, optional, separated, flag as flag_form};
+ghost use Rattle.mo_grammar.specs.Forms.{behind, optional, separated};
 ghost use Rattle.mo_grammar.specs.Trees.{or_nothing};
-ghost use Rattle.mo_grammar.specs.ClassTrees.{text_of, path_of, place_of_names, mods_or_none};
+ghost use Rattle.mo_grammar.specs.ClassTrees.{text_of, path_of, place_of_names};
 ghost use Rattle.mo_grammar.specs.Symbols.{Subscripts, ClassMods};
 ghost use Rattle.mo_grammar.specs.Classes.{annotation_part};
 ghost use Rattle.mo_grammar.specs.Reading.{read};
@@ -15,33 +15,11 @@ ghost use Rattle.mo_parse_class.specs.Left.{limits};
 
 use crate::left::Left;
 use crate::plain::{annotation, class_modification, subscripts};
-use mo_grammar::{Reading, code, is_next, take};
+use mo_grammar::{Reading, is_next, take};
 use mo_syntax::TokenKind::{Ident, Keyword, Operator};
-use mo_syntax::{Expr, List, Mods, ModsOf, NoMemory, Path, Place, Text, Token, TokenKind};
+use mo_syntax::{Expr, List, Mods, NoMemory, Path, Place, Text, Token};
 use mo_tables::{keywords, operators};
 use std::alloc::Global;
-
-/// Whether a token of that kind stands before what is left, and the tokens behind it.
-pub(crate) fn flag<'t, 'a>(tokens: &'t [Token<'a>], wanted: TokenKind) -> (bool, &'t [Token<'a>])
-    ensures reads { reads_form (flag_form (code_of_kind wanted)) whole_limits (lexemes tokens.now) ≡ with_rest result }
-    ensures no_longer { length result.1.now ≤ length tokens.now }
-{
-    match tokens {
-        [token, rest @ ..] if code(wanted) == code(token.kind) => (true, rest),
-        _ => (false, tokens),
-    }
-}
-
-/// Nothing read yet, and all tokens left.
-pub(crate) fn none_yet<'t, 'a, T>(
-    alloc: Global,
-    tokens: &'t [Token<'a>],
-) -> (List<T>, &'t [Token<'a>])
-    ensures none { result.0 ≡ [] }
-    ensures all { result.1.now ≡ tokens.now }
-{
-    (List::new(alloc), tokens)
-}
 
 /// The list, or an empty one.
 pub(crate) fn list_or_nothing<T>(alloc: Global, list: Option<List<T>>) -> List<T>
@@ -50,16 +28,6 @@ pub(crate) fn list_or_nothing<T>(alloc: Global, list: Option<List<T>>) -> List<T
     match list {
         Some(list) => list,
         None => List::new(alloc),
-    }
-}
-
-/// The modifiers, or none.
-pub(crate) fn modifiers_or_none(alloc: Global, mods: Option<Mods>) -> Mods
-    ensures { result ≡ mods_or_none mods }
-{
-    match mods {
-        Some(mods) => mods,
-        None => ModsOf(List::new(alloc)),
     }
 }
 

@@ -16,9 +16,8 @@ ghost use Rattle.mo_parse_class.specs.Parts.{section_codes, with_items, before_s
 use crate::elements::{elements, only};
 use crate::endings::closing;
 use crate::left::Left;
-use crate::parts::none_yet;
 use crate::plain::{equation, statements};
-use mo_grammar::{Reading, are_next, is_next, is_next_any, take};
+use mo_grammar::{Reading, are_next, is_next, is_next_any, none_yet, take};
 use mo_syntax::TokenKind::{Decimal, Ident, Keyword, Operator, Str, Whole};
 use mo_syntax::{Equation, Item, List, Token};
 use mo_tables::{keywords, operators};
