@@ -37,4 +37,6 @@ pub use reduced_model::Reduced;
 pub use still::{holds_given, is_still};
 
 #[cfg(test)]
+mod reduced_tests;
+#[cfg(test)]
 mod row_tests;

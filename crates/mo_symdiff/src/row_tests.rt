@@ -134,28 +134,34 @@ pub(crate) fn read(alloc: Global, words: &str) -> Result<FlatExpr, NoMemory> {
     Ok(pop(&mut stack))
 }
 
-/// An expression, and its derivative or none where rule 43 is broken.
-const DERIVATIVES: [(&str, &str); 56] = [
-    // still
-    ("p", "0"),
-    ("2 p *", "0"),
-    ("x 0 > 1 2 if", "0"),
-    // variables and the time
+/// An expression, and its derivative, or none where rule 43 is broken.
+type Row = (&'static str, &'static str);
+
+/// Expressions that are still.
+const STILL: [Row; 3] = [("p", "0"), ("2 p *", "0"), ("x 0 > 1 2 if", "0")];
+
+/// Variables, the time and sums.
+const SUMS: [Row; 7] = [
     ("x", "der(x)"),
     ("x der", "der(der(x))"),
     ("time", "1"),
-    // sums
     ("x y +", "der(x) + der(y)"),
     ("x 2 -", "der(x)"),
     ("2 x -", "-der(x)"),
     ("x y -", "der(x) - der(y)"),
-    // products
+];
+
+/// Products.
+const PRODUCTS: [Row; 5] = [
     ("x y *", "der(x)*y + x*der(y)"),
     ("2 x *", "2*der(x)"),
     ("x y /", "der(x)/y - x/y*der(y)/y"),
     ("2 x /", "-2/x*der(x)/x"),
     ("x 2 + y *", "der(x)*y + (x + 2)*der(y)"),
-    // powers
+];
+
+/// Powers.
+const POWERS: [Row; 9] = [
     ("x 2 ^", "2*x*der(x)"),
     ("x 0 ^", "0*x^(-1)*der(x)"),
     ("x 1 ^", "1*x^0*der(x)"),
@@ -168,7 +174,10 @@ const DERIVATIVES: [(&str, &str); 56] = [
     ("x p ^", "p*x^(p - 1)*der(x)"),
     ("p x ^", "p^x*log(p)*der(x)"),
     ("x y ^", "y*x^(y - 1)*der(x) + x^y*log(x)*der(y)"),
-    // functions
+];
+
+/// Trigonometric and hyperbolic functions.
+const ANGLES: [Row; 11] = [
     ("x sin", "cos(x)*der(x)"),
     ("x cos", "-sin(x)*der(x)"),
     ("x tan", "der(x)/cos(x)^2"),
@@ -180,6 +189,10 @@ const DERIVATIVES: [(&str, &str); 56] = [
     ("x sinh", "cosh(x)*der(x)"),
     ("x cosh", "sinh(x)*der(x)"),
     ("x tanh", "der(x)/cosh(x)^2"),
+];
+
+/// Other functions.
+const FUNCTIONS: [Row; 9] = [
     ("x exp", "exp(x)*der(x)"),
     ("x log", "der(x)/x"),
     ("x log10", "der(x)/(x*log(10))"),
@@ -189,10 +202,12 @@ const DERIVATIVES: [(&str, &str); 56] = [
     ("x 1 min", "if x < 1 then der(x) else 0"),
     ("x y max", "if x > y then der(x) else der(y)"),
     ("x noEvent", "noEvent(der(x))"),
-    // if-expressions
+];
+
+/// If-expressions, and derivatives in what is differentiated.
+const CHOICES: [Row; 4] = [
     ("x 0 > y 1 if", "if x > 0 then der(y) else 0"),
     ("u 0 > x 2 x * if", "if u > 0 then der(x) else 2*der(x)"),
-    // derivatives
     (
         "x y * der",
         "(der(der(x))*y + der(x)*der(y)) + (der(x)*der(y) + x*der(der(y)))",
@@ -201,7 +216,10 @@ const DERIVATIVES: [(&str, &str); 56] = [
         "x y * der 0 > x 1 if",
         "if der(x)*y + x*der(y) > 0 then der(x) else 0",
     ),
-    // given variables
+];
+
+/// Given variables, where rule 43 is broken, or stand in a condition alone.
+const GIVEN: [Row; 8] = [
     ("u", ""),
     ("u x *", ""),
     ("u der 0 > x 1 if", ""),
@@ -213,7 +231,7 @@ const DERIVATIVES: [(&str, &str); 56] = [
 ];
 
 /// An expression, and itself with its derivatives carried out.
-const CARRIED: [(&str, &str); 9] = [
+const CARRIED: [Row; 9] = [
     ("x", "x"),
     ("u", "u"),
     ("x der", "der(x)"),
@@ -247,17 +265,65 @@ fn check(
     Ok(())
 }
 
-#[test]
-fn derives_each_row(rt: HostRuntime) -> Result<(), Fail> {
-    let alloc = rt.alloc();
+fn derives(rt: &impl Abort, alloc: Global, rows: &[Row]) -> Result<(), Fail> {
     let m = model(alloc)?;
-    for (words, text) in &DERIVATIVES {
-        let e = read(alloc, words)?;
-        check(&rt, alloc, &m, derivative(alloc, &m, &e, PLACE), text)?;
-    }
-    for (words, text) in &CARRIED {
-        let e = read(alloc, words)?;
-        check(&rt, alloc, &m, expand_der(alloc, &m, &e, PLACE), text)?;
+    for row in rows {
+        let e = read(alloc, row.0)?;
+        check(rt, alloc, &m, derivative(alloc, &m, &e, PLACE), row.1)?;
     }
     Ok(())
+}
+
+fn carries(rt: &impl Abort, alloc: Global, rows: &[Row]) -> Result<(), Fail> {
+    let m = model(alloc)?;
+    for row in rows {
+        let e = read(alloc, row.0)?;
+        check(rt, alloc, &m, expand_der(alloc, &m, &e, PLACE), row.1)?;
+    }
+    Ok(())
+}
+
+#[test]
+fn derives_still(rt: HostRuntime) -> Result<(), Fail> {
+    derives(&rt, rt.alloc(), &STILL)
+}
+
+#[test]
+fn derives_sums(rt: HostRuntime) -> Result<(), Fail> {
+    derives(&rt, rt.alloc(), &SUMS)
+}
+
+#[test]
+fn derives_products(rt: HostRuntime) -> Result<(), Fail> {
+    derives(&rt, rt.alloc(), &PRODUCTS)
+}
+
+#[test]
+fn derives_powers(rt: HostRuntime) -> Result<(), Fail> {
+    derives(&rt, rt.alloc(), &POWERS)
+}
+
+#[test]
+fn derives_angles(rt: HostRuntime) -> Result<(), Fail> {
+    derives(&rt, rt.alloc(), &ANGLES)
+}
+
+#[test]
+fn derives_functions(rt: HostRuntime) -> Result<(), Fail> {
+    derives(&rt, rt.alloc(), &FUNCTIONS)
+}
+
+#[test]
+fn derives_choices(rt: HostRuntime) -> Result<(), Fail> {
+    derives(&rt, rt.alloc(), &CHOICES)
+}
+
+#[test]
+fn derives_given(rt: HostRuntime) -> Result<(), Fail> {
+    derives(&rt, rt.alloc(), &GIVEN)
+}
+
+#[test]
+fn carries_out(rt: HostRuntime) -> Result<(), Fail> {
+    carries(&rt, rt.alloc(), &CARRIED)
 }

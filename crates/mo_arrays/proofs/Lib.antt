@@ -1,0 +1,6 @@
+pub mod Checking
+pub mod Forms
+pub mod Lists
+pub mod Numbers
+pub mod Splitting
+pub mod Trees

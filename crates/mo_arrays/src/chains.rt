@@ -1,0 +1,51 @@
+//! Where a chain of factors is multiplied as a matrix or a vector.
+ghost use Rattle.std.specs.Prelude.{◌≡◌, ◌≤◌, ◌++◌, length, slice_range, IfOk};
+ghost use Rattle.mo_arrays.specs.Elements.{Index, chain_before, begun_by, behind_last, latest, acting};
+
+use crate::shape::{Signed, is_matrix_factor, multiplied, shape, with_factor};
+use mo_syntax::{List, NoMemory};
+use std::alloc::Global;
+
+/// The last factor by which a chain of n factors is multiplied as a matrix or a vector.
+pub(crate) fn last_matrix_factor(
+    alloc: Global,
+    factors: &[Signed],
+    n: usize,
+) -> Result<Option<usize>, NoMemory>
+    requires { n ≤ length factors.now }
+    ensures within { IfOk result (λ last. behind_last last ≤ n) }
+    ensures factors { IfOk result (λ last. (index : Index) → (chain_before factors.now n).factors index ≡ begun_by factors.now last index ++ acting (slice_range factors.now (behind_last last) n) index) }
+{
+    let mut last = None;
+    let mut dims = None;
+    for j in 0..n {
+        let factor = &factors[j];
+        let operand = (factor.0, factor.1, shape(alloc, &factor.2)?);
+        last = latest(is_matrix_factor(&dims, &operand), j, last);
+        dims = multiplied(alloc, dims, operand)?;
+    }
+    Ok(last)
+}
+
+/// The last matrix factor once one more factor is seen.
+fn latest(matrix: bool, j: usize, last: Option<usize>) -> Option<usize>
+    ensures { result ≡ latest matrix j last }
+{
+    if matrix { Some(j) } else { last }
+}
+
+/// The dimensions of a chain of the first n factors.
+pub(crate) fn dims_before(
+    alloc: Global,
+    factors: &[Signed],
+    n: usize,
+) -> Result<Option<List<u32>>, NoMemory>
+    requires { n ≤ length factors.now }
+    ensures { IfOk result (λ dims. dims ≡ (chain_before factors.now n).dims) }
+{
+    let mut dims = None;
+    for factor in &factors[..n] {
+        dims = with_factor(alloc, dims, factor)?;
+    }
+    Ok(dims)
+}
