@@ -1,24 +1,151 @@
--- What is told of the file that was read.
-use Rattle.std.proofs.Common.{◌≡◌, ◌<◌, ℕ, List, [], length, Option, Some, None, IfSome}
-use Rattle.std.specs.Prelude.{IsSomeAnd}
+-- From what each step finds to what is told.
+use Rattle.std.proofs.Common.{◌≡◌, ◌+◌, ◌-◌, ℕ, Bool, true, List, [], ◌∷◌, length, Option, Some, None, unwrap_or, IfSome, Result, Ok, Err, IfOk, refl, ap, sym, ◌∙◌, subst}
+use Rattle.mo_syntax.specs.declared.class.Body.{Body}
+use Rattle.mo_syntax.specs.declared.class.ClassDefOf.{ClassDefOf}
+use Rattle.mo_syntax.specs.declared.class.FileTree.{FileTree}
+use Rattle.mo_syntax.specs.declared.class.Item.{Item}
+use Rattle.mo_syntax.specs.declared.place.Broken.{Broken}
+use Rattle.mo_syntax.specs.declared.place.NoMemory.{NoMemory}
+use Rattle.mo_syntax.specs.declared.place.Place.{Place}
+use Rattle.mo_syntax.specs.declared.place.Stop.{Stop}
+use Rattle.mo_syntax.specs.declared.place.Stop.TheVariants.{Broken as broken_by, NoMemory as no_memory}
+use Rattle.mo_syntax.specs.declared.finding.ClassAt.{ClassAt}
+use Rattle.mo_syntax.specs.ClassTable.{broken_class, broken_tree, class_of_path}
+use Rattle.mo_syntax.specs.Rows.{row_of}
+use Rattle.mo_syntax.specs.Lexeme.{Lexeme}
+use Rattle.mo_lexer.specs.Lexing.{IfBroken}
 use Rattle.mo_ports.specs.Contents.{Contents}
+use Rattle.mo_front.specs.declared.load.Unread.TheVariants.{Refused}
+use Rattle.mo_front.specs.declared.model.NameAt.{NameAt}
 use Rattle.mo_front.specs.declared.status.Status.{Status}
-use Rattle.mo_front.specs.declared.status.Status.TheVariants.{Refused}
-use Rattle.mo_front.specs.Limits.{file_limit}
-use Rattle.mo_front.specs.Refusal.{refusal_line, outside}
-use Rattle.mo_front.specs.Run.{TellsFile}
-use Rattle.mo_front.proofs.ToldFacts.{told-long}
+use Rattle.mo_front.specs.declared.status.Status.TheVariants.{Done, Refused as Refuses}
+use Rattle.mo_front.specs.Files.{Reads, none, text, Tokens, Trees}
+use Rattle.mo_front.specs.Form.{declared_names, is_plain_model, items_of}
+use Rattle.mo_front.specs.Limits.{all_files_limit}
+use Rattle.mo_front.specs.Loading.{RefusesReading, TellsTexts, done, refused}
+use Rattle.mo_front.specs.Names.{are_names_plain, first_undeclared, top_names}
+use Rattle.mo_front.specs.Run.{IsAnswer}
+use Rattle.mo_front.specs.Told.{ItemsGive, not_declared, broken, written, used_in, ClassGives, model, IsAskedClass, TreesGive, outermost, no_tree, TextsGive, trees, no_trees, no_tokens, read, unread, line_of_broken, bytes_of_all, Tells}
+use Rattle.mo_front.specs.Told as told
 
-long-file : (class file : List ℕ) (bytes : Option (List ℕ)) (status : Status) (text : List ℕ)
-    → IsSomeAnd bytes (λ all. file_limit < length all) → status ≡ Refused → text ≡ refusal_line file [] outside
-    → TellsFile class file bytes status text
-long-file class file None status text long refused line = absurd long
-long-file class file (Some bytes) status text long refused line = told-long class file bytes status text long refused line
+-- a stop at a broken rule
+pub stopped : (s : Stop) (b : Broken) (P : Broken → Type 0) → s ≡ broken_by b → P b → IfBroken {T = List ℕ} (Err s) P
+stopped s b P is p = rw is p
 
--- a file with too many bytes is refused, where the shelf tells what it holds
-pub tells-long : (told : Option Contents) (class file : List ℕ) (status : Status) (text : List ℕ)
-    → IfSome told (λ contents. IsSomeAnd (contents file) (λ all. file_limit < length all))
-    → status ≡ Refused → text ≡ refusal_line file [] outside
-    → IfSome told (λ contents. TellsFile class file (contents file) status text)
-tells-long None class file status text long refused line = tt
-tells-long (Some contents) class file status text long refused line = long-file class file (contents file) status text long refused line
+pub gives_undeclared : (names top : List (List ℕ)) (class : ClassDefOf Body) (items : List Item) (declared uses listed again : List NameAt) (plain : Bool) (found : Option Place) (place : Place)
+    → names ≡ top → declared ≡ declared_names items → uses ≡ used_in items → listed ≡ uses → again ≡ uses → plain ≡ are_names_plain names declared listed → plain ≡ true
+    → found ≡ first_undeclared declared again → found ≡ Some place → ItemsGive top class items (broken (record { rule = 12; place = place }))
+gives_undeclared names top class items declared uses listed again plain found place they are use_them listed_are again_are is_plain is_true first some =
+    not_declared place (sym (sym is_true ∙ is_plain ∙ same)) (sym (sym some ∙ first ∙ same_first)) refl
+  where
+    same : are_names_plain names declared listed ≡ are_names_plain top (declared_names items) (used_in items)
+    same = rw (they, are, listed_are, use_them) refl
+
+    same_first : first_undeclared declared again ≡ first_undeclared (declared_names items) (used_in items)
+    same_first = rw (are, again_are, use_them) refl
+
+-- ---- a class
+
+pub class-text : (files : List FileTree) (class : ClassDefOf Body) (given : List Item) (form : Bool) (r : Result (List ℕ) Stop) → form ≡ is_plain_model class → form ≡ true → Some given ≡ items_of class.body
+    → IfOk r (λ t. ItemsGive (top_names files) class given (written t)) → IfOk r (λ t. ClassGives files class (written t))
+class-text files class given form (Ok t) is holds they gives = model given (sym is ∙ holds) (sym they) gives
+class-text files class given form (Err s) is holds they gives = tt
+
+pub class-refusal : (files : List FileTree) (class : ClassDefOf Body) (given : List Item) (form : Bool) (r : Result (List ℕ) Stop) → form ≡ is_plain_model class → form ≡ true → Some given ≡ items_of class.body
+    → IfBroken r (λ b. ItemsGive (top_names files) class given (broken b)) → IfBroken r (λ b. ClassGives files class (broken b))
+class-refusal files class given form (Ok t) is holds they gives = tt
+class-refusal files class given form (Err (broken_by b)) is holds they gives = model given (sym is ∙ holds) (sym they) gives
+class-refusal files class given form (Err no_memory) is holds they gives = tt
+
+-- ---- trees
+
+pub asked-text : (path : List (List ℕ)) (files : List FileTree) (class : ClassDefOf Body) (r : Result (List ℕ) Stop) → IsAskedClass path files class → length path ≡ 1
+    → IfOk r (λ t. ClassGives files class (written t)) → IfOk r (λ t. TreesGive path files (written t))
+asked-text path files class (Ok t) asked one gives = outermost class asked one gives
+asked-text path files class (Err s) asked one gives = tt
+
+pub asked-refusal : (path : List (List ℕ)) (files : List FileTree) (class : ClassDefOf Body) (r : Result (List ℕ) Stop) → IsAskedClass path files class → length path ≡ 1
+    → IfBroken r (λ b. ClassGives files class (broken b)) → IfBroken r (λ b. TreesGive path files (broken b))
+asked-refusal path files class (Ok t) asked one gives = tt
+asked-refusal path files class (Err (broken_by b)) asked one gives = outermost class asked one gives
+asked-refusal path files class (Err no_memory) asked one gives = tt
+
+pub no-tree : {T : Type 0} (path : List (List ℕ)) (files : List FileTree) (r : Result T Stop) (s : Stop) → r ≡ Err s → IfBroken r (λ b. broken_tree files ≡ Some b) → IfBroken {T = List ℕ} (Err s) (λ b. TreesGive path files (broken b))
+no-tree {T} path files r s is was = at s (rw is at was)
+  where
+    at : (s : Stop) → IfBroken {T = T} (Err s) (λ b. broken_tree files ≡ Some b) → IfBroken {T = List ℕ} (Err s) (λ b. TreesGive path files (broken b))
+    at (broken_by b) was = no_tree b was refl
+    at no_memory was = tt
+
+-- ---- texts
+
+pub trees-text : (path texts : List (List ℕ)) (lists : List (List Lexeme)) (files : List FileTree) (r : Result (List ℕ) Stop) → Tokens texts (Ok lists) → Trees lists (Ok files)
+    → IfOk r (λ t. TreesGive path files (written t)) → IfOk r (λ t. TextsGive path texts (written t))
+trees-text path texts lists files (Ok t) tokens trees_are gives = trees lists files tokens trees_are gives
+trees-text path texts lists files (Err s) tokens trees_are gives = tt
+
+pub trees-refusal : (path texts : List (List ℕ)) (lists : List (List Lexeme)) (files : List FileTree) (r : Result (List ℕ) Stop) → Tokens texts (Ok lists) → Trees lists (Ok files)
+    → IfBroken r (λ b. TreesGive path files (broken b)) → IfBroken r (λ b. TextsGive path texts (broken b))
+trees-refusal path texts lists files (Ok t) tokens trees_are gives = tt
+trees-refusal path texts lists files (Err (broken_by b)) tokens trees_are gives = trees lists files tokens trees_are gives
+trees-refusal path texts lists files (Err no_memory) tokens trees_are gives = tt
+
+pub no-trees : {T : Type 0} (path texts : List (List ℕ)) (lists : List (List Lexeme)) (r : Result T Stop) (s : Stop) → r ≡ Err s → Tokens texts (Ok lists) → IfBroken r (λ b. Trees lists (Err b))
+    → IfBroken {T = List ℕ} (Err s) (λ b. TextsGive path texts (broken b))
+no-trees {T} path texts lists r s is tokens was = at s (rw is at was)
+  where
+    at : (s : Stop) → IfBroken {T = T} (Err s) (λ b. Trees lists (Err b)) → IfBroken {T = List ℕ} (Err s) (λ b. TextsGive path texts (broken b))
+    at (broken_by b) was = no_trees b lists tokens was refl
+    at no_memory was = tt
+
+pub no-tokens : {T : Type 0} (path texts : List (List ℕ)) (r : Result T Stop) (s : Stop) → r ≡ Err s → IfBroken r (λ b. Tokens texts (Err b)) → IfBroken {T = List ℕ} (Err s) (λ b. TextsGive path texts (broken b))
+no-tokens {T} path texts r s is was = at s (rw is at was)
+  where
+    at : (s : Stop) → IfBroken {T = T} (Err s) (λ b. Tokens texts (Err b)) → IfBroken {T = List ℕ} (Err s) (λ b. TextsGive path texts (broken b))
+    at (broken_by b) was = no_tokens b was refl
+    at no_memory was = tt
+
+-- ---- what is told
+
+pub told-done : (path names texts : List (List ℕ)) (given line : List ℕ) → line ≡ given → TextsGive path texts (written given) → TellsTexts path names texts Done line
+told-done path names texts given line is gives = done (subst (λ (x : List ℕ). TextsGive path texts (written x)) (sym is) gives) refl
+
+pub told-refused : (path names texts : List (List ℕ)) (b : Broken) (line : List ℕ) → line ≡ line_of_broken names texts b → TextsGive path texts (broken b) → TellsTexts path names texts Refuses line
+told-refused path names texts b line is gives = refused b gives refl is
+
+-- the bytes of files that were read are their texts
+read-bytes : (contents : Contents) (k left : ℕ) (names texts : List (List ℕ)) → Reads contents k left names (Ok texts) → bytes_of_all contents names ≡ texts
+read-bytes contents k left [] [] none = refl
+read-bytes contents k left [] (t ∷ texts) r = elim r [ ]
+read-bytes contents k left (name ∷ names) [] r = elim r [ ]
+read-bytes contents k left (name ∷ names) (t ∷ texts) (text it more) =
+    ap (λ (x : List ℕ). x ∷ bytes_of_all contents names) (ap (λ (o : Option (List ℕ)). unwrap_or o []) it.holds) ∙ ap (λ (xs : List (List ℕ)). t ∷ xs) (read-bytes contents (k + 1) (left - length t) names texts more)
+
+tells : (path names texts : List (List ℕ)) (contents : Contents) (status : Status) (line : List ℕ) → Reads contents 1 all_files_limit names (Ok texts) → TellsTexts path names texts status line → Tells path names contents status line
+tells path names texts contents status line reads (done gives is) = told.done (read texts reads gives) is
+tells path names texts contents status line reads (refused b gives is line_is) =
+    told.refused b (read texts reads gives) is (line_is ∙ ap (λ (x : List (List ℕ)). line_of_broken names x b) (sym (read-bytes contents 1 all_files_limit names texts reads)))
+
+pub told-texts : (tells_of : Option Contents) (path names texts : List (List ℕ)) (r : Result (Status × List ℕ) NoMemory) (a : Status × List ℕ) → r ≡ Ok a → IfSome tells_of (λ contents. Reads contents 1 all_files_limit names (Ok texts))
+    → IfOk r (λ x. TellsTexts path names texts x.0 x.1) → IfSome tells_of (λ contents. Tells path names contents a.0 a.1)
+told-texts None path names texts r a is reads gives = tt
+told-texts (Some contents) path names texts r a is reads gives = tells path names texts contents a.0 a.1 reads (rw is at gives)
+
+pub told-line : (tells_of : Option Contents) (path names : List (List ℕ)) (line : List ℕ) → IfSome tells_of (λ contents. RefusesReading contents names (Refused line)) → IfSome tells_of (λ contents. Tells path names contents Refuses line)
+told-line None path names line refuses = tt
+told-line (Some contents) path names line refuses = told.refused refuses.b (unread refuses.b refuses.reads refl) refl refuses.is
+
+pub answers : (path names texts : List (List ℕ)) (status : Status) (line : List ℕ) → TellsTexts path names texts status line → IsAnswer status
+answers path names texts status line (done gives is) = rw is tt
+answers path names texts status line (refused b gives is line_is) = rw is tt
+
+-- the class that was found
+pub asked-class : (path : List (List ℕ)) (files list : List FileTree) (found : ClassAt) → list ≡ files → Some (row_of found) ≡ class_of_path list path → broken_class (class_of_path files path) ≡ None
+    → broken_tree files ≡ None → IsAskedClass path list found.class.now
+asked-class path files list found is at accepted sound = record {
+  row = row_of found;
+  tree = ap broken_tree is ∙ sound;
+  at = sym at;
+  accepted = ap broken_class at ∙ ap (λ (fs : List FileTree). broken_class (class_of_path fs path)) is ∙ accepted;
+  is = refl;
+}

@@ -1,7 +1,9 @@
 pub mod Columns
-pub mod ToldFacts
-pub mod Answering
-pub mod ModelLemmas
 pub mod NameLemmas
 pub mod FlatLemmas
-pub mod Giving
+mod Knowing
+mod Answering
+mod Dotting
+mod OneByOne
+mod Loaded
+mod Writing

@@ -1,13 +1,12 @@
 -- The names that a node uses, form by form.
-use Rattle.std.proofs.Common.{◌≡◌, ℕ, List, [], ◌∷◌, ◌++◌, map, refl, ap, ◌∙◌, sym}
+use Rattle.std.proofs.Common.{◌≡◌, List, [], ◌∷◌, ◌++◌, map, refl, ap, ◌∙◌, sym}
 use Rattle.std.specs.List.{flat_map}
 use Rattle.std.proofs.lemmas.List.Concat.{flat_map-cons}
 use Rattle.mo_syntax.specs.declared.expr.TermOf.{TermOf}
 use Rattle.mo_syntax.specs.declared.expr.FactorOf.{FactorOf}
-use Rattle.mo_syntax.specs.declared.expr.PartOf.{PartOf}
 use Rattle.mo_syntax.specs.declared.expr.ReferenceOf.{ReferenceOf}
 use Rattle.mo_syntax.specs.declared.expr.Expr.{Expr}
-use Rattle.mo_syntax.specs.declared.expr.Node.{Node, fold_out-Node}
+use Rattle.mo_syntax.specs.declared.expr.Node.{fold_out-Node}
 use Rattle.mo_syntax.specs.declared.expr.Node.TheVariants.{Ref, Sum, Product, outs-Ref, outs-Sum, outs-Product}
 use Rattle.mo_front.specs.declared.model.NameAt.{NameAt}
 use Rattle.mo_front.specs.Names.{used, used_below, used_in_node, used_in_expr, nothing_used, name_at_part}

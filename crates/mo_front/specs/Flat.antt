@@ -1,5 +1,5 @@
 -- The flat model of one model of Real scalars.
-use Rattle.std.specs.Prelude.{ℕ, ◌+◌, List, [], ◌∷◌, map, codes, None}
+use Rattle.std.specs.Prelude.{ℕ, ◌+◌, Bool, ◌||◌, nat_lt, sum_by, length, List, [], ◌∷◌, map, codes, None}
 use Rattle.std.specs.List.{position_or_len}
 use Rattle.std.specs.Str.{bytes_eq}
 use Rattle.mo_syntax.specs.declared.equation.EquationOf.{EquationOf}
@@ -10,13 +10,16 @@ use Rattle.mo_syntax.specs.declared.expr.Node.{Node, Node-F, fold-Node}
 use Rattle.mo_syntax.specs.declared.expr.PartOf.{PartOf}
 use Rattle.mo_syntax.specs.declared.meaning.Kind.TheVariants.{Real}
 use Rattle.mo_syntax.specs.declared.meaning.Role.TheVariants.{Unknown}
+use Rattle.mo_syntax.specs.declared.place.Place.{Place}
+use Rattle.mo_flat.specs.Nodes.{node_count}
+use Rattle.mo_flat.specs.Text.{model_text}
 use Rattle.mo_flat.specs.declared.expr.FlatExpr.{FlatExpr}
 use Rattle.mo_flat.specs.declared.expr.FlatExpr as flat
 use Rattle.mo_flat.specs.declared.model.FlatVar.{FlatVar}
 use Rattle.mo_flat.specs.declared.model.FlatEquation.{FlatEquation}
 use Rattle.mo_flat.specs.declared.model.FlatModel.{FlatModel}
 use Rattle.mo_front.specs.declared.model.NameAt.{NameAt}
-use Rattle.mo_front.specs.declared.model.OneModel.{OneModel}
+use Rattle.mo_front.specs.Limits.{unknown_limit, equation_limit, node_limit, text_limit}
 use Rattle.mo_front.specs.Names.{nothing_used}
 
 -- the number of a declared name: its place among the declarations, from 1
@@ -57,13 +60,24 @@ flat_equation declared e = flat_sides e.what
     flat_sides (Equal left right) = record { left = flat_expr declared left; right = flat_expr declared right; place = e.place }
     flat_sides _ = record { left = flat.Time; right = flat.Time; place = e.place }
 
-abbrev pub flat_of : OneModel → FlatModel
-flat_of m = record {
-  name = m.name;
-  place = m.place;
-  vars = map unknown_of m.declared;
+-- the flat model of that name, at that place
+abbrev pub flat_of : List ℕ → Place → List NameAt → List (EquationOf EquationKind) → FlatModel
+flat_of name place declared equations = record {
+  name = name;
+  place = place;
+  vars = map unknown_of declared;
   first = [];
   first_asserts = [];
-  equations = map (flat_equation m.declared) m.equations;
+  equations = map (flat_equation declared) equations;
   asserts = [];
 }
+
+-- ---- its size
+
+abbrev pub equation_nodes : FlatEquation → ℕ
+equation_nodes e = node_count e.left + node_count e.right
+
+-- whether it has too many unknowns, equations or nodes, or its text too many bytes
+abbrev pub is_too_large : FlatModel → Bool
+is_too_large m =
+    nat_lt unknown_limit (length m.vars) || nat_lt equation_limit (length m.equations) || nat_lt node_limit (sum_by equation_nodes m.equations) || nat_lt text_limit (length (model_text m))

@@ -1,8 +1,11 @@
+pub mod Files
 pub mod Flat
 pub mod Form
+pub mod Known
 pub mod Limits
+pub mod Loading
 pub mod Names
-pub mod Reading
 pub mod Refusal
 pub mod Run
 pub mod Told
+pub mod Words

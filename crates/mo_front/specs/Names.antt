@@ -1,19 +1,20 @@
 -- The names of a model: which it uses, which it may use, and the first that is not declared.
-use Rattle.std.specs.Prelude.{ℕ, Bool, true, false, ◌==◌, ◌&&◌, ◌||◌, not, List, [], ◌∷◌, ◌++◌, map, codes, Option, Some, None, is_some, if◌then◌else◌}
+use Rattle.std.specs.Prelude.{ℕ, Bool, false, ◌==◌, ◌&&◌, ◌||◌, not, List, [], ◌∷◌, ◌++◌, map, codes, Option, Some, None, is_some, if◌then◌else◌}
 use Rattle.std.specs.List.{flat_map, list_any, list_all}
 use Rattle.std.specs.Str.{bytes_eq}
+use Rattle.mo_syntax.specs.declared.class.Body.{Body}
+use Rattle.mo_syntax.specs.declared.class.ClassDefOf.{ClassDefOf}
+use Rattle.mo_syntax.specs.declared.class.FileTree.{FileTree}
 use Rattle.mo_syntax.specs.declared.equation.EquationOf.{EquationOf}
 use Rattle.mo_syntax.specs.declared.equation.EquationKind.{EquationKind}
 use Rattle.mo_syntax.specs.declared.equation.EquationKind.TheVariants.{Equal}
 use Rattle.mo_syntax.specs.declared.expr.Expr.{Expr, Expr-F, fold-Expr}
 use Rattle.mo_syntax.specs.declared.expr.Node.{Node, Node-F, fold-Node}
-use Rattle.mo_syntax.specs.declared.expr.Arg.{Arg-F}
-use Rattle.mo_syntax.specs.declared.expr.Args.{Args-F}
 use Rattle.mo_syntax.specs.declared.expr.PartOf.{PartOf}
 use Rattle.mo_syntax.specs.declared.place.Place.{Place}
+use Rattle.mo_syntax.specs.declared.text.Path.{Path}
 use Rattle.mo_tables.specs.Words.{code_in, functions}
 use Rattle.mo_front.specs.declared.model.NameAt.{NameAt}
-use Rattle.mo_front.specs.declared.model.OneModel.{OneModel}
 
 -- ---- the names that an expression uses, from left to right
 
@@ -45,9 +46,9 @@ used_in_kind _ = []
 abbrev pub used_in_equation : EquationOf EquationKind → List NameAt
 used_in_equation e = used_in_kind e.what
 
--- all names that the equations of a model use, in the order of the text
-abbrev pub used_names : OneModel → List NameAt
-used_names m = flat_map used_in_equation m.equations
+-- all names that equations use, in the order of the text
+abbrev pub used_names : List (EquationOf EquationKind) → List NameAt
+used_names equations = flat_map used_in_equation equations
 
 -- ---- which names a model may declare and use
 
@@ -63,24 +64,33 @@ predefined_types =
 abbrev pub is_predefined_type : List ℕ → Bool
 is_predefined_type name = list_any (λ word. bytes_eq word name) predefined_types
 
-abbrev pub is_plain_name : List ℕ → List ℕ → Bool
-is_plain_name model name = not (is_quoted name) && not (is_predefined_type name) && not (is_some (code_in functions name)) && not (bytes_eq name model)
+abbrev pub is_predefined : List ℕ → Bool
+is_predefined name = is_predefined_type name || is_some (code_in functions name)
 
-abbrev pub are_plain : List ℕ → List NameAt → Bool
-are_plain model names = list_all (λ n. is_plain_name model n.name) names
+-- the names of the classes of a file that stand at the top of the class tree
+abbrev pub top_names_in : Option (Path × Place) → List (ClassDefOf Body) → List (List ℕ)
+top_names_in None classes = map (λ class. class.name) classes
+top_names_in (Some within) classes = []
+
+abbrev pub top_names : List FileTree → List (List ℕ)
+top_names files = flat_map (λ file. top_names_in file.within file.classes) files
+
+abbrev pub is_among : List (List ℕ) → List ℕ → Bool
+is_among names name = list_any (λ other. bytes_eq other name) names
+
+-- A plain name is not quoted, not predefined and not that of a class at the top.
+abbrev pub is_plain_name : List (List ℕ) → List ℕ → Bool
+is_plain_name top name = not (is_quoted name) && not (is_predefined name) && not (is_among top name)
+
+abbrev pub are_plain : List (List ℕ) → List NameAt → Bool
+are_plain top names = list_all (λ n. is_plain_name top n.name) names
+
+-- No class at the top has a predefined name, and all declared and used names are plain.
+abbrev pub are_names_plain : List (List ℕ) → List NameAt → List NameAt → Bool
+are_names_plain top declared used = not (list_any is_predefined top) && are_plain top declared && are_plain top used
 
 abbrev pub has_name : List NameAt → List ℕ → Bool
 has_name names name = list_any (λ n. bytes_eq n.name name) names
-
--- no name stands twice among them
-abbrev pub are_distinct : List NameAt → Bool
-are_distinct [] = true
-are_distinct (n ∷ names) = not (has_name names n.name) && are_distinct names
-
--- A model has plain names where its declared names differ from each other, and where no declared or used name is quoted,
--- predefined or the model's own.
-abbrev pub has_plain_names : OneModel → Bool
-has_plain_names m = are_plain m.name m.declared && are_plain m.name (used_names m) && are_distinct m.declared
 
 -- ---- the first name that is not declared
 

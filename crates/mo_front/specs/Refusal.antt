@@ -43,7 +43,3 @@ place_text file bytes place =
 abbrev pub refusal_line : List ℕ → List ℕ → Broken → List ℕ
 refusal_line file bytes broken =
     place_text file bytes broken.place ++ codes ": rule " ++ decimal broken.rule ++ codes ": " ++ rule_text broken.rule ++ codes "\n"
-
--- the file is outside the profile, which is said at its first byte
-abbrev pub outside : Broken
-outside = record { rule = 34; place = record { file = 1; byte = 0 } }

@@ -1,24 +1,25 @@
 -- What the whole program writes, and where its answers come from.
-use Rattle.std.specs.Prelude.{◌≡◌, ℕ, List, [], ◌∷◌, map, Option, Some, None, string_bytes}
+use Rattle.std.specs.Prelude.{◌≡◌, ◌≤◌, ℕ, List, ◌∷◌, length, map, Option, Some, Contains, string_bytes}
 use Rattle.std.specs.declared.string.String.{String}
 use Rattle.std.specs.declared.alloc.Global.{Global}
 use Rattle.mo_ports.specs.Contents.{Contents}
 use Rattle.mo_ports.specs.Written.{AppendsFront, appended}
 use Rattle.mo_front.specs.declared.status.Status.{Status}
 use Rattle.mo_front.specs.declared.status.Status.TheVariants.{Done, Refused, Singular, Usage, ReadFault, WriteFault, NoMemory}
+use Rattle.mo_front.specs.Limits.{most_files}
 use Rattle.mo_front.specs.Told.{Tells}
+use Rattle.mo_front.specs.Words.{NamesClass}
 
--- of an absent file nothing is told
-abbrev pub TellsFile : List ℕ → List ℕ → Option (List ℕ) → Status → List ℕ → Type 0
-TellsFile class file None status text = ⊥
-TellsFile class file (Some bytes) status text = Tells class file bytes status text
+-- The words name a class and from 1 to 64 files.
+pub data Names : List (List ℕ) → List (List ℕ) → List (List ℕ) → Type 0 where
+  words : {all path files : List (List ℕ)} (class : List ℕ) → all ≡ class ∷ files → NamesClass class path → 1 ≤ length files → length files ≤ most_files → Names all path files
 
--- the words are a class and a file, and of these the text is told with this status
-abbrev pub TellsWords : List (List ℕ) → Contents → Status → List ℕ → Type 0
-TellsWords [] contents status text = ⊥
-TellsWords (class ∷ []) contents status text = ⊥
-TellsWords (class ∷ file ∷ []) contents status text = TellsFile class file (contents file) status text
-TellsWords (class ∷ file ∷ more ∷ words) contents status text = ⊥
+-- the words name a class and files, and of these the text is told with this status
+pub record TellsWords (words : List (List ℕ)) (contents : Contents) (status : Status) (text : List ℕ) : Type 0 where
+  pub path : List (List ℕ)
+  pub files : List (List ℕ)
+  pub names : Names words path files
+  pub tells : Tells path files contents status text
 
 -- the statuses that come with a text
 abbrev pub IsAnswer : Status → Type 0
@@ -52,17 +53,30 @@ status_number NoMemory = 6
 
 -- the words of the command line as bytes
 abbrev pub words_of : List (String Global) → List (List ℕ)
-words_of words = map string_bytes words
+words_of strings = map string_bytes strings
 
 -- a text that is told with this status was appended
-pub record WritesTold (words : List (List ℕ)) (contents : Contents) (before after : Option (List ℕ)) (status : Status) : Type 0 where
+pub record WritesTold (Tells : Status → List ℕ → Type 0) (before after : Option (List ℕ)) (status : Status) : Type 0 where
   pub text : List ℕ
-  pub told : TellsWords words contents status text
+  pub told : Tells status text
   pub written : after ≡ appended before text
 
 -- of a text that is told some of the first bytes were appended
-pub record WritesFront (words : List (List ℕ)) (contents : Contents) (before after : Option (List ℕ)) : Type 0 where
+pub record WritesFront (Tells : Status → List ℕ → Type 0) (before after : Option (List ℕ)) : Type 0 where
   pub status : Status
   pub text : List ℕ
-  pub told : TellsWords words contents status text
+  pub told : Tells status text
   pub written : AppendsFront before after text
+
+-- the name of the last failed read is one of these
+pub record IsNamedFault (failed : Option (List ℕ)) (names : List (List ℕ)) : Type 0 where
+  pub name : List ℕ
+  pub is : failed ≡ Some name
+  pub among : Contains names name
+
+-- it is one of the files that the words name
+pub record NamesFault (words : List (List ℕ)) (failed : Option (List ℕ)) : Type 0 where
+  pub path : List (List ℕ)
+  pub files : List (List ℕ)
+  pub names : Names words path files
+  pub fault : IsNamedFault failed files

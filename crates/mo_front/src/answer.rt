@@ -1,108 +1,142 @@
-//! What is told of a class and the bytes of a file.
-ghost use Rattle.std.specs.Prelude.{◌≡◌, ◌≤◌, length, IfOk, true, false};
-ghost use Rattle.mo_syntax.specs.Lexeme.{lexemes};
+//! What is told of a class and the texts of the files.
+ghost use Rattle.std.specs.Prelude.{◌≡◌, ◌<◌, ◌≤◌, length, None, IfOk, All};
+ghost use Rattle.mo_syntax.specs.ClassTable.{broken_tree, class_count};
 ghost use Rattle.mo_lexer.specs.Lexing.{IfBroken};
-ghost use Rattle.mo_front.specs.Names.{used_names};
-ghost use Rattle.mo_front.specs.Told.{ModelGives, TokensGive, BytesGive, Tells, written, broken};
-ghost use Rattle.mo_front.specs.Limits.{file_limit};
+ghost use Rattle.mo_front.specs.Form.{is_plain_model, items_of, declared_names, equations_in};
+ghost use Rattle.mo_front.specs.Known.{IsKnown, IsNumbered};
+ghost use Rattle.mo_front.specs.Limits.{file_limit, most_files};
+ghost use Rattle.mo_front.specs.Names.{top_names, used_names, are_names_plain};
+ghost use Rattle.mo_front.specs.Told.{ClassGives, IsAskedClass, TreesGive, TextsGive, ItemsGive, written, broken};
 
 use crate::flat::flat;
-use crate::model::{NameAt, OneModel};
-use crate::names::{first_unknown, is_plainly_named, uses};
-use crate::reader::one_model;
-use crate::refusal::refusal_text;
-use crate::status::Status;
+use crate::form::{is_flat_form, items};
+use crate::model::NameAt;
+use crate::names::{are_all_plain, is_any_predefined, uses};
+use crate::phases::{all_tokens, all_trees};
+use crate::size::is_large;
+use crate::top::{TopNames, top};
+use crate::variables::{Variables, declared_variables, first_unknown};
 use mo_flat::flat_text;
-use mo_lexer::tokens;
-use mo_syntax::{Broken, NoMemory, Place, Rule, Stop, Text, Token};
+use mo_syntax::{
+    Broken, ClassDef, ClassTree, FileTree, Item, List, Path, Place, Rule, Stop, Text, class_count,
+    find_class,
+};
+use mo_tree::{asked, build};
 use std::alloc::Global;
 
-/// The status and the text that are told of a class in a file of these bytes.
-pub(crate) fn answer(
-    alloc: Global,
-    class: &str,
-    file: &str,
-    bytes: &[u8],
-) -> Result<(Status, Vec<u8>), NoMemory>
-    requires { length bytes.now ≤ file_limit }
-    ensures tells { IfOk result (λ a. Tells class.now file.now bytes.now a.0 a.1.items) }
+/// What the texts of the files give, asked for the class of a path: a text, or the first broken rule.
+pub(crate) fn of_texts(alloc: Global, path: &Path, texts: &[Text]) -> Result<Text, Stop>
+    requires few { length texts.now ≤ most_files }
+    requires short { All (λ text. length text ≤ file_limit) texts.now }
+    ensures text { IfOk result (λ text. TextsGive path.now.0 texts.now (written text)) }
+    ensures refused { IfBroken result (λ b. TextsGive path.now.0 texts.now (broken b)) }
 {
-    match of_bytes(alloc, class, bytes) {
-        Ok(text) => Ok((
-            Status::Done,
-            Vec::from_slice(alloc, text.as_str().as_bytes())?,
-        )),
-        Err(Stop::Broken(broken)) => Ok((
-            Status::Refused,
-            refusal_text(alloc, file, bytes, broken)?,
-        )),
-        Err(Stop::NoMemory) => Err(NoMemory),
-    }
-}
-
-/// What the bytes of a file give: a text, or the first broken rule.
-fn of_bytes(alloc: Global, class: &str, bytes: &[u8]) -> Result<Text, Stop>
-    requires { length bytes.now ≤ file_limit }
-    ensures text { IfOk result (λ text. BytesGive class.now bytes.now (written text)) }
-    ensures refused { IfBroken result (λ b. BytesGive class.now bytes.now (broken b)) }
-{
-    let text = match str::from_utf8(bytes) {
-        Ok(text) => text,
-        Err(error) => return Err(stop(
-            2,
-            Place {
-                file: 1,
-                byte: error.valid_up_to() as u32,
-            },
-        )),
-    };
-    match tokens(alloc, 1, text) {
-        Ok(tokens) => of_tokens(alloc, class, tokens.as_slice()),
+    match all_tokens(alloc, texts) {
+        Ok(tokens) => match all_trees(alloc, tokens.as_slice()) {
+            Ok(files) => of_trees(alloc, path, files),
+            Err(stop) => Err(stop),
+        },
         Err(stop) => Err(stop),
     }
 }
 
-/// What the tokens of a file give: a text, or the first broken rule.
-fn of_tokens(alloc: Global, class: &str, tokens: &[Token]) -> Result<Text, Stop>
-    ensures text { IfOk result (λ text. TokensGive class.now (lexemes tokens.now) (written text)) }
-    ensures refused { IfBroken result (λ b. TokensGive class.now (lexemes tokens.now) (broken b)) }
+/// What the trees of the files give: a text, or the first broken rule.
+fn of_trees(alloc: Global, path: &Path, files: List<FileTree>) -> Result<Text, Stop>
+    ensures text { IfOk result (λ text. TreesGive path.now.0 files (written text)) }
+    ensures refused { IfBroken result (λ b. TreesGive path.now.0 files (broken b)) }
 {
-    let outside = Place { file: 1, byte: 0 };
-    let Some(m) = one_model(alloc, tokens)? else {
-        return Err(stop(34, outside));
-    };
-    let uses = uses(alloc, &m)?;
-    if !is_plainly_named(&m, uses.as_slice()) {
-        return Err(stop(34, outside));
-    }
-    of_model(alloc, class, &m, uses.as_slice())
-}
-
-/// What a model gives: a text, or the first broken rule.
-fn of_model(alloc: Global, class: &str, m: &OneModel, uses: &[NameAt]) -> Result<Text, Stop>
-    requires { uses.now ≡ used_names m.now }
-    ensures text { IfOk result (λ text. ModelGives class.now m.now (written text)) }
-    ensures refused { IfBroken result (λ b. ModelGives class.now m.now (broken b)) }
-{
-    if !is_named(m, class) {
-        return Err(stop(11, Place { file: 0, byte: 0 }));
-    }
-    if let Some(place) = first_unknown(m.declared.as_slice(), uses) {
-        return Err(stop(12, place));
-    }
-    // No file within its limit has so many declarations.
-    if m.declared.len() >= u32::MAX as usize {
+    // No files within their limits have so many classes.
+    if class_count(files.as_slice()) >= 4_294_967_290 {
         return Err(Stop::NoMemory);
     }
-    let flat = flat(alloc, m)?;
-    Ok(flat_text(alloc, &flat)?)
+    match build(alloc, files) {
+        Ok(tree) => of_tree(alloc, path, &tree),
+        Err(stop) => Err(stop),
+    }
 }
 
-fn is_named(m: &OneModel, class: &str) -> bool
-    ensures yes { result ≡ true → m.now.name ≡ class.now }
-    ensures no { result ≡ false → m.now.name ≡ class.now → ⊥ }
+/// What a class tree gives that breaks no rule.
+fn of_tree(alloc: Global, path: &Path, tree: &ClassTree) -> Result<Text, Stop>
+    requires few { class_count tree.now.files < 4294967290 }
+    requires sound { broken_tree tree.now.files ≡ None }
+    ensures text { IfOk result (λ text. TreesGive path.now.0 tree.now.files (written text)) }
+    ensures refused { IfBroken result (λ b. TreesGive path.now.0 tree.now.files (broken b)) }
 {
-    m.name.as_str() == class
+    match asked(tree, path) {
+        Ok(_) => match find_class(tree.files.as_slice(), path.0.as_slice()) {
+            Some(found) => of_asked(alloc, path, tree.files.as_slice(), found.class),
+            // `asked` has found it.
+            None => Err(Stop::NoMemory),
+        },
+        Err(broken) => Err(Stop::Broken(broken)),
+    }
+}
+
+/// What the class of that path gives. Only a class at the top is flattened today.
+fn of_asked(alloc: Global, path: &Path, files: &[FileTree], class: &ClassDef) -> Result<Text, Stop>
+    requires asked { IsAskedClass path.now.0 files.now class.now }
+    ensures text { IfOk result (λ text. TreesGive path.now.0 files.now (written text)) }
+    ensures refused { IfBroken result (λ b. TreesGive path.now.0 files.now (broken b)) }
+{
+    if path.0.len() != 1 {
+        return Err(stop(34, class.place));
+    }
+    of_class(alloc, files, class)
+}
+
+/// What a class at the top gives: a text, or the first broken rule.
+fn of_class(alloc: Global, files: &[FileTree], class: &ClassDef) -> Result<Text, Stop>
+    ensures text { IfOk result (λ text. ClassGives files.now class.now (written text)) }
+    ensures refused { IfBroken result (λ b. ClassGives files.now class.now (broken b)) }
+{
+    if !is_flat_form(class) {
+        return Err(stop(34, class.place));
+    }
+    match items(&class.body) {
+        Some(items) => of_items(alloc, files, class, items),
+        None => Err(stop(34, class.place)),
+    }
+}
+
+/// What a class with these parts gives, where they have the form that is flattened today.
+fn of_items(
+    alloc: Global,
+    files: &[FileTree],
+    class: &ClassDef,
+    items: &[Item],
+) -> Result<Text, Stop>
+    ensures text { IfOk result (λ text. ItemsGive (top_names files.now) class.now items.now (written text)) }
+    ensures refused { IfBroken result (λ b. ItemsGive (top_names files.now) class.now items.now (broken b)) }
+{
+    let top = top(alloc, files)?;
+    let variables = declared_variables(alloc, items)?;
+    let uses = uses(alloc, items)?;
+    if !are_plain_names(&top, &variables, uses.as_slice()) {
+        return Err(stop(34, class.place));
+    }
+    if let Some(place) = first_unknown(&variables, uses.as_slice()) {
+        return Err(stop(12, place));
+    }
+    let flat = flat(alloc, class, &variables, items)?;
+    let text = flat_text(alloc, &flat)?;
+    if is_large(&flat, &text) {
+        return Err(stop(41, class.place));
+    }
+    Ok(text)
+}
+
+/// Whether no class at the top has a predefined name, and all declared and used names are plain.
+fn are_plain_names(top: &TopNames, variables: &Variables, uses: &[NameAt]) -> bool
+    requires known { IsKnown top.now }
+    ensures { result ≡ are_names_plain top.now.names variables.now.names uses.now }
+{
+    if is_any_predefined(top.names.as_slice()) {
+        return false;
+    }
+    if !are_all_plain(top, variables.names.as_slice()) {
+        return false;
+    }
+    are_all_plain(top, uses)
 }
 
 fn stop(rule: u8, place: Place) -> Stop

@@ -1,34 +1,41 @@
 //! The flat model of one model of Real scalars.
-ghost use Rattle.std.specs.Prelude.{◌≡◌, ◌<◌, ◌^◌, ◌-◌, ◌+◌, length, map, IfOk};
-ghost use Rattle.std.specs.List.{position_or_len};
-ghost use Rattle.std.specs.Str.{bytes_eq};
-ghost use Rattle.mo_front.specs.Flat.{number_of, flat_reference, flat_expr, flat_below, unknown_of, flat_equation, flat_of};
+ghost use Rattle.std.specs.Prelude.{◌≡◌, ◌++◌, map, IfOk, OnOk};
+ghost use Rattle.mo_front.specs.Flat.{flat_reference, flat_expr, flat_below, unknown_of, flat_equation, flat_of};
+ghost use Rattle.mo_front.specs.Form.{equations_in, equations_of};
+ghost use Rattle.mo_front.specs.Known.{IsNumbered};
 
-use crate::model::{NameAt, OneModel};
+use crate::model::NameAt;
+use crate::variables::Variables;
 use mo_flat::{FlatEquation, FlatExpr, FlatModel, FlatVar};
 use mo_syntax::{
-    Equation, EquationKind, Expr, Factor, Kind, List, NoMemory, Node, Part, Role, Term, Text,
+    ClassDef, Equation, EquationKind, Expr, Factor, Item, Kind, List, NoMemory, Node, Part, Role,
+    Term, Text,
 };
 use std::alloc::Global;
 
-/// The flat model. A declared name is an unknown, and its number is its place among the declarations, from 1.
-pub(crate) fn flat(alloc: Global, m: &OneModel) -> Result<FlatModel, NoMemory>
-    requires { length m.now.declared < 2 ^ 32 - 1 }
-    ensures { IfOk result (λ f. f ≡ flat_of m.now) }
+/// The flat model of the class with these parts. A declared name is an unknown, and its number is its place among the
+/// declarations, from 1.
+pub(crate) fn flat(
+    alloc: Global,
+    class: &ClassDef,
+    variables: &Variables,
+    items: &[Item],
+) -> Result<FlatModel, NoMemory>
+    requires numbered { IsNumbered variables.now }
+    ensures { IfOk result (λ f. f ≡ flat_of class.now.name class.now.place variables.now.names (equations_in items.now)) }
 {
-    let declared = m.declared.as_slice();
     Ok(FlatModel {
-        name: m.name.copy(alloc)?,
-        place: m.place,
-        vars: variables(alloc, declared)?,
+        name: class.name.copy(alloc)?,
+        place: class.place,
+        vars: unknowns(alloc, variables.names.as_slice())?,
         first: List::new(alloc),
         first_asserts: List::new(alloc),
-        equations: equations(alloc, declared, m.equations.as_slice())?,
+        equations: equations(alloc, variables, items)?,
         asserts: List::new(alloc),
     })
 }
 
-fn variables(alloc: Global, declared: &[NameAt]) -> Result<List<FlatVar>, NoMemory>
+fn unknowns(alloc: Global, declared: &[NameAt]) -> Result<List<FlatVar>, NoMemory>
     ensures { IfOk result (λ vars. vars ≡ map unknown_of declared.now) }
 {
     let mut vars = List::new(alloc);
@@ -48,32 +55,64 @@ fn variables(alloc: Global, declared: &[NameAt]) -> Result<List<FlatVar>, NoMemo
 
 fn equations(
     alloc: Global,
-    declared: &[NameAt],
-    equations: &[Equation],
+    variables: &Variables,
+    items: &[Item],
 ) -> Result<List<FlatEquation>, NoMemory>
-    requires { length declared.now < 2 ^ 32 - 1 }
-    ensures { IfOk result (λ made. made ≡ map (flat_equation declared.now) equations.now) }
+    requires numbered { IsNumbered variables.now }
+    ensures { IfOk result (λ made. made ≡ map (flat_equation variables.now.names) (equations_in items.now)) }
 {
     let mut made = List::new(alloc);
-    for equation in equations {
-        made.push(one_equation(alloc, declared, equation)?)?;
+    for item in items {
+        push_item(alloc, &mut made, variables, item)?;
     }
     Ok(made)
 }
 
+fn push_item(
+    alloc: Global,
+    made: &mut List<FlatEquation>,
+    variables: &Variables,
+    item: &Item,
+) -> Result<(), NoMemory>
+    requires numbered { IsNumbered variables.now }
+    ensures { OnOk result (made.new ≡ made.old ++ map (flat_equation variables.now.names) (equations_of item.now)) }
+{
+    match item {
+        Item::Equations(_, equations) => {
+            push_equations(alloc, made, variables, equations.as_slice())
+        }
+        Item::Import(_) | Item::Extends(_) | Item::Member(_) | Item::Algorithm(_, _) => Ok(()),
+    }
+}
+
+fn push_equations(
+    alloc: Global,
+    made: &mut List<FlatEquation>,
+    variables: &Variables,
+    equations: &[Equation],
+) -> Result<(), NoMemory>
+    requires numbered { IsNumbered variables.now }
+    ensures { OnOk result (made.new ≡ made.old ++ map (flat_equation variables.now.names) equations.now) }
+{
+    for equation in equations {
+        made.push(one_equation(alloc, variables, equation)?)?;
+    }
+    Ok(())
+}
+
 fn one_equation(
     alloc: Global,
-    declared: &[NameAt],
+    variables: &Variables,
     equation: &Equation,
 ) -> Result<FlatEquation, NoMemory>
-    requires { length declared.now < 2 ^ 32 - 1 }
-    ensures { IfOk result (λ made. made ≡ flat_equation declared.now equation.now) }
+    requires numbered { IsNumbered variables.now }
+    ensures { IfOk result (λ made. made ≡ flat_equation variables.now.names equation.now) }
 {
     let place = equation.place;
     match &equation.what {
         EquationKind::Equal(left, right) => Ok(FlatEquation {
-            left: expression(alloc, declared, left)?,
-            right: expression(alloc, declared, right)?,
+            left: expression(alloc, variables, left)?,
+            right: expression(alloc, variables, right)?,
             place,
         }),
         EquationKind::If(_, _)
@@ -89,24 +128,24 @@ fn one_equation(
 }
 
 #[cycle(flat)]
-fn expression(alloc: Global, declared: &[NameAt], e: &Expr) -> Result<FlatExpr, NoMemory>
-    requires { length declared.now < 2 ^ 32 - 1 }
-    ensures { IfOk result (λ f. f ≡ flat_expr declared.now e.now) }
+fn expression(alloc: Global, variables: &Variables, e: &Expr) -> Result<FlatExpr, NoMemory>
+    requires numbered { IsNumbered variables.now }
+    ensures { IfOk result (λ f. f ≡ flat_expr variables.now.names e.now) }
 {
-    node(alloc, declared, e.node.get())
+    node(alloc, variables, e.node.get())
 }
 
 #[cycle(flat)]
-fn node(alloc: Global, declared: &[NameAt], node: &Node) -> Result<FlatExpr, NoMemory>
-    requires { length declared.now < 2 ^ 32 - 1 }
-    ensures { IfOk result (λ f. f ≡ flat_below declared.now node.now) }
+fn node(alloc: Global, variables: &Variables, node: &Node) -> Result<FlatExpr, NoMemory>
+    requires numbered { IsNumbered variables.now }
+    ensures { IfOk result (λ f. f ≡ flat_below variables.now.names node.now) }
 {
     match node {
         Node::Whole(n) => Ok(FlatExpr::Whole(*n)),
         Node::Decimal(text) => Ok(FlatExpr::Decimal(text.copy(alloc)?)),
-        Node::Ref(reference) => Ok(variable(declared, reference.parts.as_slice())),
-        Node::Sum(all) => Ok(FlatExpr::Sum(terms(alloc, declared, all.as_slice())?)),
-        Node::Product(all) => Ok(FlatExpr::Product(factors(alloc, declared, all.as_slice())?)),
+        Node::Ref(reference) => Ok(variable(variables, reference.parts.as_slice())),
+        Node::Sum(all) => Ok(FlatExpr::Sum(terms(alloc, variables, all.as_slice())?)),
+        Node::Product(all) => Ok(FlatExpr::Product(factors(alloc, variables, all.as_slice())?)),
         _ => Ok(FlatExpr::Time),
     }
 }
@@ -114,15 +153,15 @@ fn node(alloc: Global, declared: &[NameAt], node: &Node) -> Result<FlatExpr, NoM
 #[cycle(flat)]
 fn terms(
     alloc: Global,
-    declared: &[NameAt],
+    variables: &Variables,
     terms: &[Term],
 ) -> Result<List<(bool, FlatExpr)>, NoMemory>
-    requires { length declared.now < 2 ^ 32 - 1 }
-    ensures { IfOk result (λ made. made ≡ map (λ t. (t.minus, flat_expr declared.now t.value)) terms.now) }
+    requires numbered { IsNumbered variables.now }
+    ensures { IfOk result (λ made. made ≡ map (λ t. (t.minus, flat_expr variables.now.names t.value)) terms.now) }
 {
     let mut made = List::new(alloc);
     for term in terms {
-        made.push((term.minus, expression(alloc, declared, &term.value)?))?;
+        made.push((term.minus, expression(alloc, variables, &term.value)?))?;
     }
     Ok(made)
 }
@@ -130,39 +169,25 @@ fn terms(
 #[cycle(flat)]
 fn factors(
     alloc: Global,
-    declared: &[NameAt],
+    variables: &Variables,
     factors: &[Factor],
 ) -> Result<List<(bool, FlatExpr)>, NoMemory>
-    requires { length declared.now < 2 ^ 32 - 1 }
-    ensures { IfOk result (λ made. made ≡ map (λ f. (f.divide, flat_expr declared.now f.value)) factors.now) }
+    requires numbered { IsNumbered variables.now }
+    ensures { IfOk result (λ made. made ≡ map (λ f. (f.divide, flat_expr variables.now.names f.value)) factors.now) }
 {
     let mut made = List::new(alloc);
     for factor in factors {
-        made.push((factor.divide, expression(alloc, declared, &factor.value)?))?;
+        made.push((factor.divide, expression(alloc, variables, &factor.value)?))?;
     }
     Ok(made)
 }
 
-fn variable(declared: &[NameAt], parts: &[Part]) -> FlatExpr
-    requires { length declared.now < 2 ^ 32 - 1 }
-    ensures { result ≡ flat_reference declared.now parts.now }
+fn variable(variables: &Variables, parts: &[Part]) -> FlatExpr
+    requires numbered { IsNumbered variables.now }
+    ensures { result ≡ flat_reference variables.now.names parts.now }
 {
     match parts {
         [] => FlatExpr::Time,
-        [part, ..] => FlatExpr::Var(number(declared, part.name.as_str().as_bytes()), 0),
+        [part, ..] => FlatExpr::Var(variables.number(part.name.as_str()), 0),
     }
-}
-
-fn number(declared: &[NameAt], name: &[u8]) -> u32
-    requires { length declared.now < 2 ^ 32 - 1 }
-    ensures { result ≡ number_of declared.now name.now }
-{
-    let mut number = 1u32;
-    for n in declared {
-        if n.name.as_str().as_bytes() == name {
-            return number;
-        }
-        number += 1;
-    }
-    number
 }

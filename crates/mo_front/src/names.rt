@@ -1,11 +1,16 @@
-//! The names that a model declares and uses.
-ghost use Rattle.std.specs.Prelude.{◌≡◌, ◌==◌, ◌++◌, ◌&&◌, map, Option, IfOk, OnOk};
+//! The names that equations use, and which names may be used.
+ghost use Rattle.std.specs.Prelude.{◌≡◌, ◌++◌, map, IfOk, OnOk};
 ghost use Rattle.std.specs.List.{flat_map, list_any};
 ghost use Rattle.std.specs.Str.{bytes_eq};
-ghost use Rattle.mo_front.specs.Names.{used, used_below, used_in_equation, used_names, name_at_part, is_quoted, is_predefined_type, is_plain_name, are_plain, has_name, are_distinct, has_plain_names, first_undeclared};
+ghost use Rattle.mo_front.specs.Form.{equations_in, equations_of};
+ghost use Rattle.mo_front.specs.Known.{IsKnown};
+ghost use Rattle.mo_front.specs.Names.{used, used_below, used_in_equation, used_names, name_at_part, is_quoted, is_predefined, is_predefined_type, is_plain_name, are_plain};
 
-use crate::model::{NameAt, OneModel};
-use mo_syntax::{Equation, EquationKind, Expr, Factor, List, NoMemory, Node, Part, Place, Term};
+use crate::model::NameAt;
+use crate::top::TopNames;
+use mo_syntax::{
+    Equation, EquationKind, Expr, Factor, Item, List, NoMemory, Node, Part, Term, Text,
+};
 use mo_tables::function;
 use std::alloc::Global;
 
@@ -21,14 +26,36 @@ const PREDEFINED_TYPES: [&str; 7] = [
 ];
 
 /// All names that the equations use, in the order of the text.
-pub(crate) fn uses(alloc: Global, m: &OneModel) -> Result<List<NameAt>, NoMemory>
-    ensures { IfOk result (λ names. names ≡ used_names m.now) }
+pub(crate) fn uses(alloc: Global, items: &[Item]) -> Result<List<NameAt>, NoMemory>
+    ensures { IfOk result (λ names. names ≡ used_names (equations_in items.now)) }
 {
     let mut names = List::new(alloc);
-    for equation in m.equations.as_slice() {
-        push_equation(alloc, &mut names, equation)?;
+    for item in items {
+        push_item(alloc, &mut names, item)?;
     }
     Ok(names)
+}
+
+fn push_item(alloc: Global, names: &mut List<NameAt>, item: &Item) -> Result<(), NoMemory>
+    ensures { OnOk result (names.new ≡ names.old ++ used_names (equations_of item.now)) }
+{
+    match item {
+        Item::Equations(_, equations) => push_equations(alloc, names, equations.as_slice()),
+        Item::Import(_) | Item::Extends(_) | Item::Member(_) | Item::Algorithm(_, _) => Ok(()),
+    }
+}
+
+fn push_equations(
+    alloc: Global,
+    names: &mut List<NameAt>,
+    equations: &[Equation],
+) -> Result<(), NoMemory>
+    ensures { OnOk result (names.new ≡ names.old ++ used_names equations.now) }
+{
+    for equation in equations {
+        push_equation(alloc, names, equation)?;
+    }
+    Ok(())
 }
 
 fn push_equation(
@@ -120,20 +147,27 @@ fn has_word(words: &[&'static str], name: &[u8]) -> bool
     false
 }
 
-/// Whether a model of that name may declare and use the name: it is not quoted, not predefined, and not the model's.
-fn is_plain(model: &[u8], name: &[u8]) -> bool
-    ensures { result ≡ is_plain_name model.now name.now }
+/// Whether the name is not quoted, not predefined and not that of a class at the top.
+fn is_plain(top: &TopNames, name: &str) -> bool
+    requires known { IsKnown top.now }
+    ensures { result ≡ is_plain_name top.now.names name.now }
 {
-    if is_quoted_name(name) {
+    if is_quoted_name(name.as_bytes()) {
         return false;
     }
+    if is_predefined_name(name.as_bytes()) {
+        return false;
+    }
+    !top.has(name)
+}
+
+fn is_predefined_name(name: &[u8]) -> bool
+    ensures { result ≡ is_predefined name.now }
+{
     if is_type(name) {
-        return false;
+        return true;
     }
-    if function(name).is_some() {
-        return false;
-    }
-    name != model
+    function(name).is_some()
 }
 
 fn is_quoted_name(name: &[u8]) -> bool
@@ -145,64 +179,27 @@ fn is_quoted_name(name: &[u8]) -> bool
     }
 }
 
-fn are_all_plain(model: &[u8], names: &[NameAt]) -> bool
-    ensures { result ≡ are_plain model.now names.now }
+/// Whether all names are plain.
+pub(crate) fn are_all_plain(top: &TopNames, names: &[NameAt]) -> bool
+    requires known { IsKnown top.now }
+    ensures { result ≡ are_plain top.now.names names.now }
 {
     for n in names {
-        if !is_plain(model, n.name.as_str().as_bytes()) {
+        if !is_plain(top, n.name.as_str()) {
             return false;
         }
     }
     true
 }
 
-/// Whether the name stands among the names.
-pub(crate) fn contains(names: &[NameAt], name: &[u8]) -> bool
-    ensures { result ≡ has_name names.now name.now }
+/// Whether one of the names is predefined.
+pub(crate) fn is_any_predefined(names: &[Text]) -> bool
+    ensures { result ≡ list_any is_predefined names.now }
 {
-    for n in names {
-        if n.name.as_str().as_bytes() == name {
+    for name in names {
+        if is_predefined_name(name.as_str().as_bytes()) {
             return true;
         }
     }
     false
-}
-
-fn are_all_distinct(names: &[NameAt]) -> bool
-    ensures { result ≡ are_distinct names.now }
-{
-    for (i, n) in names.iter().enumerate() {
-        if contains(&names[i + 1..], n.name.as_str().as_bytes()) {
-            return false;
-        }
-    }
-    true
-}
-
-/// Whether the declared names differ from each other, and no declared or used name is quoted, predefined or the model's.
-pub(crate) fn is_plainly_named(m: &OneModel, uses: &[NameAt]) -> bool
-    requires { uses.now ≡ used_names m.now }
-    ensures { result ≡ has_plain_names m.now }
-{
-    let model = m.name.as_str().as_bytes();
-    let declared = m.declared.as_slice();
-    if !are_all_plain(model, declared) {
-        return false;
-    }
-    if !are_all_plain(model, uses) {
-        return false;
-    }
-    are_all_distinct(declared)
-}
-
-/// The first of the used names that is not declared.
-pub(crate) fn first_unknown(declared: &[NameAt], uses: &[NameAt]) -> Option<Place>
-    ensures { result ≡ first_undeclared declared.now uses.now }
-{
-    for n in uses {
-        if !contains(declared, n.name.as_str().as_bytes()) {
-            return Some(n.place);
-        }
-    }
-    None
 }

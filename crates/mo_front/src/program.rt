@@ -1,63 +1,66 @@
 //! The program over any shelf and sink.
-ghost use Rattle.std.specs.Prelude.{◌≡◌, ◌≢◌, ℕ, ◌≤◌, ◌↔◌, ◌⊎◌, Some, length, IfOk, OnOk, IfErr, IfSome, slice_get, ◌∷◌, []};
+ghost use Rattle.std.specs.Prelude.{◌≡◌, ◌≢◌, ℕ, ◌≤◌, ◌⊎◌, List as Seq, length, IfOk, IfErr, IfSome, All};
 ghost use Rattle.mo_ports.specs.Counts.{Rose};
-ghost use Rattle.mo_ports.specs.Written.{appended};
-ghost use Rattle.mo_front.specs.Refusal.{refusal_line, outside};
-ghost use Rattle.mo_front.specs.Run.{IsAnswer, IsSilent, TellsWords, TellsFile, WritesTold, WritesFront, words_of};
+ghost use Rattle.mo_front.specs.Limits.{most_files, file_limit};
+ghost use Rattle.mo_front.specs.Loading.{TellsTexts};
+ghost use Rattle.mo_front.specs.Run.{IsAnswer, IsNamedFault, IsSilent, Names, NamesFault, TellsWords, WritesTold, WritesFront, words_of};
+ghost use Rattle.mo_front.specs.Told.{Tells, line_of_broken};
 
-use crate::answer::answer;
+use crate::answer::of_texts;
+use crate::load::{Unread, read_files};
 use crate::refusal::refusal_text;
 use crate::status::Status;
-use mo_ports::{ReadStop, Shelf, Sink, put_all, read_all};
-use mo_syntax::{Broken, NoMemory, Place, Rule};
+use crate::words::{WordsFault, read_words};
+use mo_ports::{Shelf, Sink, put_all};
+use mo_syntax::{Broken, List, NoMemory, Path, Stop, Text};
 use std::alloc::Global;
 
-/// The most bytes that a file may have.
-const FILE_LIMIT: u64 = 100_000;
-
-/// Runs the program with its words, of which there must be two: the name of a class and the name of a file. It writes the
-/// flat text of the class in that file, or the line that names the first broken rule.
+/// Runs the program with its words: the name of a class and from 1 to 64 names of files. It writes the flat text of the
+/// class in these files, or the line that names the first broken rule.
 ///
 /// All memory is taken before the first write.
 pub fn run<S: Shelf, W: Sink>(alloc: Global, words: &[String], shelf: &mut S, out: &mut W) -> Status
     // What is written: exactly a text that is told of what the shelf holds, nothing, or the front of such a text.
-    ensures told { IsAnswer result → IfSome (S.told shelf.old) (λ contents. WritesTold (words_of words.now) contents (W.written out.old) (W.written out.new) result) }
+    ensures told { IsAnswer result → IfSome (S.told shelf.old) (λ contents. WritesTold (TellsWords (words_of words.now) contents) (W.written out.old) (W.written out.new) result) }
     ensures silent { IsSilent result → W.written out.new ≡ W.written out.old }
-    ensures front { result ≡ Status.WriteFault → IfSome (S.told shelf.old) (λ contents. WritesFront (words_of words.now) contents (W.written out.old) (W.written out.new)) }
+    ensures front { result ≡ Status.WriteFault → IfSome (S.told shelf.old) (λ contents. WritesFront (TellsWords (words_of words.now) contents) (W.written out.old) (W.written out.new)) }
 
     // Where each answer comes from. Want of memory is the one free answer.
-    ensures usage { (result ≡ Status.Usage) ↔ (length words.now ≢ 2) }
+    ensures usage { result ≡ Status.Usage → (path files : Seq (Seq ℕ)) → Names (words_of words.now) path files → ⊥ }
+    ensures only_usage { ((path files : Seq (Seq ℕ)) → Names (words_of words.now) path files → ⊥) → (result ≡ Status.Usage) ⊎ (result ≡ Status.NoMemory) }
     ensures singular { result ≢ Status.Singular }
     ensures read { result ≡ Status.ReadFault → Rose (S.faults shelf.old) (S.faults shelf.new) }
-    ensures read_name { result ≡ Status.ReadFault → S.failed shelf.new ≡ slice_get (words_of words.now) 1 }
+    ensures read_name { result ≡ Status.ReadFault → NamesFault (words_of words.now) (S.failed shelf.new) }
     ensures write { result ≡ Status.WriteFault → Rose (W.faults out.old) (W.faults out.new) }
-    ensures complete { length words.now ≡ 2 → (Rose (S.faults shelf.old) (S.faults shelf.new) → ⊥) → (Rose (W.faults out.old) (W.faults out.new) → ⊥) → IsAnswer result ⊎ (result ≡ Status.NoMemory) }
+    ensures complete { (path files : Seq (Seq ℕ)) → Names (words_of words.now) path files → (Rose (S.faults shelf.old) (S.faults shelf.new) → ⊥) → (Rose (W.faults out.old) (W.faults out.new) → ⊥) → IsAnswer result ⊎ (result ≡ Status.NoMemory) }
 {
-    match words {
-        [class, file] => run_two(alloc, class.as_str(), file.as_str(), shelf, out),
-        _ => Status::Usage,
+    match read_words(alloc, words) {
+        Ok(words) => run_job(alloc, &words.class, words.files, shelf, out),
+        Err(WordsFault::Usage) => Status::Usage,
+        Err(WordsFault::NoMemory) => Status::NoMemory,
     }
 }
 
-/// Runs the program for a class and a file.
-fn run_two<S: Shelf, W: Sink>(
+/// Runs the program for a class and files.
+fn run_job<S: Shelf, W: Sink>(
     alloc: Global,
-    class: &str,
-    file: &str,
+    class: &Path,
+    files: &[String],
     shelf: &mut S,
     out: &mut W,
 ) -> Status
-    ensures told { IsAnswer result → IfSome (S.told shelf.old) (λ contents. WritesTold (class.now ∷ file.now ∷ []) contents (W.written out.old) (W.written out.new) result) }
+    requires few { length files.now ≤ most_files }
+    ensures told { IsAnswer result → IfSome (S.told shelf.old) (λ contents. WritesTold (Tells class.now.0 (words_of files.now) contents) (W.written out.old) (W.written out.new) result) }
     ensures silent { IsSilent result → W.written out.new ≡ W.written out.old }
-    ensures front { result ≡ Status.WriteFault → IfSome (S.told shelf.old) (λ contents. WritesFront (class.now ∷ file.now ∷ []) contents (W.written out.old) (W.written out.new)) }
+    ensures front { result ≡ Status.WriteFault → IfSome (S.told shelf.old) (λ contents. WritesFront (Tells class.now.0 (words_of files.now) contents) (W.written out.old) (W.written out.new)) }
 
     ensures usage { result ≢ Status.Usage }
     ensures singular { result ≢ Status.Singular }
     ensures read { result ≡ Status.ReadFault → Rose (S.faults shelf.old) (S.faults shelf.new) }
-    ensures read_name { result ≡ Status.ReadFault → S.failed shelf.new ≡ Some file.now }
+    ensures read_name { result ≡ Status.ReadFault → IsNamedFault (S.failed shelf.new) (words_of files.now) }
     ensures write { result ≡ Status.WriteFault → Rose (W.faults out.old) (W.faults out.new) }
 {
-    let (status, text) = match read_answer(alloc, class, file, shelf) {
+    let (status, text) = match read_answer(alloc, class, files, shelf) {
         Ok(answer) => answer,
         Err(status) => return status,
     };
@@ -67,41 +70,72 @@ fn run_two<S: Shelf, W: Sink>(
     }
 }
 
-/// Reads the file and finds the status and text that are told, or the status with which nothing is written.
+/// Reads the files and finds the status and text that are told, or the status with which nothing is written.
 fn read_answer<S: Shelf>(
     alloc: Global,
-    class: &str,
-    file: &str,
+    class: &Path,
+    files: &[String],
     shelf: &mut S,
-) -> Result<(Status, Vec<u8>), Status>
-    ensures told { IfOk result (λ a. IfSome (S.told shelf.old) (λ contents. TellsFile class.now file.now (contents file.now) a.0 a.1.items)) }
+) -> Result<(Status, List<u8>), Status>
+    requires few { length files.now ≤ most_files }
+    ensures told { IfOk result (λ a. IfSome (S.told shelf.old) (λ contents. Tells class.now.0 (words_of files.now) contents a.0 a.1)) }
     ensures answers { IfOk result (λ a. IsAnswer a.0) }
     ensures stops { IfErr result (λ status. (status ≡ Status.ReadFault) ⊎ (status ≡ Status.NoMemory)) }
     ensures read { IfErr result (λ status. status ≡ Status.ReadFault → Rose (S.faults shelf.old) (S.faults shelf.new)) }
-    ensures read_name { IfErr result (λ status. status ≡ Status.ReadFault → S.failed shelf.new ≡ Some file.now) }
+    ensures read_name { IfErr result (λ status. status ≡ Status.ReadFault → IsNamedFault (S.failed shelf.new) (words_of files.now)) }
 {
-    match read_all(alloc, shelf, file, FILE_LIMIT) {
-        Ok(bytes) => match answer(alloc, class, file, bytes.as_slice()) {
+    match read_files(alloc, files, shelf) {
+        Ok(texts) => match answer(alloc, class, files, texts.as_slice()) {
             Ok(answer) => Ok(answer),
             Err(_) => Err(Status::NoMemory),
         },
-        Err(ReadStop::TooLong) => match too_long(alloc, file) {
-            Ok(answer) => Ok(answer),
-            Err(_) => Err(Status::NoMemory),
-        },
-        Err(ReadStop::ReadFault) => Err(Status::ReadFault),
-        Err(ReadStop::NoMemory) => Err(Status::NoMemory),
+        Err(Unread::Refused(line)) => Ok((Status::Refused, line)),
+        Err(Unread::Fault) => Err(Status::ReadFault),
+        Err(Unread::NoMemory) => Err(Status::NoMemory),
     }
 }
 
-/// The status and the text that are told of a file with too many bytes: it is outside the profile at its first byte.
-fn too_long(alloc: Global, file: &str) -> Result<(Status, Vec<u8>), NoMemory>
-    ensures status { IfOk result (λ a. a.0 ≡ Status.Refused) }
-    ensures text { IfOk result (λ a. a.1.items ≡ refusal_line file.now [] outside) }
+/// The status and the text that are told of a class and files with these texts.
+fn answer(
+    alloc: Global,
+    class: &Path,
+    files: &[String],
+    texts: &[Text],
+) -> Result<(Status, List<u8>), NoMemory>
+    requires few { length texts.now ≤ most_files }
+    requires short { All (λ text. length text ≤ file_limit) texts.now }
+    ensures tells { IfOk result (λ a. TellsTexts class.now.0 (words_of files.now) texts.now a.0 a.1) }
 {
-    let outside = Broken {
-        rule: Rule::new(34),
-        place: Place { file: 1, byte: 0 },
+    match of_texts(alloc, class, texts) {
+        Ok(text) => Ok((
+            Status::Done,
+            List::from_vec(Vec::from_slice(alloc, text.as_str().as_bytes())?),
+        )),
+        Err(Stop::Broken(broken)) => Ok((
+            Status::Refused,
+            List::from_vec(line_of(alloc, files, texts, broken)?),
+        )),
+        Err(Stop::NoMemory) => Err(NoMemory),
+    }
+}
+
+/// The line of a rule that is broken in files with these texts.
+fn line_of(
+    alloc: Global,
+    files: &[String],
+    texts: &[Text],
+    broken: Broken,
+) -> Result<Vec<u8>, NoMemory>
+    ensures { IfOk result (λ line. line.items ≡ line_of_broken (words_of files.now) texts.now broken) }
+{
+    let at = (broken.place.file as usize).saturating_sub(1);
+    let name = match files.get(at) {
+        Some(name) => name.as_str(),
+        None => "",
     };
-    Ok((Status::Refused, refusal_text(alloc, file, &[], outside)?))
+    let text = match texts.get(at) {
+        Some(text) => text.as_str().as_bytes(),
+        None => &[],
+    };
+    refusal_text(alloc, name, text, broken)
 }

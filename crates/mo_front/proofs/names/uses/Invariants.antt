@@ -1,7 +1,7 @@
 use Rattle.std.proofs.Common.{◌≡◌, take}
-use Rattle.std.specs.List.{flat_map}
-use Rattle.mo_front.specs.Names.{used_in_equation}
+use Rattle.mo_front.specs.Form.{equations_in}
+use Rattle.mo_front.specs.Names.{used_names}
 use Rattle.mo_front.proofs.names.uses.Given as goal
 
-abbrev pub invariant-loop-equation : goal.invariant-loop-equation
-invariant-loop-equation l = l.names ≡ flat_map used_in_equation (take l.equation-index l.equation-items)
+abbrev pub invariant-loop-item : goal.invariant-loop-item
+invariant-loop-item l = l.names ≡ used_names (equations_in (take l.item-index l.items))

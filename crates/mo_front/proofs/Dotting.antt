@@ -1,0 +1,93 @@
+-- Names with dots between them.
+use Rattle.std.proofs.Common.{◌≡◌, ◌<◌, ◌≤◌, ◌-◌, ℕ, suc, List, [], ◌∷◌, ◌++◌, length, drop, take, get_or, subst, Option, Some, None, refl, ap, sym, ◌∙◌, append_assoc, arith}
+use Rattle.std.specs.Prelude.{string_bytes}
+use Rattle.std.specs.declared.string.String.{String}
+use Rattle.std.specs.declared.alloc.Global.{Global}
+use Rattle.std.proofs.lemmas.List.{length-drop, length-map, take_all}
+use Rattle.mo_syntax.specs.declared.token.Token.{Token}
+use Rattle.mo_syntax.specs.Lexeme.{Lexeme, lexemes}
+use Rattle.mo_front.specs.Run.{Names, words, words_of}
+use Rattle.mo_front.specs.Words.{NamesClass, before, dotted_names, name_alone, name_before_dot, with_dots}
+
+-- names before those that tokens are
+abbrev pub behind : List (List ℕ) → Option (List (List ℕ)) → Option (List (List ℕ))
+behind names None = None
+behind names (Some more) = Some (names ++ more)
+
+begun : (ts : List Token) → 2 < length ts → dotted_names (lexemes ts) ≡ before (name_before_dot (lexemes ts)) (dotted_names (lexemes (drop 2 ts)))
+begun [] long = absurd (omega (arith, long))
+begun (a ∷ []) long = absurd (omega (arith, long))
+begun (a ∷ b ∷ []) long = absurd (omega (arith, long))
+begun (a ∷ b ∷ c ∷ ts) long = refl
+
+ended : (ts : List Token) → length ts ≤ 2 → dotted_names (lexemes ts) ≡ before (name_alone (lexemes ts)) (Some [])
+ended [] short = refl
+ended (a ∷ []) short = refl
+ended (a ∷ b ∷ []) short = refl
+ended (a ∷ b ∷ c ∷ ts) short = absurd (omega (arith, short))
+
+moved : (names : List (List ℕ)) (name : List ℕ) (o : Option (List (List ℕ))) → behind names (before (Some name) o) ≡ behind (names ++ name ∷ []) o
+moved names name None = refl
+moved names name (Some x) = ap Some (sym (append_assoc names (name ∷ []) x))
+
+pub dotted-step : (all : List Lexeme) (rest : List Token) (names new : List (List ℕ)) (name : List ℕ) → dotted_names all ≡ behind names (dotted_names (lexemes rest)) → 2 < length rest
+    → Some name ≡ name_before_dot (lexemes rest) → new ≡ names ++ name ∷ [] → dotted_names all ≡ behind new (dotted_names (lexemes (take (length rest - 2) (drop 2 rest))))
+dotted-step all rest names new name held long is pushed =
+    held ∙ ap (behind names) (begun rest long) ∙ ap (λ (x : Option (List ℕ)). behind names (before x (dotted_names (lexemes (drop 2 rest))))) (sym is) ∙ moved names name (dotted_names (lexemes (drop 2 rest)))
+    ∙ ap (λ (x : List (List ℕ)). behind x (dotted_names (lexemes (drop 2 rest)))) (sym pushed)
+    ∙ ap (λ (x : List Token). behind new (dotted_names (lexemes x))) (sym (take_all (length rest - 2) (drop 2 rest) (omega (arith, length-drop 2 rest, long))))
+
+pub dotted-stop : (all : List Lexeme) (rest : List Token) (names : List (List ℕ)) → dotted_names all ≡ behind names (dotted_names (lexemes rest)) → 2 < length rest
+    → None ≡ name_before_dot (lexemes rest) → None ≡ dotted_names all
+dotted-stop all rest names held long is =
+    sym (held ∙ ap (behind names) (begun rest long) ∙ ap (λ (x : Option (List ℕ)). behind names (before x (dotted_names (lexemes (drop 2 rest))))) (sym is))
+
+pub dotted-end : (all : List Lexeme) (rest : List Token) (names : List (List ℕ)) → dotted_names all ≡ behind names (dotted_names (lexemes rest)) → length rest ≤ 2
+    → None ≡ name_alone (lexemes rest) → None ≡ dotted_names all
+dotted-end all rest names held short is = sym (held ∙ ap (behind names) (ended rest short) ∙ ap (λ (x : Option (List ℕ)). behind names (before x (Some []))) (sym is))
+
+pub dotted-last : (all : List Lexeme) (rest : List Token) (names new : List (List ℕ)) (name : List ℕ) → dotted_names all ≡ behind names (dotted_names (lexemes rest)) → length rest ≤ 2
+    → Some name ≡ name_alone (lexemes rest) → new ≡ names ++ name ∷ [] → Some new ≡ dotted_names all
+dotted-last all rest names new name held short is pushed =
+    ap Some pushed ∙ sym (held ∙ ap (behind names) (ended rest short) ∙ ap (λ (x : Option (List ℕ)). behind names (before x (Some []))) (sym is))
+
+-- no path is that of other tokens
+pub no-path : (mine yours : List Lexeme) (path : List (List ℕ)) → None ≡ dotted_names mine → yours ≡ mine → dotted_names yours ≡ Some path → ⊥
+no-path mine yours path none same some = clash (none ∙ ap dotted_names (sym same) ∙ some)
+  where
+    clash : None ≡ Some path → ⊥
+    clash eq = cc
+
+pub other-word : (mine yours : List Lexeme) (names path listed : List (List ℕ)) (word joined : List ℕ) → Some names ≡ dotted_names mine → yours ≡ mine → dotted_names yours ≡ Some path
+    → listed ≡ names → joined ≡ with_dots listed → word ≡ with_dots path → (joined ≡ word → ⊥) → ⊥
+other-word mine yours names path listed word joined some same is they joined_is word_is differ = differ (joined_is ∙ ap with_dots (they ∙ one) ∙ sym word_is)
+  where
+    both : Some names ≡ Some path
+    both = some ∙ ap dotted_names (sym same) ∙ is
+
+    one : names ≡ path
+    one = cc
+
+-- ---- the words of the command line
+
+words-split : (all : List (String Global)) (d : String Global) (name : List ℕ) → 1 ≤ length all → name ≡ string_bytes (get_or all 0 d) → words_of all ≡ name ∷ words_of (take (length all - 1) (drop 1 all))
+words-split [] d name some is = absurd (omega (arith, some))
+words-split (w ∷ all) d name some is =
+    ap (λ (x : List ℕ). x ∷ words_of all) (sym is) ∙ ap (λ (x : List (String Global)). name ∷ words_of x) (sym (take_all (length (w ∷ all) - 1) all (omega (arith, length-more w all))))
+  where
+    length-more : (w : String Global) (xs : List (String Global)) → length (w ∷ xs) ≡ suc (length xs)
+    length-more w xs = refl
+
+pub names-words : (all : List (String Global)) (d : String Global) (name : List ℕ) (path : List (List ℕ)) → 1 ≤ length all → name ≡ string_bytes (get_or all 0 d) → NamesClass name path
+    → 1 ≤ length (take (length all - 1) (drop 1 all)) → length (take (length all - 1) (drop 1 all)) ≤ 64 → Names (words_of all) path (words_of (take (length all - 1) (drop 1 all)))
+names-words all d name path some is names one most =
+    words name (words-split all d name some is) names (rw (length-map (take (length all - 1) (drop 1 all)) string_bytes) one) (rw (length-map (take (length all - 1) (drop 1 all)) string_bytes) most)
+
+pub no-names : (all : List (String Global)) (d : String Global) (name : List ℕ) → 1 ≤ length all → name ≡ string_bytes (get_or all 0 d) → ((path : List (List ℕ)) → NamesClass name path → ⊥)
+    → (path files : List (List ℕ)) → Names (words_of all) path files → ⊥
+no-names all d name some is none path files (words class split names one most) = none path (subst (λ (x : List ℕ). NamesClass x path) (sym same) names)
+  where
+    same : name ≡ class
+    same =
+        let both : name ∷ words_of (take (length all - 1) (drop 1 all)) ≡ class ∷ files = sym (words-split all d name some is) ∙ split in
+        cc

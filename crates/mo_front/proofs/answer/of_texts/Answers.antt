@@ -1,0 +1,22 @@
+-- The phases, one after another.
+use Rattle.std.proofs.Common.{map, subst, Ok, Err}
+use Rattle.mo_syntax.specs.Lexeme.{lexemes}
+use Rattle.mo_lexer.specs.Lexing.{IfBroken}
+use Rattle.mo_front.specs.Files.{Trees}
+use Rattle.mo_front.proofs.Answering.{trees-text, trees-refusal, no-trees, no-tokens}
+use Rattle.mo_front.proofs.answer.of_texts.Goals as goal
+
+pub returns-in-Ok-all_trees-clause-text : goal.returns-in-Ok-all_trees-clause-text
+returns-in-Ok-all_trees-clause-text c =
+    trees-text _ _ _ _ _ c.in-Ok.ensures.tokens (subst (λ x. Trees (map lexemes x) (Ok c.in-Ok-all_trees.files)) c.as_slice.ensures c.in-Ok-all_trees.ensures.trees) c.of_trees.ensures.text
+
+pub returns-in-Ok-all_trees-clause-refused : goal.returns-in-Ok-all_trees-clause-refused
+returns-in-Ok-all_trees-clause-refused c =
+    trees-refusal _ _ _ _ _ c.in-Ok.ensures.tokens (subst (λ x. Trees (map lexemes x) (Ok c.in-Ok-all_trees.files)) c.as_slice.ensures c.in-Ok-all_trees.ensures.trees) c.of_trees.ensures.refused
+
+pub returns-in-Ok-clause-refused : goal.returns-in-Ok-clause-refused
+returns-in-Ok-clause-refused c =
+    no-trees _ _ _ c.all_trees.result _ c.in-Err-all_trees.is c.in-Ok.ensures.tokens (subst (λ x. IfBroken c.all_trees.result (λ b. Trees (map lexemes x) (Err b))) c.as_slice.ensures c.all_trees.ensures.broken)
+
+pub returns-clause-refused : goal.returns-clause-refused
+returns-clause-refused c = no-tokens _ _ c.all_tokens.result _ c.in-Err.is c.all_tokens.ensures.broken
