@@ -22,3 +22,6 @@ mod words;
 
 pub use program::run;
 pub use status::Status;
+
+#[cfg(test)]
+mod tests;
