@@ -1,5 +1,2 @@
-pub mod Atoms
-pub mod Greedy
-pub mod FrontLemmas
 pub mod ArgumentLoops
 pub mod Values

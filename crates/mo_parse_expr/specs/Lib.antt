@@ -1,3 +1,1 @@
-pub mod Fronts
 pub mod Literals
-pub mod Sums
