@@ -13,3 +13,6 @@ mod walk;
 
 pub use building::build;
 pub use question::asked;
+
+#[cfg(test)]
+mod tests;
