@@ -4,3 +4,5 @@ pub mod Lists
 pub mod Numbers
 pub mod Splitting
 pub mod Trees
+pub mod Agreeing
+pub mod ShapeLaw

@@ -97,6 +97,36 @@ y=zeros(2)|y[1] = 0; y[2] = 0;
 y=ones(2)|y[1] = 1; y[2] = 1; 
 S=identity(2)|S[1,1] = 1; S[1,2] = 0; S[2,1] = 0; S[2,2] = 1; ";
 
+const ELEMENTARY: &str = "y=v abs/1|y[1] = abs(v[1]); y[2] = abs(v[2]); 
+y=v acos/1|y[1] = acos(v[1]); y[2] = acos(v[2]); 
+y=v asin/1|y[1] = asin(v[1]); y[2] = asin(v[2]); 
+y=v atan/1|y[1] = atan(v[1]); y[2] = atan(v[2]); 
+y=v cos/1|y[1] = cos(v[1]); y[2] = cos(v[2]); 
+y=v cosh/1|y[1] = cosh(v[1]); y[2] = cosh(v[2]); 
+y=v exp/1|y[1] = exp(v[1]); y[2] = exp(v[2]); 
+y=v log/1|y[1] = log(v[1]); y[2] = log(v[2]); 
+y=v log10/1|y[1] = log10(v[1]); y[2] = log10(v[2]); 
+y=v noEvent/1|y[1] = noEvent(v[1]); y[2] = noEvent(v[2]); 
+y=v sinh/1|y[1] = sinh(v[1]); y[2] = sinh(v[2]); 
+y=v sqrt/1|y[1] = sqrt(v[1]); y[2] = sqrt(v[2]); 
+y=v tan/1|y[1] = tan(v[1]); y[2] = tan(v[2]); 
+y=v tanh/1|y[1] = tanh(v[1]); y[2] = tanh(v[2]); 
+x=x n max/2|x = max(x, n); 
+x=x n min/2|x = min(x, n); 
+x=n abs/1|x = abs(n); ";
+
+const CONDITIONS: &str = "x=x n < x n if|x = if x < n then x else n; 
+x=x n <= x n if|x = if x <= n then x else n; 
+x=x n > x n if|x = if x > n then x else n; 
+x=x n >= x n if|x = if x >= n then x else n; 
+x=x n == x n if|x = if x == n then x else n; 
+x=x n <> x n if|x = if x <> n then x else n; 
+x=s s == x n if|x = if s == s then x else n; 
+x=e e <> x n if|x = if e <> e then x else n; 
+x=b not x n if|x = if not b then x else n; 
+x=b b and x n if|x = if b and b then x else n; 
+x=b x n < or x n if|x = if b or x < n then x else n; ";
+
 const FORMS: &str = "y=b v y if|y[1] = if b then v[1] else y[1]; y[2] = if b then v[2] else y[2]; 
 y=v der|y[1] = der(v[1]); y[2] = der(v[2]); 
 w=3:-1:1|w[1] = 3; w[2] = 2; w[3] = 1; 
@@ -144,6 +174,16 @@ fn operators(rt: HostRuntime) -> Result<(), NoMemory> {
 #[test]
 fn functions(rt: HostRuntime) -> Result<(), NoMemory> {
     check(&rt, rt.alloc(), FUNCTIONS)
+}
+
+#[test]
+fn elementary_functions(rt: HostRuntime) -> Result<(), NoMemory> {
+    check(&rt, rt.alloc(), ELEMENTARY)
+}
+
+#[test]
+fn conditions(rt: HostRuntime) -> Result<(), NoMemory> {
+    check(&rt, rt.alloc(), CONDITIONS)
 }
 
 #[test]

@@ -11,11 +11,13 @@ mod chains;
 mod elements;
 mod equations;
 mod indices;
+mod laws;
 mod places;
 mod shape;
 mod subscripts;
 
 pub use equations::{element, scalar_equations};
+pub use laws::elements_fill_the_dimensions;
 
 #[cfg(test)]
 mod equation_tests;

@@ -183,10 +183,10 @@ fn power(alloc: Global, stack: &mut List<ArrayExpr>, dotted: bool) -> Result<Arr
     Ok(ArrayNode::Power(base, dotted, exponent))
 }
 
-fn relation(alloc: Global, stack: &mut List<ArrayExpr>) -> Result<ArrayNode, NoMemory> {
+fn relation(alloc: Global, stack: &mut List<ArrayExpr>, op: RelOp) -> Result<ArrayNode, NoMemory> {
     let right = pop(alloc, stack)?;
     let left = pop(alloc, stack)?;
-    Ok(ArrayNode::Relation(RelOp::Less, left, right))
+    Ok(ArrayNode::Relation(op, left, right))
 }
 
 fn negated(alloc: Global, stack: &mut List<ArrayExpr>) -> Result<ArrayNode, NoMemory> {
@@ -346,7 +346,12 @@ fn word(
         "./" => Ok(ArrayNode::Product(chain(alloc, stack, 2, true, true)?)),
         "^" => power(alloc, stack, false),
         ".^" => power(alloc, stack, true),
-        "<" => relation(alloc, stack),
+        "<" => relation(alloc, stack, RelOp::Less),
+        "<=" => relation(alloc, stack, RelOp::LessEqual),
+        ">" => relation(alloc, stack, RelOp::Greater),
+        ">=" => relation(alloc, stack, RelOp::GreaterEqual),
+        "==" => relation(alloc, stack, RelOp::Equal),
+        "<>" => relation(alloc, stack, RelOp::NotEqual),
         "neg" => negated(alloc, stack),
         "if" => choice(alloc, stack),
         "not" => Ok(ArrayNode::Not(pop(alloc, stack)?)),
