@@ -1,0 +1,4 @@
+//! Trees as source text, such that reading the text again gives the tree, places aside.
+#![tactic(auto)]
+
+mod piece;
