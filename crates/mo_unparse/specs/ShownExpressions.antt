@@ -118,23 +118,25 @@ given_pieces show plain named = commas (λ x. x) (map show plain ++ map (named_p
 
 -- ---- operators
 
-abbrev pub sign : Bool → Bool → Piece
-sign minus dotted = a_mark (if minus then (if dotted then codes ".-" else codes "-") else (if dotted then codes ".+" else codes "+"))
+abbrev pub sign_mark : Bool → Bool → List ℕ
+sign_mark minus dotted = if minus then (if dotted then codes ".-" else codes "-") else (if dotted then codes ".+" else codes "+")
 
 -- what stands before a term; a first term has a sign only where it is subtracted
-abbrev pub sign_before : {E : Type 0} → Bool → TermOf E → List Piece
-sign_before first term = if first then (if term.minus then sign true term.dotted ∷ [] else []) else spaced (sign term.minus term.dotted)
+abbrev pub sign_before : Bool → Bool → Bool → List Piece
+sign_before first minus dotted = if first then (if minus then a_mark (sign_mark true dotted) ∷ [] else []) else spaced (a_mark (sign_mark minus dotted))
 
 abbrev pub terms_pieces : {E : Type 0} → (E → Shown) → List (TermOf E) → List Piece
-terms_pieces show terms = in_row (λ first term. sign_before first term ++ operand 7 (show term.value)) terms
+terms_pieces show terms = in_row (λ first term. sign_before first term.minus term.dotted ++ operand 7 (show term.value)) terms
 
--- what stands before a factor that is not the first
-abbrev pub times_before : Bool → Bool → List Piece
-times_before divide dotted =
-    if dotted then spaced (a_mark (if divide then codes "./" else codes ".*")) else a_mark (if divide then codes "/" else codes "*") ∷ []
+abbrev pub times_mark : Bool → Bool → List ℕ
+times_mark divide dotted = if dotted then (if divide then codes "./" else codes ".*") else (if divide then codes "/" else codes "*")
+
+-- what stands before a factor; nothing stands before the first
+abbrev pub times_before : Bool → Bool → Bool → List Piece
+times_before first divide dotted = if first then [] else (if dotted then spaced (a_mark (times_mark divide dotted)) else a_mark (times_mark divide dotted) ∷ [])
 
 abbrev pub factors_pieces : {E : Type 0} → (E → Shown) → List (FactorOf E) → List Piece
-factors_pieces show factors = in_row (λ first factor. (if first then [] else times_before factor.divide factor.dotted) ++ operand 8 (show factor.value)) factors
+factors_pieces show factors = in_row (λ first factor. times_before first factor.divide factor.dotted ++ operand 8 (show factor.value)) factors
 
 abbrev pub power_mark : Bool → List Piece
 power_mark dotted = if dotted then spaced (a_mark (codes ".^")) else a_mark (codes "^") ∷ []
@@ -156,10 +158,11 @@ abbrev pub step_pieces : {E : Type 0} → (E → Shown) → Option E → List Pi
 step_pieces show None = []
 step_pieces show (Some e) = operand 2 (show e) ++ a_mark (codes ":") ∷ []
 
+abbrev pub branch_word : Bool → List Piece
+branch_word first = if first then a_word (codes "if") ∷ a_blank ∷ [] else spaced (a_word (codes "elseif"))
+
 abbrev pub branch_pieces : {E : Type 0} → (E → Shown) → Bool → BranchOf E → List Piece
-branch_pieces show first branch =
-    (if first then a_word (codes "if") ∷ [] else a_blank ∷ a_word (codes "elseif") ∷ []) ++ a_blank ∷ (show branch.condition).pieces
-    ++ spaced (a_word (codes "then")) ++ (show branch.value).pieces
+branch_pieces show first branch = branch_word first ++ (show branch.condition).pieces ++ spaced (a_word (codes "then")) ++ (show branch.value).pieces
 
 abbrev pub row_pieces : {E : Type 0} → (E → Shown) → List E → List Piece
 row_pieces show row = commas (λ e. (show e).pieces) row

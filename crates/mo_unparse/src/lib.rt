@@ -1,4 +1,5 @@
 //! Trees as source text, such that reading the text again gives the tree, places aside.
 #![tactic(auto)]
 
+mod layout;
 mod piece;
