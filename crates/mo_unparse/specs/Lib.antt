@@ -1,3 +1,4 @@
 pub mod Pieces
 pub mod Gathered
 pub mod ShownExpressions
+pub mod Text

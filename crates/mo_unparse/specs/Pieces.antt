@@ -27,6 +27,9 @@ pub data Piece : Type 0 where
 abbrev pub nowhere : Place
 nowhere = record { file = 0; byte = 0 }
 
+abbrev pub placeless_token : Lexeme → Lexeme
+placeless_token t = record t { place = nowhere }
+
 abbrev pub token_of : TokenKind → List ℕ → List Lexeme
 token_of kind text = record { kind = kind; text = text; place = nowhere } ∷ []
 

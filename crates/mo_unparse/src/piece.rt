@@ -44,6 +44,13 @@ impl<'t> Pieces<'t> {
         Pieces(Vec::new(alloc))
     }
 
+    /// The pieces in their order.
+    pub(crate) fn as_slice(&self) -> &[Piece<'t>]
+        ensures { result.now ≡ self.now.0.items }
+    {
+        self.0.as_slice()
+    }
+
     /// Puts a piece at the end.
     fn put(&mut self, piece: Piece<'t>) -> Result<(), NoMemory>
         ensures { OnOk result (self.new.0.items ≡ self.old.0.items ++ piece.entry ∷ []) }
