@@ -2,3 +2,8 @@ pub mod Pieces
 pub mod Gathered
 pub mod ShownExpressions
 pub mod Text
+pub mod Lines
+pub mod ShownEquations
+pub mod ShownModifiers
+pub mod ShownElements
+pub mod ShownClasses

@@ -3,4 +3,5 @@
 
 mod layout;
 mod piece;
+mod section;
 mod text;
