@@ -35,6 +35,11 @@ HoldsBy P T (under called g h) l x = HoldsBy P T g l x.0 × HoldsBy P T h (renam
 HoldsBy P T (unless test g h) l x = HoldsBy P T g l x.0 × HoldsOr (HoldsBy P T h l) (λ t. T t × IsTrue (test t x.0)) x.1
 HoldsBy P T (symbol x) l a = P x l a
 
+-- what follows for each from what holds of each
+pub each_follows : {A : Type 0} (P Q : A → Type 0) → ((a : A) → P a → Q a) → (list : List A) → HoldsEach P list → HoldsEach Q list
+each_follows P Q k [] h = tt
+each_follows P Q k (a ∷ list) h = (k a h.0, each_follows P Q k list h.1)
+
 -- what holds of each of a list holds of each of its parts
 pub all_left : {A : Type 0} (P : A → Type 0) (xs ys : List A) → All P (xs ++ ys) → All P xs
 all_left P [] ys h = All-nil P

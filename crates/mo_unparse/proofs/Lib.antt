@@ -1,2 +1,4 @@
 pub mod Holding
+pub mod Building
+pub mod WordPieces
 pub mod Growth
