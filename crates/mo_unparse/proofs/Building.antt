@@ -3,7 +3,6 @@
 use Rattle.std.proofs.Common.{◌≡◌, ℕ, zero, suc, Bool, true, false, List, [], ◌∷◌, ◌++◌, inl, inr, map, flat_map, Option, Some, None, IsTrue, refl, sym, ap, subst, ◌∙◌, append-nil, eq-eqb, eqb-true, ◌||◌, ◌==◌, arith}
 use Rattle.std.proofs.lemmas.Grind.{flat_map-append}
 use Rattle.std.proofs.lemmas.List.Elements.{All-append, All-cons, All-nil}
-use Rattle.mo_syntax.specs.declared.place.Place.{Place}
 use Rattle.mo_syntax.specs.declared.token.TokenKind.{TokenKind}
 use Rattle.mo_syntax.specs.declared.token.TokenKind.TheVariants.{Ident, Keyword, Operator, Whole, Decimal, Str, End}
 use Rattle.mo_grammar.specs.Codes.{ident, whole, decimal, string, end_of_file, operator_code, word_code}
@@ -16,7 +15,7 @@ use Rattle.mo_grammar.specs.Productions.{rule}
 use Rattle.mo_grammar.specs.Tables.{tables}
 use Rattle.mo_grammar.specs.Language.{Spells, SpelledByForm}
 use Rattle.mo_grammar.proofs.Codes.{one_of}
-use Rattle.mo_grammar.proofs.Limits.{Below, below_same, spelled_rises}
+use Rattle.mo_grammar.proofs.Limits.{Below, spelled_rises}
 use Rattle.mo_grammar.proofs.Checked.{in_rises}
 use Rattle.mo_grammar.proofs.Extending.{two_heights}
 use Rattle.mo_grammar.proofs.Complete.{some_first}

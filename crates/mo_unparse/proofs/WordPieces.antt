@@ -1,5 +1,5 @@
 -- Each reserved word, operator and mark is a token of its code.
-use Rattle.std.proofs.Common.{◌≡◌, ℕ, true, List, [], ◌∷◌, Option, Some, refl, ap}
+use Rattle.std.proofs.Common.{◌≡◌, ℕ, true, List, Some, refl, ap}
 use Rattle.std.specs.Prelude.{codes, unwrap_or}
 use Rattle.mo_syntax.specs.declared.token.TokenKind.TheVariants.{Keyword, Operator}
 use Rattle.mo_tables.specs.Words.{code_in, keywords, operators}
