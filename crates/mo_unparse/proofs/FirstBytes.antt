@@ -1,5 +1,6 @@
 -- What the first byte of a separator or token says of the rest of it.
-use Rattle.std.proofs.Common.{◌≡◌, ℕ, ◌+◌, ◌<◌, inl, inr, Bool, true, false, ◌&&◌, not, List, [], ◌∷◌, ◌++◌, length, Some, if◌then◌else◌, eqb, ltb, refl, sym, ap, subst, arith}
+use Rattle.std.proofs.Common.{◌≡◌, ℕ, ◌+◌, inl, inr, Bool, true, false, ◌&&◌, not, List, [], ◌∷◌, ◌++◌, Some, if◌then◌else◌, eqb, ltb, refl, sym, ap, subst, ◌∙◌, arith}
+use mathlib.Core.Bool.{false≢true}
 use Rattle.std.specs.List.{list_all, position_from}
 use Rattle.std.specs.Str.{bytes_eq}
 use Rattle.std.proofs.lemmas.Bool.Decides.{nat_tests}
@@ -39,18 +40,19 @@ pub tail_is : (b n : ℕ) (t s : List ℕ) → b ∷ t ≡ n ∷ s → t ≡ s
 tail_is b n t s e = cc
 
 -- ---- operators
--- a byte below 128 that begins nothing else, and perhaps a byte after it: no digit, and none after `/`
+-- a byte below 128 that begins nothing else, and perhaps another such byte, but none after `/`
 abbrev pub is_operator_like : List ℕ → Bool
 is_operator_like [] = false
 is_operator_like (a ∷ []) = ltb a 128 && is_mark a
-is_operator_like (a ∷ b ∷ []) = (ltb a 128 && is_mark a) && (not (eqb a 47) && not (is_digit b))
+is_operator_like (a ∷ b ∷ []) = (ltb a 128 && is_mark a) && (not (eqb a 47) && is_mark b)
 is_operator_like (a ∷ b ∷ c ∷ t) = false
 
 operators_are : list_all is_operator_like operators ≡ true
 unfolding operators
 operators_are = refl
 
-among : (test : List ℕ → Bool) (text : List ℕ) (words : List (List ℕ)) (i code : ℕ) → position_from (λ word. bytes_eq word text) i words ≡ Some code → list_all test words ≡ true → test text ≡ true
+-- each word of a table passes a test that all words of the table pass
+pub among : (test : List ℕ → Bool) (text : List ℕ) (words : List (List ℕ)) (i code : ℕ) → position_from (λ word. bytes_eq word text) i words ≡ Some code → list_all test words ≡ true → test text ≡ true
 among test text [] i code e h = cc
 among test text (word ∷ words) i code e h = go (λ later. among test text words (i + 1) code later (both_hold _ _ h).1) (bytes_eq word text) refl
   where
@@ -66,10 +68,10 @@ operator_first a [] h = both_hold _ _ h
 operator_first a (b ∷ []) h = both_hold _ _ (both_hold _ _ h).0
 operator_first a (b ∷ c ∷ t) h = cc
 
-pub operator_second : (a b : ℕ) (t : List ℕ) → is_operator_like (a ∷ b ∷ t) ≡ true → (t ≡ []) × (eqb a 47 ≡ false) × (is_digit b ≡ false)
+pub operator_second : (a b : ℕ) (t : List ℕ) → is_operator_like (a ∷ b ∷ t) ≡ true → (t ≡ []) × (eqb a 47 ≡ false) × (is_mark b ≡ true)
 operator_second a b [] h =
-    let second = both_hold (not (eqb a 47)) (not (is_digit b)) (both_hold (ltb a 128 && is_mark a) _ h).1 in
-    (refl, is_off _ second.0, is_off _ second.1)
+    let second = both_hold (not (eqb a 47)) (is_mark b) (both_hold (ltb a 128 && is_mark a) _ h).1 in
+    (refl, is_off _ second.0, second.1)
 operator_second a b (c ∷ t) h = cc
 
 -- ---- classes of first bytes
@@ -94,6 +96,11 @@ class_digit b h =
     let no_blank : is_blank b ≡ false = grind (arith, nat_tests) in
     let no_letter : is_letter b ≡ false = grind (arith, nat_tests) in
     rw (no_blank, no_letter, h) refl
+
+pub digit_is_no_mark : (b : ℕ) → is_digit b ≡ true → is_mark b ≡ true → ⊥
+digit_is_no_mark b h k =
+    let no_digit : is_digit b ≡ false = is_off (is_digit b) (both_hold _ _ (both_hold _ _ (both_hold _ _ k).1).1).0 in
+    false≢true (sym no_digit ∙ h)
 
 pub class_mark : (b : ℕ) → is_mark b ≡ true → class b ≡ Marks
 class_mark b h =

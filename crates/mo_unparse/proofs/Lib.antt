@@ -5,3 +5,5 @@ pub mod Growth
 pub mod FirstBytes
 pub mod NumberEnds
 pub mod TokenFits
+pub mod TextRead
+pub mod Semicolon

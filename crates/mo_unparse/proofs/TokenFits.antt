@@ -1,17 +1,18 @@
 -- A token is the longest piece at the front of a text where what follows does not join it.
-use Rattle.std.proofs.Common.{◌≡◌, ℕ, ◌+◌, ◌<◌, ◌⊎◌, inl, inr, Bool, true, false, ◌&&◌, ◌||◌, List, [], ◌∷◌, ◌++◌, length, is_some, if◌then◌else◌, eqb, Some, refl, sym, ap, subst, ◌∙◌, arith, append_assoc}
+use Rattle.std.proofs.Common.{◌≡◌, ℕ, ◌<◌, ◌⊎◌, inl, inr, Bool, true, false, ◌&&◌, ◌||◌, List, [], ◌∷◌, ◌++◌, length, is_some, eqb, Some, refl, sym, ap, subst, ◌∙◌, arith, append_assoc}
 use mathlib.Core.Bool.{false≢true}
 use Rattle.std.specs.List.{list_all}
 use Rattle.std.proofs.lemmas.Bool.Decides.{nat_tests}
 use Rattle.mo_tables.specs.Words.{code_in, operators}
-use Rattle.mo_lexer.specs.Bytes.{is_blank, is_letter, is_digit, is_word_byte, is_escaped, is_quotable, is_string_byte}
-use Rattle.mo_lexer.specs.Spelling.{is_word, AreContents, nothing, plain, escape, IsQuoted, IsString, IsWhole, IsDecimal, IsComment, line, block}
+use Rattle.mo_lexer.specs.Bytes.{is_blank, is_letter, is_digit, is_word_byte, is_quotable, is_string_byte}
+use Rattle.mo_syntax.specs.declared.token.TokenKind.TheVariants.{Ident, Keyword, Operator}
+use Rattle.mo_lexer.specs.Spelling.{is_word, AreContents, nothing, plain, escape, IsQuoted, IsString, IsWhole, IsDecimal, pointed, unpointed, Spells, IsComment, line, block}
 use Rattle.mo_lexer.specs.Lexing.{IsPiece, opens_block, Fits}
 use Rattle.mo_unparse.specs.declared.text.Ending.{Ending}
-use Rattle.mo_unparse.specs.declared.text.Ending.TheVariants.{Closed, Word, Number, Mark}
-use Rattle.mo_unparse.specs.Text.{joins, mark_ending}
-use Rattle.mo_unparse.proofs.FirstBytes.{both_hold, first_passes, middle_passes, first_is, tail_is, is_operator_like, operator_is_like, operator_first, operator_second, Class, Blanks, Letters, Digits, SingleQuotes, DoubleQuotes, Marks, class, class_letter, class_digit, class_mark, IsNumber, whole, decimal, IsMarked, operator, number, remark, ShapeAt, shape_as, NumberFirst, digit, point, decimal_first}
-use Rattle.mo_unparse.proofs.NumberEnds.{is_plain, number_goes_on}
+use Rattle.mo_unparse.specs.declared.text.Ending.TheVariants.{Word, Number, Mark}
+use Rattle.mo_unparse.specs.Text.{joins, name_ending, mark_ending}
+use Rattle.mo_unparse.proofs.FirstBytes.{both_hold, first_passes, middle_passes, first_is, tail_is, is_operator_like, operator_is_like, operator_first, operator_second, digit_is_no_mark, Class, Blanks, Letters, Digits, SingleQuotes, DoubleQuotes, Marks, class, class_letter, class_digit, class_mark, IsNumber, whole, decimal, IsMarked, operator, number, remark, ShapeAt, shape_as, NumberFirst, digit, point, decimal_first}
+use Rattle.mo_unparse.proofs.NumberEnds.{number_goes_on}
 
 -- what follows does not join
 abbrev pub IsApart : Ending → List ℕ → Type 0
@@ -107,12 +108,10 @@ number_at_digit b t rest h n apart =
 
 -- more than a point and a digit is no operator
 no_operator : (b c : ℕ) (u : List ℕ) (x : ℕ) (more : List ℕ) → is_digit c ≡ true → (code : ℕ) → code_in operators (b ∷ c ∷ (u ++ x ∷ more)) ≡ Some code → ⊥
-no_operator b c u x more h code is =
-    let second : is_digit c ≡ false = (operator_second b c (u ++ x ∷ more) (operator_is_like _ code is)).2 in
-    false≢true (sym second ∙ h)
+no_operator b c u x more h code is = digit_is_no_mark c h (operator_second b c (u ++ x ∷ more) (operator_is_like _ code is)).2
 
-not_slash : (b n : ℕ) (t s : List ℕ) → b ≡ 46 → b ∷ t ≡ 47 ∷ s → ⊥
-not_slash b n t s e f = let slash : b ≡ 47 = first_is b 47 t s f in omega arith
+not_slash : (b : ℕ) (t s : List ℕ) → b ≡ 46 → b ∷ t ≡ 47 ∷ s → ⊥
+not_slash b t s e f = let slash : b ≡ 47 = first_is b 47 t s f in omega arith
 
 number_at_point : (b c : ℕ) (u rest : List ℕ) → b ≡ 46 → is_digit c ≡ true → IsDecimal (b ∷ c ∷ u) → IsApart Number rest → Fits (b ∷ c ∷ u) rest
 number_at_point b c u rest first h d apart =
@@ -122,8 +121,8 @@ number_at_point b c u rest first h d apart =
     not_marked : (x : ℕ) (more after : List ℕ) → rest ≡ x ∷ (more ++ after) → IsMarked b (c ∷ (u ++ x ∷ more)) → ⊥
     not_marked x more after e (operator code is) = no_operator b c u x more h code is
     not_marked x more after e (number at d') = not_joined (c ∷ u) rest b x more after apart e (decimal d) (decimal d')
-    not_marked x more after e (remark (line body is pass)) = not_slash b 0 _ _ first is
-    not_marked x more after e (remark (block body is never)) = not_slash b 0 _ _ first is
+    not_marked x more after e (remark (line body is pass)) = not_slash b _ _ first is
+    not_marked x more after e (remark (block body is never)) = not_slash b _ _ first is
 
 pub whole_fits : (b : ℕ) (t rest : List ℕ) → IsWhole (b ∷ t) → IsApart Number rest → Fits (b ∷ t) rest
 whole_fits b t rest w apart = number_at_digit b t rest (first_passes is_digit b t w.are_digits) (whole w) apart
@@ -159,6 +158,16 @@ joins_digit : (a x : ℕ) → a ≡ 46 → is_digit x ≡ true → joins (Mark a
 joins_digit a x e h =
     let number : (eqb a 46 && is_digit x) ≡ true = rw (e, h) refl in
     or_right _ (eqb a 46 && is_digit x) number
+
+-- what neither ends an operator nor a comment's mark, and is no digit, joins no mark
+pub mark_apart : (a x : ℕ) → is_some (code_in operators (a ∷ x ∷ [])) ≡ false → (eqb x 47 || eqb x 42) ≡ false → is_digit x ≡ false → joins (Mark a) x ≡ false
+mark_apart a x none no_comment no_digit = rw (none, no_comment, no_digit) (no_more (eqb a 47) (eqb a 46))
+  where
+    no_more : (p q : Bool) → ((p && false) || (q && false)) ≡ false
+    no_more true true = refl
+    no_more true false = refl
+    no_more false true = refl
+    no_more false false = refl
 
 -- what is more than a mark joins it
 module _ (a x : ℕ) (more : List ℕ) where
@@ -210,8 +219,7 @@ two_fits a b code rest is =
         go (digit h) = grind (arith, nat_tests)
         go (point f c u g h) =
             let same : b ≡ c = cc in
-            let on : is_digit b ≡ true = rw same h in
-            false≢true (sym (operator_second a b [] like).2 ∙ on)
+            digit_is_no_mark b (rw same h) (operator_second a b [] like).2
     not_marked x more (remark (line body is pass)) = no_slash (first_is a 47 _ _ is)
     not_marked x more (remark (block body is never)) = no_slash (first_is a 47 _ _ is)
 
@@ -219,3 +227,39 @@ pub operator_fits : (a : ℕ) (t rest : List ℕ) (code : ℕ) → code_in opera
 operator_fits a [] rest code is apart = one_fits a code rest is apart
 operator_fits a (b ∷ []) rest code is apart = two_fits a b code rest is
 operator_fits a (b ∷ c ∷ t) rest code is apart = let like : is_operator_like (a ∷ b ∷ c ∷ t) ≡ true = operator_is_like _ code is in cc
+
+-- ---- by the kind of the token
+pub name_fits : (text rest : List ℕ) → Spells Ident text → IsApart (name_ending text) rest → Fits text rest
+name_fits [] rest (inl word) apart = cc
+name_fits [] rest (inr q) apart = let e = q.is in cc
+name_fits (b ∷ t) rest (inl word) apart =
+    let letter : is_letter b ≡ true = (both_hold (is_letter b) (list_all is_word_byte t) word.0).0 in
+    let no_quote : eqb b 39 ≡ false = grind (arith, nat_tests) in
+    word_fits b t rest word.0 (rw no_quote at apart)
+name_fits (b ∷ t) rest (inr q) apart = quoted_fits b t rest q
+
+pub keyword_fits : (code : ℕ) (text rest : List ℕ) → Spells (Keyword code) text → IsApart Word rest → Fits text rest
+keyword_fits code [] rest word apart = cc
+keyword_fits code (b ∷ t) rest word apart = word_fits b t rest word.0 apart
+
+pub mark_fits : (code : ℕ) (text rest : List ℕ) → Spells (Operator code) text → IsApart (mark_ending text) rest → Fits text rest
+mark_fits code [] rest is apart = let like : is_operator_like [] ≡ true = operator_is_like [] code is in cc
+mark_fits code (a ∷ t) rest is apart = operator_fits a t rest code is apart
+
+pub whole_number_fits : (text rest : List ℕ) → IsWhole text → IsApart Number rest → Fits text rest
+whole_number_fits [] rest w apart = absurd (omega (arith, w.some))
+whole_number_fits (b ∷ t) rest w apart = whole_fits b t rest w apart
+
+pub some_of_decimal : IsDecimal [] → ⊥
+some_of_decimal (pointed [] fraction exponent e ds fs some ex) = cc
+some_of_decimal (pointed (d ∷ digits) fraction exponent e ds fs some ex) = cc
+some_of_decimal (unpointed [] exponent e w ex) = omega (arith, w.some)
+some_of_decimal (unpointed (d ∷ digits) exponent e w ex) = cc
+
+pub decimal_number_fits : (text rest : List ℕ) → IsDecimal text → IsApart Number rest → Fits text rest
+decimal_number_fits [] rest d apart = absurd (some_of_decimal d)
+decimal_number_fits (b ∷ t) rest d apart = decimal_fits b t rest d apart
+
+pub quoted_string_fits : (text rest : List ℕ) → IsString text → Fits text rest
+quoted_string_fits [] rest q = let e = q.is in cc
+quoted_string_fits (b ∷ t) rest q = string_fits b t rest q
