@@ -1,3 +1,5 @@
+pub mod PlacelessForms
+pub mod PlacelessClassForms
 pub mod Holding
 pub mod Building
 pub mod WordPieces

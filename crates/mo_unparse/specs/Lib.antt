@@ -1,3 +1,5 @@
+pub mod PlacelessClasses
+pub mod Placeless
 pub mod Pieces
 pub mod Gathered
 pub mod ShownExpressions
