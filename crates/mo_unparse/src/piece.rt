@@ -52,7 +52,7 @@ impl<'t> Pieces<'t> {
     }
 
     /// Puts a piece at the end.
-    fn put(&mut self, piece: Piece<'t>) -> Result<(), NoMemory>
+    pub(crate) fn put(&mut self, piece: Piece<'t>) -> Result<(), NoMemory>
         ensures { OnOk result (self.new.0.items ≡ self.old.0.items ++ piece.entry ∷ []) }
     {
         self.0.push(piece)?;
