@@ -176,7 +176,7 @@ mod tests {
     use crate::piece::{Piece, Pieces};
     use std::test::Fail;
 
-    const TOKENS: [(&[Piece<'static>], &str); 10] = [
+    const ROWS: [(&[Piece<'static>], &str); 13] = [
         (&[Piece::Word("not"), Piece::Name("x1")], "not x1"),
         (&[Piece::Name("'x 1'"), Piece::Word("then")], "'x 1'then"),
         (
@@ -211,9 +211,6 @@ mod tests {
             &[Piece::Mark("=="), Piece::Mark("="), Piece::Mark(".")],
             "===.",
         ),
-    ];
-
-    const LINES: [(&[Piece<'static>], &str); 3] = [
         (
             &[Piece::Deeper, Piece::Deeper, Piece::Line, Piece::Name("x")],
             "\n    x",
@@ -240,14 +237,12 @@ mod tests {
 
     #[test]
     fn parts_tokens_and_lines(rt: HostRuntime) -> Result<(), Fail> {
-        for rows in [&TOKENS[..], &LINES[..]] {
-            for (row, want) in rows {
-                let mut pieces = Pieces::new(rt.alloc());
-                for piece in *row {
-                    pieces.put(*piece)?;
-                }
-                assert_eq!(rt; text_of(rt.alloc(), &pieces)?.as_str(), *want);
+        for (row, want) in ROWS {
+            let mut pieces = Pieces::new(rt.alloc());
+            for piece in row {
+                pieces.put(*piece)?;
             }
+            assert_eq!(rt; text_of(rt.alloc(), &pieces)?.as_str(), want);
         }
         Ok(())
     }
