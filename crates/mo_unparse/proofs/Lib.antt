@@ -9,3 +9,4 @@ pub mod NumberEnds
 pub mod TokenFits
 pub mod TextRead
 pub mod Semicolon
+pub mod PrintingEquations

@@ -1,0 +1,2 @@
+-- What equations, statements and imports are in pieces spells them. (Helper equations works on this file and on
+-- PrintingStatements and PrintingImports; helper classes has modifiers, elements, sections and classes.)
