@@ -9,3 +9,4 @@ pub mod ShownEquations
 pub mod ShownModifiers
 pub mod ShownElements
 pub mod ShownClasses
+pub mod ReadAgain
