@@ -10,3 +10,6 @@ pub mod TokenFits
 pub mod TextRead
 pub mod Semicolon
 pub mod PrintingEquations
+pub mod Listed
+pub mod Depths
+pub mod EquationLayers

@@ -1,6 +1,7 @@
 -- Equations and statements in pieces (Modelica Language Specification 3.5, appendix A.2.6).
 use Rattle.std.specs.Prelude.{ℕ, List, [], ◌∷◌, ◌++◌, codes, if◌then◌else◌}
 use Rattle.mo_syntax.specs.declared.expr.Expr.{Expr}
+use Rattle.mo_syntax.specs.declared.expr.ReferenceOf.{ReferenceOf}
 use Rattle.mo_syntax.specs.declared.equation.EquationOf.{EquationOf}
 use Rattle.mo_syntax.specs.declared.equation.EquationKind.{EquationKind, EquationKind-F, fold-EquationKind}
 use Rattle.mo_syntax.specs.declared.equation.StatementOf.{StatementOf}
@@ -18,7 +19,7 @@ branch_of word shown branch = a_word word ∷ a_blank ∷ pieces_of_expr branch.
 -- the branches: the first begins with one word, each other on a line of its own with another
 abbrev pub branches_of : {A : Type 0} → (word other : List ℕ) → (A → List Piece) → List (Expr × List A) → List Piece
 branches_of word other shown branches =
-    in_row (λ first branch. if first then branch_of word shown branch else a_line ∷ branch_of other shown branch) branches
+    in_row (λ first branch. (if first then [] else a_line ∷ []) ++ branch_of (if first then word else other) shown branch) branches
 
 -- what stands under `else`: nothing where there is no part
 abbrev pub else_of : {A : Type 0} → (A → List Piece) → List A → List Piece
@@ -32,14 +33,17 @@ loop_of indices shown parts =
 
 -- ---- equations
 
+-- connect(one, other)
+abbrev pub connection_of : (one other : ReferenceOf Expr) → List Piece
+connection_of one other = a_word (codes "connect") ∷ in_parentheses (pieces_of_reference one ++ (a_comma ++ pieces_of_reference other))
+
 abbrev pub in_equation : EquationKind-F (List Piece) → List Piece
 in_equation (EquationKind-F.Equal left right) = pieces_of_simple left ++ (spaced (a_mark (codes "=")) ++ pieces_of_expr right)
 in_equation (EquationKind-F.If branches others) =
     branches_of (codes "if") (codes "elseif") (λ e. e.what) branches ++ (else_of (λ e. e.what) others ++ end_of (codes "if"))
 in_equation (EquationKind-F.For indices equations) = loop_of (pieces_of_indices indices) (λ e. e.what) equations
 in_equation (EquationKind-F.When branches) = branches_of (codes "when") (codes "elsewhen") (λ e. e.what) branches ++ end_of (codes "when")
-in_equation (EquationKind-F.Connect one other) =
-    a_word (codes "connect") ∷ in_parentheses (pieces_of_reference one ++ (a_comma ++ pieces_of_reference other))
+in_equation (EquationKind-F.Connect one other) = connection_of one other
 in_equation (EquationKind-F.Call called args) = pieces_of_reference called ++ pieces_of_args args
 
 abbrev pub pieces_of_equation_kind : EquationKind → List Piece
@@ -49,6 +53,11 @@ abbrev pub pieces_of_equation : EquationOf EquationKind → List Piece
 pieces_of_equation equation = pieces_of_equation_kind equation.what
 
 -- ---- statements
+
+-- while condition loop, the statements, end while
+abbrev pub while_of : {A : Type 0} → Expr → (A → List Piece) → List A → List Piece
+while_of condition shown parts =
+    a_word (codes "while") ∷ a_blank ∷ pieces_of_expr condition ++ (a_blank ∷ a_word (codes "loop") ∷ block_of shown parts ++ end_of (codes "while"))
 
 abbrev pub in_statement : StatementKind-F (List Piece) → List Piece
 in_statement (StatementKind-F.Assign variable value) = pieces_of_reference variable ++ (spaced (a_mark (codes ":=")) ++ pieces_of_expr value)
@@ -60,8 +69,7 @@ in_statement StatementKind-F.Return = a_word (codes "return") ∷ []
 in_statement (StatementKind-F.If branches others) =
     branches_of (codes "if") (codes "elseif") (λ s. s.what) branches ++ (else_of (λ s. s.what) others ++ end_of (codes "if"))
 in_statement (StatementKind-F.For indices statements) = loop_of (pieces_of_indices indices) (λ s. s.what) statements
-in_statement (StatementKind-F.While condition statements) =
-    a_word (codes "while") ∷ a_blank ∷ pieces_of_expr condition ++ (a_blank ∷ a_word (codes "loop") ∷ block_of (λ s. s.what) statements ++ end_of (codes "while"))
+in_statement (StatementKind-F.While condition statements) = while_of condition (λ s. s.what) statements
 in_statement (StatementKind-F.When branches) = branches_of (codes "when") (codes "elsewhen") (λ s. s.what) branches ++ end_of (codes "when")
 
 abbrev pub pieces_of_statement_kind : StatementKind → List Piece
