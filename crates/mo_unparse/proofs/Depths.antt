@@ -1,5 +1,5 @@
 -- How deep the equations and statements under conditions go, as measures of recursions.
-use Rattle.std.proofs.Common.{◌≡◌, ap, ◌≤◌, ◌<◌, ℕ, zero, suc, max, List, [], ◌∷◌, get_or, length, arith}
+use Rattle.std.proofs.Common.{◌≡◌, ap, ◌≤◌, ◌<◌, ℕ, zero, suc, List, [], ◌∷◌, get_or, length, arith}
 use denote.Param.Weighed.{most}
 use Rattle.mo_syntax.specs.declared.expr.Expr.{Expr}
 use Rattle.mo_syntax.specs.declared.equation.EquationOf.{EquationOf}

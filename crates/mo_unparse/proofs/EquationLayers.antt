@@ -1,5 +1,5 @@
 -- Equations and statements in pieces, by the pieces of their own parts.
-use Rattle.std.proofs.Common.{◌≡◌, ◌++◌, ℕ, List, [], ◌∷◌, map, refl, ap, sym, ◌∙◌}
+use Rattle.std.proofs.Common.{◌≡◌, ◌++◌, ℕ, List, ◌∷◌, refl, ap}
 use Rattle.std.specs.Prelude.{codes}
 use Rattle.mo_syntax.specs.declared.expr.Expr.{Expr}
 use Rattle.mo_syntax.specs.declared.expr.IndexOf.{IndexOf}
