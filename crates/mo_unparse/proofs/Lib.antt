@@ -13,3 +13,5 @@ pub mod PrintingEquations
 pub mod Listed
 pub mod Depths
 pub mod EquationLayers
+pub mod Rows
+pub mod ExpressionForms

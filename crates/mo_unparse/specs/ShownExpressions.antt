@@ -125,8 +125,11 @@ sign_mark minus dotted = if minus then (if dotted then codes ".-" else codes "-"
 abbrev pub sign_before : Bool → Bool → Bool → List Piece
 sign_before first minus dotted = if first then (if minus then a_mark (sign_mark true dotted) ∷ [] else []) else spaced (a_mark (sign_mark minus dotted))
 
+abbrev pub term_pieces : {E : Type 0} → (E → Shown) → Bool → TermOf E → List Piece
+term_pieces show first term = sign_before first term.minus term.dotted ++ operand 7 (show term.value)
+
 abbrev pub terms_pieces : {E : Type 0} → (E → Shown) → List (TermOf E) → List Piece
-terms_pieces show terms = in_row (λ first term. sign_before first term.minus term.dotted ++ operand 7 (show term.value)) terms
+terms_pieces show terms = in_row (term_pieces show) terms
 
 abbrev pub times_mark : Bool → Bool → List ℕ
 times_mark divide dotted = if dotted then (if divide then codes "./" else codes ".*") else (if divide then codes "/" else codes "*")
@@ -135,8 +138,11 @@ times_mark divide dotted = if dotted then (if divide then codes "./" else codes 
 abbrev pub times_before : Bool → Bool → Bool → List Piece
 times_before first divide dotted = if first then [] else (if dotted then spaced (a_mark (times_mark divide dotted)) else a_mark (times_mark divide dotted) ∷ [])
 
+abbrev pub factor_pieces : {E : Type 0} → (E → Shown) → Bool → FactorOf E → List Piece
+factor_pieces show first factor = times_before first factor.divide factor.dotted ++ operand 8 (show factor.value)
+
 abbrev pub factors_pieces : {E : Type 0} → (E → Shown) → List (FactorOf E) → List Piece
-factors_pieces show factors = in_row (λ first factor. times_before first factor.divide factor.dotted ++ operand 8 (show factor.value)) factors
+factors_pieces show factors = in_row (factor_pieces show) factors
 
 abbrev pub power_mark : Bool → List Piece
 power_mark dotted = if dotted then spaced (a_mark (codes ".^")) else a_mark (codes "^") ∷ []
@@ -229,6 +235,9 @@ shown_expr = fold-Expr (List Piece) Shown (List Piece) Shown show_arg show_node 
 
 abbrev pub shown_node : Node → Shown
 shown_node = fold-Node (List Piece) Shown (List Piece) Shown show_arg show_node show_args show_expr
+
+abbrev pub pieces_of_node : Node → List Piece
+pieces_of_node node = (shown_node node).pieces
 
 abbrev pub pieces_of_arg : Arg → List Piece
 pieces_of_arg = fold-Arg (List Piece) Shown (List Piece) Shown show_arg show_node show_args show_expr

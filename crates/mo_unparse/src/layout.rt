@@ -36,6 +36,20 @@ pub(crate) fn separate(out: &mut Pieces<'_>, first: bool) -> Result<(), NoMemory
     out.blank()
 }
 
+/// Puts a comma between two lists at the end, nothing where one of them is empty.
+pub(crate) fn comma_between(
+    out: &mut Pieces<'_>,
+    first_empty: bool,
+    second_empty: bool,
+) -> Result<(), NoMemory>
+    ensures { OnOk result (gathered out.new ≡ gathered out.old ++ (if first_empty then [] else (if second_empty then [] else a_comma))) }
+{
+    if first_empty {
+        return Ok(());
+    }
+    separate(out, second_empty)
+}
+
 /// Puts a semicolon at the end, nothing before the first row of a matrix.
 pub(crate) fn separate_rows(out: &mut Pieces<'_>, first: bool) -> Result<(), NoMemory>
     ensures { OnOk result (gathered out.new ≡ gathered out.old ++ (if first then [] else a_semicolon)) }
@@ -45,6 +59,30 @@ pub(crate) fn separate_rows(out: &mut Pieces<'_>, first: bool) -> Result<(), NoM
     }
     out.mark(";")?;
     out.blank()
+}
+
+/// Puts a reserved word between two operands of a chain at the end, nothing before the first.
+pub(crate) fn word_between<'t>(
+    out: &mut Pieces<'t>,
+    first: bool,
+    word: &'t str,
+) -> Result<(), NoMemory>
+    ensures { OnOk result (gathered out.new ≡ gathered out.old ++ (if first then [] else spaced (a_word word.now))) }
+{
+    if first {
+        return Ok(());
+    }
+    spaced_word(out, word)
+}
+
+/// Puts a dot between two parts of a name at the end, nothing before the first.
+pub(crate) fn dot_between(out: &mut Pieces<'_>, first: bool) -> Result<(), NoMemory>
+    ensures { OnOk result (gathered out.new ≡ gathered out.old ++ (if first then [] else a_mark (codes ".") ∷ [])) }
+{
+    if first {
+        return Ok(());
+    }
+    out.mark(".")
 }
 
 /// Puts a dot at the end where one is wanted.
