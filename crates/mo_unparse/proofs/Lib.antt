@@ -1,5 +1,10 @@
 pub mod PlacelessForms
 pub mod PlacelessClassForms
+pub mod Placing
+pub mod PlacingExpressions
+pub mod PlacingCalls
+pub mod PlacingClasses
+pub mod PlacingLaw
 pub mod Holding
 pub mod Building
 pub mod WordPieces

@@ -24,6 +24,8 @@ use Rattle.mo_syntax.specs.declared.class.ComponentOf.{ComponentOf}
 use Rattle.mo_syntax.specs.declared.class.ClassDefOf.{ClassDefOf}
 use Rattle.mo_syntax.specs.declared.class.FileTree.{FileTree}
 use Rattle.mo_grammar.specs.Symbols.{Symbol, ValueOf, Expressions, Simples, Logicals, Conjunctions, Negations, Relations, Sums, Products, Powers, Primaries, CallArguments, Arguments, MoreArguments, OneArgument, Indices, References, Subscripts, TypeSpecs, Names, ClassMods, ModArguments, EquationItems, ForEquations, WhenEquations, ElseEquations, IfEquations, StatementItems, ImportNames, ElementItems, Compositions, Sections, SectionEquations, ClassDefinitions, Files}
+use Rattle.mo_grammar.specs.Trees.{Given}
+use Rattle.mo_grammar.specs.ClassTrees.{Branched, BranchedElse, Imported, Inside}
 use Rattle.mo_unparse.specs.Pieces.{nowhere, placeless_token}
 use Rattle.mo_unparse.specs.Placeless.{placeless_expr, placeless_arg, placeless_args, placeless_option, placeless_options, placeless_reference, placeless_indices, placeless_named, placeless_equation, placeless_equations, placeless_equation_branch, placeless_statement, placeless_statements}
 
@@ -145,6 +147,21 @@ placeless_file file = record { file = 0; within = option_map placeless_within fi
 
 -- ---- what each production makes
 
+abbrev pub placeless_given : Given → Given
+placeless_given given = (map placeless_arg given.0, map placeless_named given.1)
+
+abbrev pub placeless_branched : Branched → Branched
+placeless_branched x = (placeless_equations x.0, map placeless_equation_branch x.1)
+
+abbrev pub placeless_branched_else : BranchedElse → BranchedElse
+placeless_branched_else x = (placeless_equations x.0, (map placeless_equation_branch x.1.0, placeless_equations x.1.1))
+
+abbrev pub placeless_imported : Imported → Imported
+placeless_imported x = (map placeless_token x.0, option_map (option_map (map placeless_token)) x.1)
+
+abbrev pub placeless_inside : Inside → Inside
+placeless_inside x = (map placeless_item x.0, x.1)
+
 abbrev pub placeless : (x : Symbol) → ValueOf x → ValueOf x
 placeless Expressions = placeless_expr
 placeless Simples = placeless_expr
@@ -158,7 +175,7 @@ placeless Powers = placeless_expr
 placeless Primaries = placeless_expr
 placeless CallArguments = placeless_args
 placeless Arguments = placeless_args
-placeless MoreArguments = λ given. (map placeless_arg given.0, map placeless_named given.1)
+placeless MoreArguments = placeless_given
 placeless OneArgument = placeless_arg
 placeless Indices = placeless_indices
 placeless References = placeless_reference
@@ -169,14 +186,14 @@ placeless ClassMods = placeless_mods
 placeless ModArguments = placeless_argument
 placeless EquationItems = placeless_equation
 placeless ForEquations = placeless_equations
-placeless WhenEquations = λ x. (placeless_equations x.0, map placeless_equation_branch x.1)
+placeless WhenEquations = placeless_branched
 placeless ElseEquations = placeless_equations
-placeless IfEquations = λ x. (placeless_equations x.0, (map placeless_equation_branch x.1.0, placeless_equations x.1.1))
+placeless IfEquations = placeless_branched_else
 placeless StatementItems = placeless_statement
-placeless ImportNames = λ x. (map placeless_token x.0, option_map (option_map (map placeless_token)) x.1)
+placeless ImportNames = placeless_imported
 placeless (ElementItems hidden) = map placeless_item
-placeless Compositions = λ x. (map placeless_item x.0, x.1)
-placeless Sections = λ x. (map placeless_item x.0, x.1)
-placeless SectionEquations = λ x. (placeless_equations x.0, (map placeless_item x.1.0, x.1.1))
+placeless Compositions = placeless_inside
+placeless Sections = placeless_inside
+placeless SectionEquations = λ x. (placeless_equations x.0, placeless_inside x.1)
 placeless ClassDefinitions = placeless_class
 placeless Files = placeless_file
