@@ -1,9 +1,10 @@
 //! Expressions in pieces.
 //!
 //! One function for each kind of part and of list, all in one cycle.
-ghost use Rattle.std.specs.Prelude.{◌≡◌, [], ◌∷◌, ◌++◌, codes, OnOk};
+ghost use Rattle.std.specs.Prelude.{◌≡◌, [], ◌∷◌, ◌++◌, codes, IfOk, OnOk};
 ghost use Rattle.mo_unparse.specs.Pieces.{a_mark, a_word, a_blank};
 ghost use Rattle.mo_unparse.specs.Gathered.{gathered};
+ghost use Rattle.mo_unparse.specs.Text.{text_of as text_of_pieces};
 ghost use Rattle.mo_unparse.specs.ShownExpressions.{a_semicolon, branch_pieces, callee_pieces, chain_pieces, commas, factors_pieces, given_pieces, in_braces, in_brackets, in_parentheses, in_row, index_pieces, iterators_pieces, joined_by, named_pieces, operand, output_pieces, part_pieces, pieces_of_arg, pieces_of_args, pieces_of_expr, pieces_of_indices, pieces_of_node, pieces_of_outputs, pieces_of_reference, pieces_of_subscripts, power_mark, range_pieces, relation_mark, row_pieces, shown_expr, shown_node, spaced, step_pieces, subscript_pieces, terms_pieces};
 
 use crate::layout::{
@@ -11,10 +12,21 @@ use crate::layout::{
     spaced_word, word_between, write_branch_word, write_power_mark, write_sign, write_times,
 };
 use crate::piece::Pieces;
+use crate::text::text_of;
 use mo_syntax::{
     Arg, Args, Branch, Callee, Expr, Factor, Index, List, NoMemory, Node, Part, Reference, RelOp,
     Term, Text,
 };
+use std::alloc::Global;
+
+/// The source text of an expression. `NoMemory` is the only other answer.
+pub fn expr_text(alloc: Global, e: &Expr) -> Result<Text, NoMemory>
+    ensures text { IfOk result (λ t. t ≡ text_of_pieces (pieces_of_expr e.now)) }
+{
+    let mut pieces = Pieces::new(alloc);
+    write_expr(&mut pieces, e)?;
+    text_of(alloc, &pieces)
+}
 
 /// The level of an expression: how tightly it binds, from 0 to 9.
 fn level(node: &Node) -> u8

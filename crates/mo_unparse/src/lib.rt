@@ -6,3 +6,5 @@ mod layout;
 mod piece;
 mod section;
 mod text;
+
+pub use expression::expr_text;
