@@ -14,6 +14,10 @@ pub mod NumberEnds
 pub mod TokenFits
 pub mod TextRead
 pub mod Semicolon
+pub mod PrintingForms
+pub mod PrintingParts
+pub mod Inverting
+pub mod PrintingStatements
 pub mod PrintingEquations
 pub mod Listed
 pub mod Depths
