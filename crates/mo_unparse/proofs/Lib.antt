@@ -8,6 +8,7 @@ pub mod PlacingLaw
 pub mod Holding
 pub mod Building
 pub mod WordPieces
+pub mod FileEnds
 pub mod Growth
 pub mod FirstBytes
 pub mod NumberEnds

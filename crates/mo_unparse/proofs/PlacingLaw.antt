@@ -1,12 +1,13 @@
 -- The law of places: where tokens without their places spell a value, the tokens themselves spell one that is it without its
 -- places.
-use Rattle.std.proofs.Common.{◌≡◌, ℕ, zero, suc, List, map}
+use Rattle.std.proofs.Common.{◌≡◌, ℕ, zero, suc, List, map, sym, subst}
 use Rattle.mo_grammar.specs.Lexeme.{Lexeme}
 use Rattle.mo_grammar.specs.Grammar.{Limits, Spelling, symbol, SpelledIn}
 use Rattle.mo_grammar.specs.Symbols.{Symbol, ValueOf, Expressions, Simples, Logicals, Conjunctions, Negations, Relations, Sums, Products, Powers, Primaries, CallArguments, Arguments, MoreArguments, OneArgument, Indices, References, Subscripts, TypeSpecs, Names, ClassMods, ModArguments, EquationItems, ForEquations, WhenEquations, ElseEquations, IfEquations, StatementItems, ImportNames, ElementItems, Compositions, Sections, SectionEquations, ClassDefinitions, Files}
 use Rattle.mo_grammar.specs.Productions.{rule}
 use Rattle.mo_grammar.specs.Language.{Spells}
-use Rattle.mo_unparse.specs.Pieces.{placeless_token}
+use Rattle.mo_unparse.specs.Pieces.{Piece, placeless_token, tokens_of}
+use Rattle.mo_unparse.proofs.Building.{IsPrinted}
 use Rattle.mo_unparse.specs.PlacelessClasses.{placeless}
 use Rattle.mo_unparse.proofs.Placing.{Places}
 use Rattle.mo_unparse.proofs.PlacingExpressions.{Sets, expr_places, simple_places, logical_places, conj_places, neg_places, relation_places, arith_places, term_places, factor_places, primary_places, call_args_places, args_places, more_places, arg_places, indices_places, reference_places, subscripts_places, type_spec_places, name_places}
@@ -55,3 +56,7 @@ in_places (suc n) x = record { at = λ l w b s. (rule_places (SpelledIn rule n) 
 
 pub places_do_not_matter : (x : Symbol) (l : Limits) (again : List Lexeme) (b : ValueOf x) → Spells x l (map placeless_token again) b → (a : ValueOf x) × Spells x l again a × (placeless x a ≡ b)
 places_do_not_matter x l again b s = let one = (in_places s.0 x).at l again b s.1 in (one.0, (s.0, one.1), one.2)
+
+-- Tokens that are those of pieces, places aside, spell what the pieces spell, places aside.
+pub printed_again : (x : Symbol) (l : Limits) (ps : List Piece) (b : ValueOf x) (again : List Lexeme) → IsPrinted (symbol x) l ps b → map placeless_token again ≡ tokens_of ps → (a : ValueOf x) × Spells x l again a × (placeless x a ≡ b)
+printed_again x l ps b again p e = places_do_not_matter x l again b (subst (λ w. Spells x l w b) (sym e) p.spelled)
