@@ -25,3 +25,7 @@ pub mod Depths
 pub mod EquationLayers
 pub mod Rows
 pub mod ExpressionForms
+pub mod PrintingModifiers
+pub mod PrintingElements
+pub mod PrintingSections
+pub mod PrintingClasses

@@ -1,0 +1,2 @@
+-- The law of this part of the grammar in pieces (helper sections works on this file; helper classes finishes the code of classes, then its
+-- must-fail edits).
