@@ -29,3 +29,7 @@ pub mod PrintingModifiers
 pub mod PrintingElements
 pub mod PrintingSections
 pub mod PrintingClasses
+pub mod PrintingLevels
+pub mod PrintingLists
+pub mod ExpressionFacts
+pub mod PrintingOperators
