@@ -19,6 +19,8 @@ pub mod PrintingForms
 pub mod PrintingParts
 pub mod Inverting
 pub mod PrintingStatements
+pub mod NamedCalls
+pub mod PrintingCalls
 pub mod PrintingEquations
 pub mod Listed
 pub mod Depths

@@ -6,9 +6,9 @@ use Rattle.mo_grammar.specs.Grammar.{Limits, many}
 use Rattle.mo_grammar.specs.Forms.{behind, before, separated}
 use Rattle.mo_grammar.specs.Symbols.{Form}
 use Rattle.mo_grammar.specs.Classes.{comment, commented}
-use Rattle.mo_unparse.specs.Pieces.{Piece, a_word, a_blank, a_line, tokens_of}
+use Rattle.mo_unparse.specs.Pieces.{Piece, a_word, a_blank, a_line, deeper, shallower, tokens_of}
 use Rattle.mo_unparse.specs.Lines.{on_a_line, lines_of, block_of}
-use Rattle.mo_unparse.specs.ShownExpressions.{joined_by}
+use Rattle.mo_unparse.specs.ShownExpressions.{joined_by, pieces_of_expr}
 use Rattle.mo_unparse.specs.ShownEquations.{branch_of, branches_of}
 use Rattle.mo_unparse.proofs.Holding.{HoldsEach, each_follows}
 use Rattle.mo_unparse.proofs.Building.{IsPrinted, IsPieceOf, tokens_joined, after_line, after_deeper, before_shallower, by_absent, by_before, by_each, by_empty, by_made, by_pieces, by_right, by_separated, by_seq, by_tokens}
@@ -38,6 +38,17 @@ by_block shown value bs h = after_deeper (before_shallower (by_lines shown value
 -- conditions with what stands under them, and what follows
 pub branches_before : {A : Type 0} (word other : List ℕ) (shown : A → List Piece) (first : Expr × List A) (more : List (Expr × List A)) (rest : List Piece) → branch_of word shown first ++ (flat_map (λ b. a_line ∷ branch_of other shown b) more ++ rest) ≡ branches_of word other shown (first ∷ more) ++ rest
 branches_before word other shown first more rest = sym (append_assoc (branch_of word shown first) (flat_map (λ b. a_line ∷ branch_of other shown b) more) rest)
+
+-- a branch in front of what follows it
+pub branch_before : {A : Type 0} (word : List ℕ) (shown : A → List Piece) (branch : Expr × List A) (rest : List Piece) → a_word word ∷ a_blank ∷ pieces_of_expr branch.0 ++ (a_blank ∷ a_word (codes "then") ∷ block_of shown branch.1 ++ rest) ≡ branch_of word shown branch ++ rest
+branch_before word shown branch rest = sym (ap (λ v. a_word word ∷ a_blank ∷ v) (append_assoc (pieces_of_expr branch.0) (a_blank ∷ a_word (codes "then") ∷ block_of shown branch.1) rest))
+
+further_in : (ps rest : List Piece) → tokens_of (ps ++ rest) ≡ tokens_of ((deeper ∷ ps ++ shallower ∷ []) ++ rest)
+further_in ps rest = tokens_joined ps rest ∙ sym (tokens_joined (ps ++ shallower ∷ []) rest ∙ ap (λ v. v ++ tokens_of rest) (tokens_joined ps (shallower ∷ []) ∙ append-nil (tokens_of ps)))
+
+-- lines stand further in
+pub by_further_in : {A B : Type 0} {g : Form A} {l : Limits} {a : A} (shown : B → List Piece) (bs : List B) (rest : List Piece) → IsPrinted g l (lines_of shown bs ++ rest) a → IsPrinted g l (block_of shown bs ++ rest) a
+by_further_in shown bs rest p = by_tokens (lines_of shown bs ++ rest) (block_of shown bs ++ rest) (further_in (lines_of shown bs) rest) p
 
 ended : (ps : List Piece) (p : Piece) → tokens_of ((ps ++ a_word (codes "end") ∷ []) ++ p ∷ []) ≡ tokens_of (ps ++ (a_line ∷ a_word (codes "end") ∷ a_blank ∷ p ∷ []))
 ended ps p =
