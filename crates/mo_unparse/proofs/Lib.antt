@@ -27,6 +27,7 @@ pub mod Depths
 pub mod EquationLayers
 pub mod Rows
 pub mod ExpressionForms
+pub mod PrintingHeads
 pub mod PrintingModifiers
 pub mod PrintingElements
 pub mod PrintingSections
