@@ -36,3 +36,4 @@ pub mod PrintingLevels
 pub mod PrintingLists
 pub mod ExpressionFacts
 pub mod PrintingOperators
+pub mod ClassLayers

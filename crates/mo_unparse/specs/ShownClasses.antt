@@ -1,7 +1,10 @@
 -- Classes in pieces (Modelica Language Specification 3.5, appendix A.2.2 and A.2.3).
 use Rattle.std.specs.Prelude.{ℕ, Bool, true, false, List, [], ◌∷◌, ◌++◌, map, Option, Some, None, codes}
+use Rattle.mo_syntax.specs.declared.expr.Expr.{Expr}
+use Rattle.mo_syntax.specs.declared.expr.ReferenceOf.{ReferenceOf}
 use Rattle.mo_syntax.specs.declared.class.ArgumentOf.{ArgumentOf}
 use Rattle.mo_syntax.specs.declared.class.Body.{Body, Body-F, fold-Body}
+use Rattle.mo_syntax.specs.declared.class.Causal.{Causal}
 use Rattle.mo_syntax.specs.declared.class.ClassDefOf.{ClassDefOf}
 use Rattle.mo_syntax.specs.declared.class.ClassFlags.{ClassFlags}
 use Rattle.mo_syntax.specs.declared.class.ClassKind.{ClassKind}
@@ -52,15 +55,18 @@ class_with shown class = head_of class.kind class.flags ++ shown class.body clas
 
 -- ---- what a class consists of
 
--- whether an `external` clause stands there
+-- an `external` clause, where one stands there
 abbrev pub external_line : Bool → List Piece
 external_line false = []
 external_line true = a_line ∷ a_word (codes "external") ∷ a_mark (codes ";") ∷ []
 
--- the items of a class, an external clause and the end
+-- the end of a class, with an external clause before it
+abbrev pub end_with : (external : Bool) → (name : List ℕ) → List Piece
+end_with external name = external_line external ++ (a_line ∷ a_word (codes "end") ∷ a_blank ∷ a_name name ∷ [])
+
+-- the items of a class, and its end
 abbrev pub inside_of : List ShownItem → (external : Bool) → (name : List ℕ) → List Piece
-inside_of items external name =
-    deeper ∷ items_from Public items ++ (shallower ∷ external_line external ++ (a_line ∷ a_word (codes "end") ∷ a_blank ∷ a_name name ∷ []))
+inside_of items external name = deeper ∷ items_from Public items ++ (shallower ∷ end_with external name)
 
 -- the head of a class, with the modifiers of `extends NAME`
 abbrev pub name_with : {G : Type 0} → (G → ShownGive) → Option (ModsOf G) → (name : List ℕ) → List Piece
@@ -71,6 +77,20 @@ abbrev pub pieces_of_literals : Option (List (List ℕ)) → List Piece
 pieces_of_literals None = a_mark (codes ":") ∷ []
 pieces_of_literals (Some literals) = commas pieces_of_name literals
 
+-- name = [input | output] base [subscripts] [modifiers]
+abbrev pub short_with : {G : Type 0} → (G → ShownGive) → Causal → ReferenceOf Expr → List (Option Expr) → ModsOf G → (name : List ℕ) → List Piece
+short_with shown causal base subs mods name =
+    a_name name ∷ spaced (a_mark (codes "=")) ++ (pieces_of_causal causal ++ (pieces_of_reference base ++ (pieces_of_subscripts subs ++ mods_with shown mods)))
+
+-- name = enumeration(literals)
+abbrev pub enumeration_of : Option (List (List ℕ)) → (name : List ℕ) → List Piece
+enumeration_of literals name = a_name name ∷ spaced (a_mark (codes "=")) ++ (a_word (codes "enumeration") ∷ in_parentheses (pieces_of_literals literals))
+
+-- name = der(function, names)
+abbrev pub derivative_of : ReferenceOf Expr → List (List ℕ) → (name : List ℕ) → List Piece
+derivative_of function names name =
+    a_name name ∷ spaced (a_mark (codes "=")) ++ (a_word (codes "der") ∷ in_parentheses (pieces_of_reference function ++ (a_comma ++ commas pieces_of_name names)))
+
 -- a section with its head, each part on a line of its own
 abbrev pub section_with : {A : Type 0} → List ℕ → (A → List Piece) → Bool → List A → List Piece
 section_with word shown initial parts = head_line (word_if (codes "initial") initial ++ a_word word ∷ []) ++ lines_of shown parts
@@ -79,12 +99,9 @@ section_with word shown initial parts = head_line (word_if (codes "initial") ini
 
 abbrev pub in_body : Body-F ShownBody ShownGive ShownItem (List Piece) ShownElement → ShownBody
 in_body (Body-F.Long extending items external) name = name_with (λ give. give) extending name ++ inside_of items external name
-in_body (Body-F.Short causal base subs mods) name =
-    a_name name ∷ spaced (a_mark (codes "=")) ++ (pieces_of_causal causal ++ (pieces_of_reference base ++ (pieces_of_subscripts subs ++ mods_with (λ give. give) mods)))
-in_body (Body-F.Enumeration literals) name =
-    a_name name ∷ spaced (a_mark (codes "=")) ++ (a_word (codes "enumeration") ∷ in_parentheses (pieces_of_literals literals))
-in_body (Body-F.Der function names) name =
-    a_name name ∷ spaced (a_mark (codes "=")) ++ (a_word (codes "der") ∷ in_parentheses (pieces_of_reference function ++ (a_comma ++ commas pieces_of_name names)))
+in_body (Body-F.Short causal base subs mods) name = short_with (λ give. give) causal base subs mods name
+in_body (Body-F.Enumeration literals) name = enumeration_of literals name
+in_body (Body-F.Der function names) name = derivative_of function names name
 
 abbrev pub in_give : Give-F ShownBody ShownGive ShownItem (List Piece) ShownElement → ShownGive
 in_give (Give-F.Modify mods value) flags name = flags ++ (name ++ (mods_with (λ give. give) mods ++ pieces_of_binding value))

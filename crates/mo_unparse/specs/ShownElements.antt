@@ -42,11 +42,18 @@ abbrev pub pieces_of_condition : Option Expr → List Piece
 pieces_of_condition None = []
 pieces_of_condition (Some condition) = spaced (a_word (codes "if")) ++ pieces_of_expr condition
 
+-- the prefixes, the type and the dimensions behind it
+abbrev pub type_of : {G : Type 0} → ComponentOf G → List Piece
+type_of component = pieces_of_prefix component.prefix ++ (pieces_of_reference component.base ++ pieces_of_subscripts component.base_subs)
+
+-- the value and the condition
+abbrev pub value_of : {G : Type 0} → ComponentOf G → List Piece
+value_of component = pieces_of_binding component.binding ++ pieces_of_condition component.condition
+
 -- a component, where it is said how to show what the arguments of its modifiers give
 abbrev pub component_with : {G : Type 0} → (G → ShownGive) → ComponentOf G → List Piece
 component_with shown component =
-    pieces_of_prefix component.prefix ++ (pieces_of_reference component.base ++ (pieces_of_subscripts component.base_subs ++ (a_blank ∷ a_name component.name ∷ pieces_of_subscripts component.subs
-    ++ (mods_with shown component.mods ++ (pieces_of_binding component.binding ++ pieces_of_condition component.condition)))))
+    type_of component ++ (a_blank ∷ a_name component.name ∷ pieces_of_subscripts component.subs ++ (mods_with shown component.mods ++ value_of component))
 
 -- ---- elements
 

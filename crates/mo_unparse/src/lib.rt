@@ -1,10 +1,16 @@
 //! Trees as source text, such that reading the text again gives the tree, places aside.
 #![tactic(auto)]
 
+mod class;
+mod element;
+mod equation;
 mod expression;
 mod layout;
+mod lines;
 mod piece;
 mod section;
+mod statement;
 mod text;
 
+pub use class::class_text;
 pub use expression::expr_text;
