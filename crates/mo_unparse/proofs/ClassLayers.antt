@@ -31,7 +31,7 @@ use Rattle.mo_unparse.specs.ShownExpressions.{a_comma, in_parentheses, pieces_of
 use Rattle.mo_unparse.specs.ShownEquations.{pieces_of_equation, pieces_of_statement}
 use Rattle.mo_unparse.specs.ShownModifiers.{ShownGive, pieces_of_binding, argument_with, arguments_with, mods_with}
 use Rattle.mo_unparse.specs.ShownElements.{ShownElement, ShownItem, pieces_of_causal, type_of, value_of, component_with, pieces_of_flags, limit_with, extends_with, pieces_of_import, section_of}
-use Rattle.mo_unparse.specs.ShownClasses.{ShownBody, name_with, inside_of, short_with, enumeration_of, derivative_of, section_with, in_body, in_give, in_item, in_what, in_element, shown_body, shown_give, shown_item, pieces_of_what, shown_element, pieces_of_class, pieces_of_element, pieces_of_mods}
+use Rattle.mo_unparse.specs.ShownClasses.{ShownBody, name_with, inside_of, short_with, enumeration_of, derivative_of, section_with, in_body, in_give, in_item, in_what, in_element, shown_body, shown_give, shown_item, pieces_of_what, shown_element, pieces_of_class, pieces_of_element}
 use Rattle.mo_unparse.proofs.Rows.{in_row-map}
 
 -- ---- modifier lists are mapped argument by argument

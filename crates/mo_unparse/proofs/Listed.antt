@@ -1,12 +1,9 @@
 -- Lists of parts in pieces, where the parts are mapped or come one by one.
-use Rattle.std.proofs.Common.{◌≡◌, ◌+◌, ◌<◌, ℕ, suc, Bool, true, false, List, [], ◌∷◌, ◌++◌, map, take, get_or, length, eqb, refl, ap, sym, ◌∙◌, append_assoc, arith, length-take-le, Result, Ok, Err, OnOk}
+use Rattle.std.proofs.Common.{◌≡◌, ◌+◌, ◌<◌, ℕ, Bool, List, [], ◌∷◌, ◌++◌, map, take, get_or, length, eqb, refl, ap, ◌∙◌, append_assoc, Result, Ok, Err, OnOk}
 use Rattle.std.specs.Prelude.{flat_map, codes, if◌then◌else◌}
-use Rattle.std.proofs.lemmas.Grind.{common_steps, flat_map-append}
-use Rattle.std.proofs.lemmas.List.{take_more, append-nil}
 use Rattle.mo_syntax.specs.declared.expr.Expr.{Expr}
 use Rattle.mo_unparse.specs.Pieces.{Piece, a_word, a_line, deeper, shallower}
 use Rattle.mo_unparse.specs.Lines.{on_a_line, lines_of, block_of}
-use Rattle.mo_unparse.specs.ShownExpressions.{in_row}
 use Rattle.mo_unparse.proofs.Rows.{row_step, in_row-map, after_two}
 use Rattle.mo_unparse.specs.ShownEquations.{branch_of, branches_of, else_of}
 

@@ -1,9 +1,7 @@
 -- What is written so far.
-use Rattle.std.proofs.Common.{◌≡◌, ◌++◌, List, [], ◌∷◌, take, eqb}
-use Rattle.std.specs.Prelude.{codes}
-use Rattle.mo_unparse.specs.Pieces.{a_mark}
+use Rattle.std.proofs.Common.{◌≡◌, ◌++◌, take, eqb}
 use Rattle.mo_unparse.specs.Gathered.{gathered}
-use Rattle.mo_unparse.specs.ShownExpressions.{commas, joined_by}
+use Rattle.mo_unparse.specs.ShownExpressions.{commas}
 use Rattle.mo_unparse.specs.ShownModifiers.{pieces_of_name}
 use Rattle.mo_unparse.proofs.element.write_names.Given as goal
 
