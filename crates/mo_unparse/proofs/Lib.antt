@@ -22,6 +22,7 @@ pub mod PrintingStatements
 pub mod NamedCalls
 pub mod PrintingCalls
 pub mod PrintingEquations
+pub mod PrintingImports
 pub mod Listed
 pub mod Depths
 pub mod EquationLayers
