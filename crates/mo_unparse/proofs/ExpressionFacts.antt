@@ -14,10 +14,7 @@ use Rattle.mo_unparse.specs.ShownExpressions.{shown_expr, pieces_of_arg, pieces_
 use Rattle.mo_unparse.proofs.Holding.{Fact}
 use Rattle.mo_unparse.proofs.Building.{IsPrinted}
 use Rattle.mo_unparse.proofs.PrintingLevels.{IsGiven}
-
--- a list that is not empty
-pub data IsSome {A : Type 0} : List A → Type 0 where
-  some : {a : A} {list : List A} → IsSome (a ∷ list)
+use Rattle.mo_unparse.proofs.PrintingLists.{IsSome}
 
 -- the arguments of a call without their parentheses
 abbrev pub listed_pieces : List Arg → List (List ℕ × Arg) → List (IndexOf Expr) → List Piece

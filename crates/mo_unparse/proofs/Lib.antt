@@ -38,3 +38,8 @@ pub mod PrintingLists
 pub mod ExpressionFacts
 pub mod PrintingOperators
 pub mod ClassLayers
+pub mod PrintingReferences
+pub mod PrintingArguments
+pub mod WholeNumbers
+pub mod PrintingPrimaries
+pub mod PrintingExpressions

@@ -1,8 +1,8 @@
 -- Parts that may be left out, and lists of parts with a mark between, in pieces.
 use Rattle.std.proofs.Common.{◌≡◌, ℕ, true, List, [], ◌∷◌, ◌++◌, inl, inr, map, Option, Some, None, sym, ap, subst, ◌∙◌, append-nil, append_assoc}
 use Rattle.std.specs.Option.{option_map}
-use Rattle.mo_grammar.specs.Grammar.{Limits, has, seq, token}
-use Rattle.mo_grammar.specs.Forms.{optional, behind, separated}
+use Rattle.mo_grammar.specs.Grammar.{a_construct, Limits, left_inside, has, seq, token}
+use Rattle.mo_grammar.specs.Forms.{optional, behind, before, between, separated}
 use Rattle.mo_grammar.specs.Symbols.{Symbol, ValueOf, Form}
 use Rattle.mo_unparse.specs.Pieces.{Piece, tokens_of, tokens_of_piece, IsToken}
 use Rattle.mo_unparse.specs.ShownExpressions.{joined_by}
@@ -67,3 +67,18 @@ separated_printed P g {h = h} l {c = c} mark k e pieces value one list ((x, xs),
 pub optional_printed : {A B : Type 0} {g : Form B} {l : Limits} (pieces : Option A → List Piece) (value : A → B) → pieces None ≡ [] → (o : Option A) → HoldsOption (λ a. IsPrinted g l (pieces (Some a)) (value a)) o → IsPrinted (optional g) l (pieces o) (option_map value o)
 optional_printed {g = g} {l = l} pieces value none None h = subst (λ ps. IsPrinted (optional g) l ps None) (sym none) by_absent
 optional_printed pieces value none (Some a) h = by_present h
+
+-- ---- what stands between two marks
+
+before_held : {A : Type 0} (P : Fact Symbol ValueOf) (c : ℕ) (g : Form A) (l : Limits) (a : A) → HoldsBy P IsToken (before g c) l a → HoldsBy P IsToken g l a
+before_held P c g l a (x, here, e) = subst (λ v. HoldsBy P IsToken g l v) e here.0
+
+pub between_held : {A : Type 0} (P : Fact Symbol ValueOf) (c d : ℕ) (g : Form A) (l : Limits) (a : A) → HoldsBy P IsToken (between c d g) l a → (inner : Limits) × (left_inside a_construct l ≡ Some inner) × HoldsBy P IsToken g inner a
+between_held P c d g l a (inner, within, h) = (inner, within, before_held P d g inner a (behind_held P c (before g d) inner a h))
+
+-- a list that is not empty
+pub data IsSome {A : Type 0} : List A → Type 0 where
+  some : {a : A} {list : List A} → IsSome (a ∷ list)
+
+pub separated_some : {A : Type 0} (P : Fact Symbol ValueOf) (c : ℕ) (g : Form A) (l : Limits) (list : List A) → HoldsBy P IsToken (separated c g) l list → IsSome list
+separated_some P c g l list ((x, xs), held, same) = subst (λ v. IsSome v) same some
