@@ -1,32 +1,31 @@
 //! Classes in pieces.
 //!
 //! One function for each kind of part and of list, all in one cycle.
-ghost use Rattle.std.specs.Prelude.{◌≡◌, true, [], ◌∷◌, ◌++◌, codes, map, IfOk, OnOk};
-ghost use Rattle.mo_unparse.specs.Pieces.{a_mark, a_word, a_blank, a_name};
+ghost use Rattle.std.specs.Prelude.{◌≡◌, ◌++◌, codes, map, IfOk, OnOk};
+ghost use Rattle.mo_unparse.specs.Pieces.{a_word};
 ghost use Rattle.mo_unparse.specs.Gathered.{gathered};
 ghost use Rattle.mo_unparse.specs.Text.{text_of as text_of_pieces};
-ghost use Rattle.mo_unparse.specs.Lines.{head_line, on_a_line, word_if};
-ghost use Rattle.mo_unparse.specs.ShownExpressions.{commas, a_comma, in_parentheses, pieces_of_reference, pieces_of_subscripts, spaced};
-ghost use Rattle.mo_unparse.specs.ShownEquations.{pieces_of_equation, pieces_of_statement};
-ghost use Rattle.mo_unparse.specs.ShownModifiers.{pieces_of_name, pieces_of_path, arguments_with};
-ghost use Rattle.mo_unparse.specs.ShownElements.{component_with, extends_with, limit_with, pieces_of_import, type_of, value_of};
-ghost use Rattle.mo_unparse.specs.ShownClasses.{derivative_of, end_with, enumeration_of, external_line, head_of, inside_of, name_with, pieces_of_argument, pieces_of_class, pieces_of_element, pieces_of_items, pieces_of_literals, pieces_of_mods, pieces_of_purity, pieces_of_what, section_with, short_with, shown_body, shown_element, shown_give, shown_item, word_of_kind};
+ghost use Rattle.mo_unparse.specs.Lines.{on_a_line, word_if};
+ghost use Rattle.mo_unparse.specs.ShownExpressions.{commas, pieces_of_reference, spaced};
+ghost use Rattle.mo_unparse.specs.ShownModifiers.{pieces_of_path};
+ghost use Rattle.mo_unparse.specs.ShownElements.{component_with, extends_with};
+ghost use Rattle.mo_unparse.specs.ShownClasses.{inside_of, name_with, pieces_of_argument, pieces_of_class, pieces_of_element, pieces_of_items, pieces_of_mods, pieces_of_what, short_with, shown_body, shown_give, shown_item};
 
+use crate::class_head::{write_class_end, write_head_words};
 use crate::element::{
-    write_binding, write_causal, write_condition, write_flags, write_import, write_names,
-    write_path, write_prefix,
+    write_argument_flags, write_binding, write_causal, write_flags, write_path, write_type,
+    write_value,
 };
-use crate::equation::write_equations;
 use crate::expression::{write_reference, write_subscripts};
+use crate::item::{wanted_by, write_algorithm_section, write_equation_section, write_import_line};
 use crate::layout::{separate, spaced_mark, spaced_word};
-use crate::lines::word_where;
 use crate::piece::Pieces;
-use crate::section::{Section, behind_item, section_of, write_head_between};
-use crate::statement::write_statements;
+use crate::section::{Section, behind_item, write_head_between};
+use crate::simple_body::{write_derivative, write_enumeration};
 use crate::text::text_of;
 use mo_syntax::{
-    Argument, Body, Causal, ClassDef, ClassFlags, ClassKind, Component, Element, Equation, Expr,
-    Extends, Give, Import, Item, List, Mods, NoMemory, Path, Reference, Statement, Text, What,
+    Argument, Body, Causal, ClassDef, Component, Element, Expr, Extends, Give, Item, Mods,
+    NoMemory, Path, Reference, Text, What,
 };
 use std::alloc::Global;
 
@@ -37,207 +36,6 @@ pub fn class_text(alloc: Global, c: &ClassDef) -> Result<Text, NoMemory>
     let mut pieces = Pieces::new(alloc);
     write_class(&mut pieces, c)?;
     text_of(alloc, &pieces)
-}
-
-// ---- heads and ends
-
-/// The word that a class of that kind begins with.
-fn word_of(kind: ClassKind) -> &'static str
-    ensures { result.now ≡ word_of_kind kind }
-{
-    match kind {
-        ClassKind::Plain => "class",
-        ClassKind::Model => "model",
-        ClassKind::Block => "block",
-        ClassKind::Recd => "record",
-        ClassKind::Connector => "connector",
-        ClassKind::TypeDef => "type",
-        ClassKind::Package => "package",
-        ClassKind::Function => "function",
-        ClassKind::Operator => "operator",
-    }
-}
-
-/// Writes whether a function is pure, where it is said.
-fn write_purity(out: &mut Pieces<'_>, purity: Option<bool>) -> Result<(), NoMemory>
-    ensures { OnOk result (gathered out.new ≡ gathered out.old ++ pieces_of_purity purity) }
-{
-    match purity {
-        None => Ok(()),
-        Some(true) => word_where(out, "pure", true),
-        Some(false) => word_where(out, "impure", true),
-    }
-}
-
-/// Writes the words that a class begins with.
-fn write_head_words(
-    out: &mut Pieces<'_>,
-    kind: ClassKind,
-    flags: ClassFlags,
-) -> Result<(), NoMemory>
-    ensures { OnOk result (gathered out.new ≡ gathered out.old ++ head_of kind flags) }
-{
-    word_where(out, "encapsulated", flags.encapsulated)?;
-    word_where(out, "partial", flags.partial)?;
-    write_purity(out, flags.purity)?;
-    word_where(out, "operator", flags.operator)?;
-    word_where(out, "expandable", flags.expandable)?;
-    out.word(word_of(kind))?;
-    out.blank()
-}
-
-/// Writes an `external` clause on a line of its own.
-fn write_external_line(out: &mut Pieces<'_>) -> Result<(), NoMemory>
-    ensures { OnOk result (gathered out.new ≡ gathered out.old ++ external_line true) }
-{
-    out.line()?;
-    out.word("external")?;
-    out.mark(";")
-}
-
-/// Writes an `external` clause, where one stands there.
-fn write_external(out: &mut Pieces<'_>, external: bool) -> Result<(), NoMemory>
-    ensures { OnOk result (gathered out.new ≡ gathered out.old ++ external_line external) }
-{
-    match external {
-        true => write_external_line(out),
-        false => Ok(()),
-    }
-}
-
-/// Writes the end of a class, with an external clause before it.
-fn write_class_end<'t>(out: &mut Pieces<'t>, external: bool, name: &'t str) -> Result<(), NoMemory>
-    ensures { OnOk result (gathered out.new ≡ gathered out.old ++ end_with external name.now) }
-{
-    write_external(out, external)?;
-    out.line()?;
-    out.word("end")?;
-    out.blank()?;
-    out.name(name)
-}
-
-// ---- bodies that hold no class
-
-/// Writes the literals of an enumeration.
-fn write_literals<'t>(
-    out: &mut Pieces<'t>,
-    literals: &'t Option<List<Text>>,
-) -> Result<(), NoMemory>
-    ensures { OnOk result (gathered out.new ≡ gathered out.old ++ pieces_of_literals literals.now) }
-{
-    match literals {
-        None => out.mark(":"),
-        Some(literals) => write_names(out, literals.as_slice()),
-    }
-}
-
-/// Writes the literals of an enumeration in parentheses.
-fn write_literals_list<'t>(
-    out: &mut Pieces<'t>,
-    literals: &'t Option<List<Text>>,
-) -> Result<(), NoMemory>
-    ensures { OnOk result (gathered out.new ≡ gathered out.old ++ in_parentheses (pieces_of_literals literals.now)) }
-{
-    out.mark("(")?;
-    write_literals(out, literals)?;
-    out.mark(")")
-}
-
-/// Writes an enumeration.
-fn write_enumeration<'t>(
-    out: &mut Pieces<'t>,
-    literals: &'t Option<List<Text>>,
-    name: &'t str,
-) -> Result<(), NoMemory>
-    ensures { OnOk result (gathered out.new ≡ gathered out.old ++ enumeration_of literals.now name.now) }
-{
-    out.name(name)?;
-    spaced_mark(out, "=")?;
-    out.word("enumeration")?;
-    write_literals_list(out, literals)
-}
-
-/// Writes a function that is a partial derivative of another.
-fn write_derivative<'t>(
-    out: &mut Pieces<'t>,
-    function: &'t Reference,
-    names: &'t [Text],
-    name: &'t str,
-) -> Result<(), NoMemory>
-    ensures { OnOk result (gathered out.new ≡ gathered out.old ++ derivative_of function.now names.now name.now) }
-{
-    out.name(name)?;
-    spaced_mark(out, "=")?;
-    out.word("der")?;
-    out.mark("(")?;
-    write_reference(out, function)?;
-    separate(out, false)?;
-    write_names(out, names)?;
-    out.mark(")")
-}
-
-// ---- items that hold no class
-
-/// Writes an import clause on a line of its own.
-fn write_import_line<'t>(out: &mut Pieces<'t>, import: &'t Import) -> Result<(), NoMemory>
-    ensures { OnOk result (gathered out.new ≡ gathered out.old ++ on_a_line (pieces_of_import import.now)) }
-{
-    out.line()?;
-    write_import(out, import)?;
-    out.mark(";")
-}
-
-/// Writes the head of a section of equations or statements.
-fn write_section_head<'t>(
-    out: &mut Pieces<'t>,
-    initial: bool,
-    word: &'t str,
-) -> Result<(), NoMemory>
-    ensures { OnOk result (gathered out.new ≡ gathered out.old ++ head_line (word_if (codes "initial") initial ++ a_word word.now ∷ [])) }
-{
-    out.shallower()?;
-    out.line()?;
-    word_where(out, "initial", initial)?;
-    out.word(word)?;
-    out.deeper()
-}
-
-/// Writes a section of equations.
-fn write_equation_section<'t>(
-    out: &mut Pieces<'t>,
-    initial: bool,
-    equations: &'t [Equation],
-) -> Result<(), NoMemory>
-    ensures { OnOk result (gathered out.new ≡ gathered out.old ++ section_with (codes "equation") pieces_of_equation initial equations.now) }
-{
-    write_section_head(out, initial, "equation")?;
-    write_equations(out, equations)
-}
-
-/// Writes a section of statements.
-fn write_algorithm_section<'t>(
-    out: &mut Pieces<'t>,
-    initial: bool,
-    statements: &'t [Statement],
-) -> Result<(), NoMemory>
-    ensures { OnOk result (gathered out.new ≡ gathered out.old ++ section_with (codes "algorithm") pieces_of_statement initial statements.now) }
-{
-    write_section_head(out, initial, "algorithm")?;
-    write_statements(out, statements)
-}
-
-/// The section that an item stands in, None for an import.
-#[tactic(auto, using(crate::proofs::ClassLayers::class_layers))]
-fn wanted_by(item: &Item) -> Option<Section>
-    ensures { result ≡ (shown_item item.now).section }
-{
-    match item {
-        Item::Import(_) => None,
-        Item::Extends(clause) => Some(section_of(clause.hidden)),
-        Item::Member(element) => Some(section_of(element.flags.hidden)),
-        Item::Equations(_, _) => Some(Section::Behavior),
-        Item::Algorithm(_, _) => Some(Section::Behavior),
-    }
 }
 
 // ---- classes
@@ -410,23 +208,6 @@ fn write_what<'t>(out: &mut Pieces<'t>, what: &'t What) -> Result<(), NoMemory>
     }
 }
 
-/// Writes the prefixes, the type and the dimensions behind it of a component.
-fn write_type<'t>(out: &mut Pieces<'t>, component: &'t Component) -> Result<(), NoMemory>
-    ensures { OnOk result (gathered out.new ≡ gathered out.old ++ type_of component.now) }
-{
-    write_prefix(out, component.prefix)?;
-    write_reference(out, &component.base)?;
-    write_subscripts(out, component.base_subs.as_slice())
-}
-
-/// Writes the value and the condition of a component.
-fn write_value<'t>(out: &mut Pieces<'t>, component: &'t Component) -> Result<(), NoMemory>
-    ensures { OnOk result (gathered out.new ≡ gathered out.old ++ value_of component.now) }
-{
-    write_binding(out, &component.binding)?;
-    write_condition(out, &component.condition)
-}
-
 /// Writes a component.
 #[cycle(class)]
 fn write_component<'t>(out: &mut Pieces<'t>, component: &'t Component) -> Result<(), NoMemory>
@@ -494,14 +275,6 @@ fn write_argument<'t>(out: &mut Pieces<'t>, argument: &'t Argument) -> Result<()
         argument.last,
         &argument.name,
     )
-}
-
-/// Writes the flags of an argument.
-fn write_argument_flags(out: &mut Pieces<'_>, each: bool, last: bool) -> Result<(), NoMemory>
-    ensures { OnOk result (gathered out.new ≡ gathered out.old ++ (word_if (codes "each") each ++ word_if (codes "final") last)) }
-{
-    word_where(out, "each", each)?;
-    word_where(out, "final", last)
 }
 
 /// Writes what an argument gives, with its flags and its name.

@@ -1,15 +1,18 @@
 //! The parts of elements that hold no class.
-ghost use Rattle.std.specs.Prelude.{◌≡◌, ◌++◌, OnOk};
+ghost use Rattle.std.specs.Prelude.{◌≡◌, ◌++◌, codes, OnOk};
 ghost use Rattle.mo_unparse.specs.Gathered.{gathered};
+ghost use Rattle.mo_unparse.specs.Lines.{word_if};
 ghost use Rattle.mo_unparse.specs.ShownExpressions.{commas};
 ghost use Rattle.mo_unparse.specs.ShownModifiers.{pieces_of_binding, pieces_of_name, pieces_of_path};
-ghost use Rattle.mo_unparse.specs.ShownElements.{in_import, pieces_of_causal, pieces_of_condition, pieces_of_flags, pieces_of_import, pieces_of_prefix, pieces_of_vary};
+ghost use Rattle.mo_unparse.specs.ShownElements.{in_import, pieces_of_causal, pieces_of_condition, pieces_of_flags, pieces_of_import, pieces_of_prefix, pieces_of_vary, type_of, value_of};
 
-use crate::expression::write_expr;
+use crate::expression::{write_expr, write_reference, write_subscripts};
 use crate::layout::{dot_between, separate, spaced_mark, spaced_word};
 use crate::lines::word_where;
 use crate::piece::Pieces;
-use mo_syntax::{Causal, ElementFlags, Expr, Import, NoMemory, Path, Prefix, Text, Vary};
+use mo_syntax::{
+    Causal, Component, ElementFlags, Expr, Import, NoMemory, Path, Prefix, Text, Vary,
+};
 
 /// Writes identifiers with commas between them.
 pub(crate) fn write_names<'t>(out: &mut Pieces<'t>, names: &'t [Text]) -> Result<(), NoMemory>
@@ -145,4 +148,36 @@ pub(crate) fn write_import<'t>(out: &mut Pieces<'t>, import: &'t Import) -> Resu
     out.word("import")?;
     out.blank()?;
     write_taken(out, import)
+}
+
+/// Writes the prefixes, the type and the dimensions behind it of a component.
+pub(crate) fn write_type<'t>(out: &mut Pieces<'t>, component: &'t Component) -> Result<(), NoMemory>
+    ensures { OnOk result (gathered out.new ≡ gathered out.old ++ type_of component.now) }
+{
+    write_prefix(out, component.prefix)?;
+    write_reference(out, &component.base)?;
+    write_subscripts(out, component.base_subs.as_slice())
+}
+
+/// Writes the value and the condition of a component.
+pub(crate) fn write_value<'t>(
+    out: &mut Pieces<'t>,
+    component: &'t Component,
+) -> Result<(), NoMemory>
+    ensures { OnOk result (gathered out.new ≡ gathered out.old ++ value_of component.now) }
+{
+    write_binding(out, &component.binding)?;
+    write_condition(out, &component.condition)
+}
+
+/// Writes the flags of an argument.
+pub(crate) fn write_argument_flags(
+    out: &mut Pieces<'_>,
+    each: bool,
+    last: bool,
+) -> Result<(), NoMemory>
+    ensures { OnOk result (gathered out.new ≡ gathered out.old ++ (word_if (codes "each") each ++ word_if (codes "final") last)) }
+{
+    word_where(out, "each", each)?;
+    word_where(out, "final", last)
 }

@@ -2,13 +2,16 @@
 #![tactic(auto)]
 
 mod class;
+mod class_head;
 mod element;
 mod equation;
 mod expression;
+mod item;
 mod layout;
 mod lines;
 mod piece;
 mod section;
+mod simple_body;
 mod statement;
 mod text;
 
