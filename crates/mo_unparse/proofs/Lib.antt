@@ -23,6 +23,7 @@ pub mod NamedCalls
 pub mod PrintingCalls
 pub mod PrintingEquations
 pub mod PrintingImports
+pub mod KnownExpressions
 pub mod Listed
 pub mod Depths
 pub mod EquationLayers
