@@ -44,3 +44,5 @@ pub mod PrintingArguments
 pub mod WholeNumbers
 pub mod PrintingPrimaries
 pub mod PrintingExpressions
+pub mod OuterNames
+pub mod ReadingClasses
