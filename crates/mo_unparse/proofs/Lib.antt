@@ -46,3 +46,4 @@ pub mod PrintingPrimaries
 pub mod PrintingExpressions
 pub mod OuterNames
 pub mod ReadingClasses
+pub mod ReadingAgain

@@ -5,6 +5,7 @@ ghost use Rattle.std.specs.Prelude.{◌≡◌, [], ◌∷◌, ◌++◌, codes, I
 ghost use Rattle.mo_unparse.specs.Pieces.{a_mark, a_word, a_blank};
 ghost use Rattle.mo_unparse.specs.Gathered.{gathered};
 ghost use Rattle.mo_unparse.specs.Text.{text_of as text_of_pieces};
+ghost use Rattle.mo_unparse.specs.ReadAgain.{IsReadAgain};
 ghost use Rattle.mo_unparse.specs.ShownExpressions.{a_semicolon, branch_pieces, callee_pieces, chain_pieces, commas, factors_pieces, given_pieces, in_braces, in_brackets, in_parentheses, in_row, index_pieces, iterators_pieces, joined_by, named_pieces, operand, output_pieces, part_pieces, pieces_of_arg, pieces_of_args, pieces_of_expr, pieces_of_indices, pieces_of_node, pieces_of_outputs, pieces_of_reference, pieces_of_subscripts, power_mark, range_pieces, relation_mark, row_pieces, shown_expr, shown_node, spaced, step_pieces, subscript_pieces, terms_pieces};
 
 use crate::layout::{
@@ -19,9 +20,11 @@ use mo_syntax::{
 };
 use std::alloc::Global;
 
-/// The source text of an expression. `NoMemory` is the only other answer.
+/// The source text of an expression. Where tokens of a text spell the expression, the text is read again to it, places aside.
+/// `NoMemory` is the only other answer.
 pub fn expr_text(alloc: Global, e: &Expr) -> Result<Text, NoMemory>
     ensures text { IfOk result (λ t. t ≡ text_of_pieces (pieces_of_expr e.now)) }
+    ensures read { IfOk result (λ t. IsReadAgain t e.now) }
 {
     let mut pieces = Pieces::new(alloc);
     write_expr(&mut pieces, e)?;
