@@ -16,7 +16,7 @@ use Rattle.mo_unparse.specs.Text.{text_of}
 use Rattle.mo_unparse.specs.ReadAgain.{HoldsClass, IsReadAsFile}
 use Rattle.mo_unparse.proofs.Building.{IsPrinted, by_absent, by_before, by_made, by_more, by_no_flag, by_none, by_pieces, by_seq}
 use Rattle.mo_unparse.proofs.FileEnds.{file_parts, file_of, file_printed}
-use Rattle.mo_unparse.proofs.OuterNames.{class_renamed}
+use Rattle.mo_unparse.proofs.OtherNames.{class_renamed}
 use Rattle.mo_unparse.proofs.PlacingLaw.{places_do_not_matter}
 use Rattle.mo_unparse.proofs.Semicolon.{text_before_semicolon}
 use Rattle.mo_unparse.proofs.TextRead.{text_is_read}
@@ -24,7 +24,7 @@ use Rattle.mo_unparse.proofs.WordPieces.{semicolon_is}
 
 -- what is wanted of a class: where tokens spell it, its pieces do
 abbrev pub PiecesSpell : ClassDefOf Body → Type 0
-PiecesSpell class = (l : Limits) (tokens : List Lexeme) → Spells ClassDefinitions l tokens class → AreTokens tokens → IsPrinted (symbol ClassDefinitions) l (pieces_of_class class) (placeless_class class)
+PiecesSpell class = (tokens : List Lexeme) → Spells ClassDefinitions whole_limits tokens class → AreTokens tokens → IsPrinted (symbol ClassDefinitions) whole_limits (pieces_of_class class) (placeless_class class)
 
 abbrev with_semicolon : ClassDefOf Body → List Piece
 with_semicolon class = pieces_of_class class ++ a_mark (codes ";") ∷ []
@@ -45,7 +45,7 @@ file_read class file p =
 
 pub class_read : (class : ClassDefOf Body) → PiecesSpell class → IsReadAsFile (text_of (pieces_of_class class)) class
 class_read class printed file outer tokens all spelled =
-    let p = printed whole_limits tokens (class_renamed outer [] 128 32 tokens class spelled) all in
+    let p = printed tokens (class_renamed outer [] 128 32 tokens class spelled) all in
     subst (λ text. HoldsClass text file class) (text_before_semicolon (pieces_of_class class)) (file_read class file (in_file class p))
 
 -- and so is what is that text
