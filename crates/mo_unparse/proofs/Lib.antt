@@ -44,6 +44,6 @@ pub mod PrintingArguments
 pub mod WholeNumbers
 pub mod PrintingPrimaries
 pub mod PrintingExpressions
-pub mod OtherNames
+pub mod OuterNames
 pub mod ReadingClasses
 pub mod ReadingAgain

@@ -16,7 +16,7 @@ use Rattle.mo_unparse.specs.Text.{text_of}
 use Rattle.mo_unparse.specs.ReadAgain.{HoldsClass, IsReadAsFile}
 use Rattle.mo_unparse.proofs.Building.{IsPrinted, by_absent, by_before, by_made, by_more, by_no_flag, by_none, by_pieces, by_seq}
 use Rattle.mo_unparse.proofs.FileEnds.{file_parts, file_of, file_printed}
-use Rattle.mo_unparse.proofs.OtherNames.{class_renamed}
+use Rattle.mo_unparse.proofs.OuterNames.{class_renamed}
 use Rattle.mo_unparse.proofs.PlacingLaw.{places_do_not_matter}
 use Rattle.mo_unparse.proofs.Semicolon.{text_before_semicolon}
 use Rattle.mo_unparse.proofs.TextRead.{text_is_read}
