@@ -33,6 +33,7 @@ pub mod PrintingHeads
 pub mod PrintingModifiers
 pub mod PrintingElements
 pub mod PrintingSections
+pub mod PrintingShortClasses
 pub mod PrintingClasses
 pub mod PrintingLevels
 pub mod PrintingLists

@@ -1,12 +1,11 @@
 -- What the items of a class are in pieces spells its sections. Behind any item the rest is spelled in each section that may be
 -- open there, so the items are gone through from the last one.
 use Rattle.std.proofs.Common.{◌≡◌, ℕ, Bool, true, false, List, [], ◌∷◌, ◌++◌, ◌⊎◌, inl, inr, map, Option, Some, None, IsTrue, refl, sym, ap, subst, ◌∙◌, append_assoc, codes}
-use Rattle.std.proofs.lemmas.Slice.Eq.{bytes_eq-Decides}
-use Rattle.mo_syntax.specs.declared.class.Item.{Item, fold_out-Item}
-use Rattle.mo_syntax.specs.declared.class.Item.TheVariants.{Equations, Algorithm, outs-Equations, outs-Algorithm}
-use Rattle.mo_grammar.specs.Codes.{string, semicolon, end_word, public_word, protected_word, initial_word, equation_word, algorithm_word, external_word, annotation_word}
+use Rattle.mo_syntax.specs.declared.class.Item.{Item}
+use Rattle.mo_syntax.specs.declared.class.Item.TheVariants.{Equations, Algorithm}
+use Rattle.mo_grammar.specs.Codes.{string, semicolon, public_word, protected_word, initial_word, equation_word, algorithm_word, external_word, annotation_word}
 use Rattle.mo_grammar.specs.Lexeme.{Lexeme, code_of}
-use Rattle.mo_grammar.specs.Grammar.{EndName, any_name, this_name, Limits, end_name_in, suits, has, identifiers, token, seq, either, many, made, symbol, end_name, SpelledBy, SpelledAs}
+use Rattle.mo_grammar.specs.Grammar.{Limits, end_name_in, suits, has, identifiers, token, seq, either, many, made, symbol, SpelledBy, SpelledAs}
 use Rattle.mo_grammar.specs.Forms.{second_of, optional, behind, before}
 use Rattle.mo_grammar.specs.ClassTrees.{Equation, Statement, Inside, items_before, external_clause}
 use Rattle.mo_grammar.specs.Symbols.{Symbol, ValueOf, Form, ClassMods, EquationItems, StatementItems, ElementItems, Compositions, Sections, SectionEquations}
@@ -19,9 +18,9 @@ use Rattle.mo_unparse.specs.Placeless.{placeless_equation, placeless_equations, 
 use Rattle.mo_unparse.specs.PlacelessClasses.{placeless_item, placeless_inside}
 use Rattle.mo_unparse.specs.Lines.{head_line, lines_of, on_a_line, word_if}
 use Rattle.mo_unparse.specs.ShownEquations.{pieces_of_equation, pieces_of_statement}
-use Rattle.mo_unparse.specs.ShownElements.{ShownElement, ShownItem, section_of, section_behind, head_between, items_from}
-use Rattle.mo_unparse.specs.ShownModifiers.{ShownGive}
-use Rattle.mo_unparse.specs.ShownClasses.{ShownBody, external_line, inside_of, section_with, in_body, in_give, in_item, in_what, in_element, shown_item}
+use Rattle.mo_unparse.specs.ShownElements.{ShownItem, section_of, section_behind, head_between, items_from}
+use Rattle.mo_unparse.specs.ShownClasses.{end_with, inside_of, section_with, shown_item}
+use Rattle.mo_unparse.proofs.ClassLayers as layers
 use Rattle.mo_unparse.proofs.PlacelessClassForms as placeless_forms
 use Rattle.mo_unparse.proofs.Holding.{Fact, HoldsBy, HoldsEach, each_follows}
 use Rattle.mo_unparse.proofs.Building.{IsPrinted, after_blank, after_deeper, after_line, after_shallower, by_absent, by_before, by_behind, by_end_name, by_left, by_made, by_none, by_pieces, by_right, by_right2, by_rule, by_seq, by_value, tokens_joined}
@@ -107,15 +106,19 @@ abbrev pub end_line : List ℕ → List Piece
 end_line name = a_line ∷ a_word (codes "end") ∷ a_blank ∷ a_name name ∷ []
 
 abbrev pub end_pieces : Bool → List ℕ → List Piece
-end_pieces external name = shallower ∷ external_line external ++ end_line name
+end_pieces external name = shallower ∷ end_with external name
 
 -- the items from one on, where a section is open, with the end of the class
 abbrev pub rest_pieces : Section → Inside → List ℕ → List Piece
 rest_pieces current x name = items_from current (map shown_item x.0) ++ end_pieces x.1 name
 
--- whichever section is open
+-- an identifier that may stand behind `end`
+abbrev pub MayEnd : Limits → Lexeme → Type 0
+MayEnd l t = IsToken t × IsTrue (has identifiers (code_of t)) × IsTrue (suits (end_name_in l) t)
+
+-- whichever name ends the class, and whichever section is open
 abbrev pub InsidePrinted : Limits → Inside → Type 0
-InsidePrinted l x = (name : List ℕ) → end_name_in l ≡ this_name name → (current : Section) → IsPrinted (open_in current) l (rest_pieces current x name) (placeless_inside x)
+InsidePrinted l x = (t : Lexeme) → MayEnd l t → (current : Section) → IsPrinted (open_in current) l (rest_pieces current x t.text) (placeless_inside x)
 
 regrouped : (current behind : Section) (item : ShownItem) (items : List ShownItem) (end : List Piece) → section_behind current item.section ≡ behind → head_between current behind ++ (item.pieces ++ (items_from behind items ++ end)) ≡ items_from current (item ∷ items) ++ end
 regrouped current behind item items end e =
@@ -139,13 +142,13 @@ not_wanted Protected None e = refl
 not_wanted Behavior None e = refl
 
 item_before : (hidden : Bool) (l : Limits) (item : Item) (x : Inside) → ItemPrinted hidden l item → InsidePrinted l x → InsidePrinted l (item ∷ x.0, x.1)
-item_before hidden l item x (inl (e, p)) rest name n current =
-    by_pieces (regrouped current (section_of hidden) (shown_item item) (map shown_item x.0) (end_pieces x.1 name) (wanted current _ (section_of hidden) e))
-    (headed current hidden (item_then hidden p (of_elements hidden (rest name n (section_of hidden)))))
-item_before hidden l item x (inr (e, p)) rest name n current =
+item_before hidden l item x (inl (e, p)) rest t end current =
+    by_pieces (regrouped current (section_of hidden) (shown_item item) (map shown_item x.0) (end_pieces x.1 t.text) (wanted current _ (section_of hidden) e))
+    (headed current hidden (item_then hidden p (of_elements hidden (rest t end (section_of hidden)))))
+item_before hidden l item x (inr (e, p)) rest t end current =
     let other = stays_hidden current in
-    by_pieces (regrouped current (section_of other) (shown_item item) (map shown_item x.0) (end_pieces x.1 name) (not_wanted current _ e))
-    (headed current other (item_then other (p other) (of_elements other (rest name n (section_of other)))))
+    by_pieces (regrouped current (section_of other) (shown_item item) (map shown_item x.0) (end_pieces x.1 t.text) (not_wanted current _ e))
+    (headed current other (item_then other (p other) (of_elements other (rest t end (section_of other)))))
 
 items_before_it : (hidden : Bool) (l : Limits) (items : List Item) (x : Inside) → HoldsEach (ItemPrinted hidden l) items → InsidePrinted l x → InsidePrinted l (items ++ x.0, x.1)
 items_before_it hidden l [] x h rest = rest
@@ -176,12 +179,6 @@ started : (initial : Bool) (word : List ℕ) (ps qs : List Piece) {l : Limits} {
 started false word ps qs p = after_shallower (after_line (by_left (by_right (by_right (by_left p)))))
 started true word ps qs p = after_shallower (after_line (by_right (by_left (by_behind initial_word_is (after_blank p)))))
 
-at_Equations : (initial : Bool) (list : List Equation) → shown_item (Equations initial list) ≡ record { section = Some Behavior; pieces = section_with (codes "equation") pieces_of_equation initial list }
-at_Equations initial list = rw (fold_out-Item ShownBody ShownGive ShownItem (List Piece) ShownElement in_body in_give in_item in_what in_element (Equations initial list), outs-Equations initial list)
-
-at_Algorithm : (initial : Bool) (list : List Statement) → shown_item (Algorithm initial list) ≡ record { section = Some Behavior; pieces = section_with (codes "algorithm") pieces_of_statement initial list }
-at_Algorithm initial list = rw (fold_out-Item ShownBody ShownGive ShownItem (List Piece) ShownElement in_body in_give in_item in_what in_element (Algorithm initial list), outs-Algorithm initial list)
-
 -- a section of these pieces before others
 section_before : {l : Limits} (name : List ℕ) (item placeless : Item) (pieces : List Piece) (x : Inside) → (let shown : ShownItem = record { section = Some Behavior; pieces = pieces } in shown_item item ≡ shown) → placeless_item item ≡ placeless →
     IsPrinted sections l (pieces ++ rest_pieces Behavior x name) (placeless ∷ map placeless_item x.0, x.1) → (current : Section) → IsPrinted (open_in current) l (rest_pieces current (item ∷ x.0, x.1) name) (placeless_inside (item ∷ x.0, x.1))
@@ -190,39 +187,34 @@ section_before name item placeless pieces x e q p current =
     (by_pieces (ap (λ s. head_between current Behavior ++ (s.pieces ++ rest_pieces Behavior x name)) (sym e)) (by_value (ap (λ i. (i ∷ map placeless_item x.0, x.1)) (sym q)) (no_head current p)))
 
 equations_before : (l : Limits) (initial : Bool) (list : List Equation) (x : Inside) → HoldsEach (EquationPrinted l) list → InsidePrinted l x → InsidePrinted l (Equations initial list ∷ x.0, x.1)
-equations_before l initial list x h rest name n current =
-    section_before name (Equations initial list) (Equations initial (placeless_equations list)) (section_with (codes "equation") pieces_of_equation initial list) x (at_Equations initial list) (placeless_forms.at_Equations initial list)
-    (started initial (codes "equation") (lines_of pieces_of_equation list) (rest_pieces Behavior x name) (by_left (by_made refl (by_behind equation_word_is (after_deeper (equations_then list h (rest name n Behavior))))))) current
+equations_before l initial list x h rest t end current =
+    section_before t.text (Equations initial list) (Equations initial (placeless_equations list)) (section_with (codes "equation") pieces_of_equation initial list) x (layers.at_Equations initial list) (placeless_forms.at_Equations initial list)
+    (started initial (codes "equation") (lines_of pieces_of_equation list) (rest_pieces Behavior x t.text) (by_left (by_made refl (by_behind equation_word_is (after_deeper (equations_then list h (rest t end Behavior))))))) current
 
 algorithm_before : (l : Limits) (initial : Bool) (list : List Statement) (x : Inside) → HoldsEach (StatementPrinted l) list → InsidePrinted l x → InsidePrinted l (Algorithm initial list ∷ x.0, x.1)
 unfolding rule
-algorithm_before l initial list x h rest name n current =
-    section_before name (Algorithm initial list) (Algorithm initial (placeless_statements list)) (section_with (codes "algorithm") pieces_of_statement initial list) x (at_Algorithm initial list) (placeless_forms.at_Algorithm initial list)
-    (started initial (codes "algorithm") (lines_of pieces_of_statement list) (rest_pieces Behavior x name) (by_right (by_made refl (by_behind algorithm_word_is (after_deeper (by_seq (by_lines pieces_of_statement placeless_statement list h) (by_rule Sections (rest name n Behavior)))))))) current
+algorithm_before l initial list x h rest t end current =
+    section_before t.text (Algorithm initial list) (Algorithm initial (placeless_statements list)) (section_with (codes "algorithm") pieces_of_statement initial list) x (layers.at_Algorithm initial list) (placeless_forms.at_Algorithm initial list)
+    (started initial (codes "algorithm") (lines_of pieces_of_statement list) (rest_pieces Behavior x t.text) (by_right (by_made refl (by_behind algorithm_word_is (after_deeper (by_seq (by_lines pieces_of_statement placeless_statement list h) (by_rule Sections (rest t end Behavior)))))))) current
 
 -- ---- the end of a class
 
 abbrev external_rest : Form Inside
 external_rest = made second_of (seq (seq (optional (token (string ∷ []))) (seq (optional external_call) (optional annotation_part))) (behind semicolon (either annotated_end class_end)))
 
--- the identifier that stands behind `end`
-abbrev EndHolds : Limits → Type 0
-EndHolds l = (t : Lexeme) × IsToken t × IsTrue (has identifiers (code_of t)) × IsTrue (suits (end_name_in l) t)
+ended : (l : Limits) (t : Lexeme) → MayEnd l t → IsPrinted class_end l (end_line t.text) ([], false)
+ended l t h = after_line (by_made refl (by_behind end_word_is (after_blank (by_end_name t h.0 h.1 h.2))))
 
-suits_name : (f : EndName) (name : List ℕ) (t : Lexeme) → f ≡ this_name name → IsTrue (suits f t) → t.text ≡ name
-suits_name any_name name t e s = cc
-suits_name (this_name other) name t e s = let same : other ≡ name = cc in sym ((bytes_eq-Decides other t.text).0 s) ∙ same
-
-ended : (l : Limits) (name : List ℕ) → end_name_in l ≡ this_name name → EndHolds l → IsPrinted class_end l (end_line name) ([], false)
-ended l name n (t, is, c, s) = by_pieces (ap end_line (suits_name (end_name_in l) name t n s)) (after_line (by_made refl (by_behind end_word_is (after_blank (by_end_name t is c s)))))
-
-ended_inside : (l : Limits) (external : Bool) → EndHolds l → InsidePrinted l ([], external)
-ended_inside l false h name n current = opened current (by_right (by_right (after_shallower (ended l name n h))))
-ended_inside l true h name n current =
+ended_inside : (l : Limits) (external : Bool) → InsidePrinted l ([], external)
+ended_inside l false t end current = opened current (by_right (by_right (after_shallower (ended l t end))))
+ended_inside l true t end current =
     opened current (by_left (by_right (by_right (by_right (by_left
-    (after_shallower (after_line (by_made refl (by_behind external_word_is (by_made refl (by_seq (by_seq by_absent (by_seq by_absent by_absent)) (by_behind semicolon_is (by_right (ended l name n h))))))))))))))
+    (after_shallower (after_line (by_made refl (by_behind external_word_is (by_made refl (by_seq (by_seq by_absent (by_seq by_absent by_absent)) (by_behind semicolon_is (by_right (ended l t end))))))))))))))
 
 -- ---- what tokens spell
+
+abbrev no_items : Inside
+no_items = ([], false)
 
 -- equations, and what follows
 abbrev pub SectionEquationsPrinted : Limits → List Equation × Inside → Type 0
@@ -230,7 +222,7 @@ SectionEquationsPrinted l x = HoldsEach (EquationPrinted l) x.0 × InsidePrinted
 
 -- What is known of the parts of sections: what holds of what tokens spell (P) gives that the pieces spell it.
 pub record SectionPartsPrinted (P : Fact Symbol ValueOf) : Type 0 where
-  pub elements : (hidden : Bool) (l : Limits) (name : List ℕ) → end_name_in l ≡ this_name name → (items : List Item) → P (ElementItems hidden) l items → HoldsEach (ItemPrinted hidden l) items
+  pub elements : (hidden : Bool) (l : Limits) (items : List Item) → P (ElementItems hidden) l items → HoldsEach (ItemPrinted hidden l) items
   pub equation : (l : Limits) (a : Equation) → P EquationItems l a → EquationPrinted l a
   pub statement : (l : Limits) (a : Statement) → P StatementItems l a → StatementPrinted l a
   pub inside : (l : Limits) (x : Inside) → P Sections l x → InsidePrinted l x
@@ -238,9 +230,9 @@ pub record SectionPartsPrinted (P : Fact Symbol ValueOf) : Type 0 where
 
 module _ (P : Fact Symbol ValueOf) (parts : SectionPartsPrinted P) where
   lists_printed : (hidden : Bool) (l : Limits) (y : List (List Item) × Inside) → HoldsBy P IsToken (seq (elements hidden) (symbol Sections)) l y → InsidePrinted l (items_before y)
-  lists_printed hidden l y h name n current =
-      let each = each_follows (P (ElementItems hidden) l) (HoldsEach (ItemPrinted hidden l)) (parts.elements hidden l name n) y.0 (each_before_holds P IsToken (symbol (ElementItems hidden)) semicolon l y.0 h.0) in
-      lists_before_it hidden l y.0 y.1 each (parts.inside l y.1 h.1) name n current
+  lists_printed hidden l y h =
+      let each = each_follows (P (ElementItems hidden) l) (HoldsEach (ItemPrinted hidden l)) (parts.elements hidden l) y.0 (each_before_holds P IsToken (symbol (ElementItems hidden)) semicolon l y.0 h.0) in
+      lists_before_it hidden l y.0 y.1 each (parts.inside l y.1 h.1)
 
   -- elements, and what follows
   elements_printed : (hidden : Bool) (l : Limits) (x : Inside) → HoldsBy P IsToken (elements_then hidden) l x → InsidePrinted l x
@@ -258,27 +250,26 @@ module _ (P : Fact Symbol ValueOf) (parts : SectionPartsPrinted P) where
       let each = each_follows (P StatementItems l) (StatementPrinted l) (parts.statement l) y.0 (each_before_holds P IsToken (symbol StatementItems) semicolon l y.0 inner.0) in
       subst (InsidePrinted l) e (algorithm_before l initial y.0 y.1 each (parts.inside l y.1 inner.1))
 
-  class_end_holds : (l : Limits) (x : Inside) → HoldsBy P IsToken class_end l x → EndHolds l × (let no : Inside = ([], false) in no ≡ x)
-  class_end_holds l x (t, h, e) = let end = behind_holds P IsToken end_word end_name l t h in ((t, end.0, end.1, end.2), e)
+  class_end_holds : (l : Limits) (x : Inside) → HoldsBy P IsToken class_end l x → no_items ≡ x
+  class_end_holds l x (t, h, e) = e
 
-  annotated_end_holds : (l : Limits) (x : Inside) → HoldsBy P IsToken annotated_end l x → EndHolds l × (let no : Inside = ([], false) in no ≡ x)
+  annotated_end_holds : (l : Limits) (x : Inside) → HoldsBy P IsToken annotated_end l x → no_items ≡ x
   annotated_end_holds l x h =
       let inner = behind_holds P IsToken annotation_word (made second_of (seq (before (symbol ClassMods) semicolon) class_end)) l x h in
-      let end = class_end_holds l inner.0.1 inner.1.1 in
-      (end.0, end.1 ∙ inner.2)
+      class_end_holds l inner.0.1 inner.1.1 ∙ inner.2
 
-  either_end_holds : (l : Limits) (x : Inside) → HoldsBy P IsToken (either annotated_end class_end) l x → EndHolds l × (let no : Inside = ([], false) in no ≡ x)
+  either_end_holds : (l : Limits) (x : Inside) → HoldsBy P IsToken (either annotated_end class_end) l x → no_items ≡ x
   either_end_holds l x (inl h) = annotated_end_holds l x h
   either_end_holds l x (inr h) = class_end_holds l x h
 
-  end_printed : (l : Limits) (x : Inside) → EndHolds l × (let no : Inside = ([], false) in no ≡ x) → InsidePrinted l x
-  end_printed l x (h, e) = subst (InsidePrinted l) e (ended_inside l false h)
+  end_printed : (l : Limits) (x : Inside) → no_items ≡ x → InsidePrinted l x
+  end_printed l x e = subst (InsidePrinted l) e (ended_inside l false)
 
   external_printed : (l : Limits) (x : Inside) → HoldsBy P IsToken external_end l x → InsidePrinted l x
   external_printed l x (y, h, e) =
       let inner = behind_holds P IsToken external_word external_rest l y h in
       let end = either_end_holds l inner.0.1 (behind_holds P IsToken semicolon (either annotated_end class_end) l inner.0.1 inner.1.1) in
-      subst (InsidePrinted l) (ap external_clause (end.1 ∙ inner.2) ∙ e) (ended_inside l true end.0)
+      subst (InsidePrinted l) (ap external_clause (end ∙ inner.2) ∙ e) (ended_inside l true)
 
   other_printed : (l : Limits) (x : Inside) → HoldsBy P IsToken other_section l x → InsidePrinted l x
   other_printed l x (inl h) = under_word public_word false l x h
@@ -311,6 +302,6 @@ module _ (P : Fact Symbol ValueOf) (parts : SectionPartsPrinted P) where
   composition_step l x h = elements_printed false l x h
 
 -- the items of a class from the first on
-pub composition_printed : (l : Limits) (x : Inside) → InsidePrinted l x → (name : List ℕ) → end_name_in l ≡ this_name name → IsPrinted (symbol Compositions) l (inside_of (map shown_item x.0) x.1 name) (placeless_inside x)
+pub composition_printed : (l : Limits) (x : Inside) → InsidePrinted l x → (t : Lexeme) → MayEnd l t → IsPrinted (symbol Compositions) l (inside_of (map shown_item x.0) x.1 t.text) (placeless_inside x)
 unfolding rule
-composition_printed l x p name n = after_deeper (by_rule Compositions (p name n Public))
+composition_printed l x p t end = after_deeper (by_rule Compositions (p t end Public))
