@@ -1,6 +1,6 @@
 -- A fact that says of the productions of expressions what `ExpressionFact` says gives what equations, statements and classes
 -- use of them.
-use Rattle.std.proofs.Common.{ℕ, arith}
+use Rattle.std.proofs.Common.{arith}
 use Rattle.mo_grammar.specs.Grammar.{Limits}
 use Rattle.mo_grammar.specs.Symbols.{CallArguments, Expressions, Indices, Names, References, Simples, Symbol, ValueOf}
 use Rattle.mo_unparse.proofs.ExpressionFacts.{ExpressionFact}
