@@ -31,6 +31,8 @@ pub mod EquationLayers
 pub mod Rows
 pub mod ExpressionForms
 pub mod PrintingHeads
+pub mod PrintingClassParts
+pub mod PrintingShort
 pub mod PrintingModifiers
 pub mod PrintingElements
 pub mod PrintingSections

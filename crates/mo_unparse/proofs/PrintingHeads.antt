@@ -119,6 +119,17 @@ module _ (P : Fact Symbol ValueOf) where
   pub kind_printed : (l : Limits) (k : Kinded) → HoldsBy P IsToken class_prefixes l k → IsPrinted class_prefixes l (kind_words k) k
   kind_printed l k (y, h, e) = subst (λ v. IsPrinted class_prefixes l (kind_words v) v) e (by_made refl (by_seq (by_word y.0 partial_word_is) (behind_printed l y.1 h.1)))
 
+  -- `encapsulated` does not stand among them
+  pub kind_open : (l : Limits) (k : Kinded) → HoldsBy P IsToken class_prefixes l k → k.1.encapsulated ≡ false
+  kind_open l k (y, (hf, h), e) = ap (λ v. v.1.encapsulated) (sym e) ∙ go y.1 h
+    where
+      go : (x : Kinded) → HoldsBy P IsToken behind_partial l x → x.1.encapsulated ≡ false
+      go x (inl (t, h, e)) = ap (λ v. v.1.encapsulated) (sym e)
+      go x (inr (inl (t, h, e))) = ap (λ v. v.1.encapsulated) (sym e)
+      go x (inr (inr (inl (t, h, e)))) = ap (λ v. v.1.encapsulated) (sym e)
+      go x (inr (inr (inr (None, h, e)))) = ap (λ v. v.1.encapsulated) (sym e)
+      go x (inr (inr (inr (Some t, h, e)))) = ap (λ v. v.1.encapsulated) (sym e)
+
 -- ---- components
 
 abbrev way_at : ℕ → Causal
