@@ -36,8 +36,10 @@ pub mod PrintingShort
 pub mod PrintingModifiers
 pub mod PrintingElements
 pub mod PrintingSections
-pub mod PrintingShortClasses
+pub mod PrintingDerivatives
 pub mod PrintingClasses
+pub mod ClassFacts
+pub mod PrintingLaw
 pub mod PrintingLevels
 pub mod PrintingLists
 pub mod ExpressionFacts

@@ -14,7 +14,7 @@ use Rattle.mo_grammar.specs.Productions.{rule}
 use Rattle.mo_unparse.specs.declared.section.Section.{Section}
 use Rattle.mo_unparse.specs.declared.section.Section.TheVariants.{Public, Protected, Behavior}
 use Rattle.mo_unparse.specs.Pieces.{Piece, a_name, a_word, a_blank, a_line, deeper, shallower, tokens_of, IsToken}
-use Rattle.mo_unparse.specs.Placeless.{placeless_equation, placeless_equations, placeless_statement, placeless_statements}
+use Rattle.mo_unparse.specs.Placeless.{placeless_equations, placeless_statement, placeless_statements}
 use Rattle.mo_unparse.specs.PlacelessClasses.{placeless_item, placeless_inside}
 use Rattle.mo_unparse.specs.Lines.{head_line, lines_of, on_a_line, word_if}
 use Rattle.mo_unparse.specs.ShownEquations.{pieces_of_equation, pieces_of_statement}
@@ -26,6 +26,7 @@ use Rattle.mo_unparse.proofs.Holding.{Fact, HoldsBy, HoldsEach, each_follows}
 use Rattle.mo_unparse.proofs.Building.{IsPrinted, after_blank, after_deeper, after_line, after_shallower, by_absent, by_before, by_behind, by_end_name, by_left, by_made, by_none, by_pieces, by_right, by_right2, by_rule, by_seq, by_value, tokens_joined}
 use Rattle.mo_unparse.proofs.WordPieces.{algorithm_word_is, end_word_is, equation_word_is, external_word_is, initial_word_is, protected_word_is, public_word_is, semicolon_is}
 use Rattle.mo_unparse.proofs.Inverting.{behind_holds, before_holds, each_before_holds}
+use Rattle.mo_unparse.proofs.PrintingEquations.{EquationPrinted}
 use Rattle.mo_unparse.proofs.PrintingForms.{by_lines}
 use Rattle.mo_unparse.proofs.PrintingStatements.{StatementPrinted}
 
@@ -88,9 +89,6 @@ of_elements false p = p
 of_elements true p = p
 
 -- ---- items by themselves
-
-abbrev pub EquationPrinted : Limits → Equation → Type 0
-EquationPrinted l a = IsPrinted (symbol EquationItems) l (pieces_of_equation a) (placeless_equation a)
 
 abbrev pub ElementPrinted : Bool → Limits → Item → Type 0
 ElementPrinted hidden l item = IsPrinted (before (symbol (ElementItems hidden)) semicolon) l (shown_item item).pieces (placeless_item item ∷ [])
