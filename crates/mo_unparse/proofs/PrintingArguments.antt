@@ -9,7 +9,7 @@ use Rattle.mo_syntax.specs.declared.expr.Arg.{Arg}
 use Rattle.mo_syntax.specs.declared.expr.Arg.TheVariants.{Value, Partial}
 use Rattle.mo_syntax.specs.declared.expr.Args.{Args, out-roll-Args}
 use Rattle.mo_grammar.specs.Codes.{comma as comma_code, equals, open_paren, close_paren, function_word, for_word}
-use Rattle.mo_grammar.specs.Grammar.{a_construct, Limits, left_inside, seq, many, made, symbol}
+use Rattle.mo_grammar.specs.Grammar.{a_construct, Limits, left_inside, seq, made, symbol}
 use Rattle.mo_grammar.specs.Forms.{optional, behind, between}
 use Rattle.mo_grammar.specs.Symbols.{Form, Expressions, CallArguments, Arguments, MoreArguments, OneArgument, Indices, TypeSpecs}
 use Rattle.mo_grammar.specs.Productions.{rule}
@@ -17,7 +17,7 @@ use Rattle.mo_grammar.specs.Expressions.{named, named_list, function_argument, a
 use Rattle.mo_grammar.specs.Trees.{Given, or_nothing, args_of, args_or_none, given_named, given_or_none, given_more, args_given, following_iters, following_more, args_from, partial_argument}
 use Rattle.mo_unparse.specs.Pieces.{Piece, a_mark, a_word, IsToken}
 use Rattle.mo_unparse.specs.Placeless.{placeless_expr, placeless_arg, placeless_named, placeless_indices, placeless_reference}
-use Rattle.mo_unparse.specs.ShownExpressions.{shown_expr, pieces_of_arg, pieces_of_args, pieces_of_indices, named_pieces, given_pieces, iterators_pieces, a_comma, spaced, commas, in_parentheses}
+use Rattle.mo_unparse.specs.ShownExpressions.{shown_expr, pieces_of_arg, pieces_of_args, named_pieces, given_pieces, iterators_pieces, a_comma, spaced, commas, in_parentheses}
 use Rattle.mo_unparse.proofs.PlacelessForms as placeless
 use Rattle.mo_unparse.proofs.ExpressionForms as forms
 use Rattle.mo_unparse.proofs.Holding.{HoldsBy}
@@ -25,6 +25,7 @@ use Rattle.mo_unparse.proofs.Building.{IsPrinted, by_pieces, by_value, by_name, 
 use Rattle.mo_unparse.proofs.WordPieces.{comma_is, equals_is, open_paren_is, close_paren_is, function_word_is, for_word_is}
 use Rattle.mo_unparse.proofs.PrintingLevels.{IsGiven, expression_printed}
 use Rattle.mo_unparse.proofs.PrintingLists.{HoldsOption, optional_held, behind_held, between_held, each_held, by_mark, each_marked, IsSome, some}
+use Rattle.mo_unparse.proofs.PrintingReferences.{iterators_some}
 use Rattle.mo_unparse.proofs.ExpressionFacts.{ExpressionFact, listed_pieces}
 
 -- ---- named arguments
@@ -33,9 +34,6 @@ named_held : (l : Limits) (n : List ℕ × Arg) → HoldsBy ExpressionFact IsTok
 named_held l n ((t, a), ((is_token, code), value), same) =
     subst (λ v. IsPrinted named l (named_pieces pieces_of_arg v) (placeless_named v)) same
     (by_made refl (by_seq (by_name t is_token code) (by_mark (spaced (a_mark (codes "="))) equals_is refl (behind_held ExpressionFact equals (symbol OneArgument) l a value))))
-
-abbrev MoreNamed : Form (Arg × List (List ℕ × Arg))
-MoreNamed = seq (behind equals (symbol OneArgument)) (many (behind comma_code named))
 
 named_list_printed : (l : Limits) (list : List (List ℕ × Arg)) → HoldsBy ExpressionFact IsToken named_list l list → IsPrinted named_list l (commas (named_pieces pieces_of_arg) list) (map placeless_named list)
 named_list_printed l list ((t, (a, more)), ((is_token, code), (value, others)), same) =
@@ -151,10 +149,6 @@ arguments_listed l plain named iters p =
 
 no_iterators : (plain : List Arg) (named : List (List ℕ × Arg)) → given_pieces pieces_of_arg plain named ≡ listed_pieces plain named []
 no_iterators plain named = sym (append-nil (given_pieces pieces_of_arg plain named))
-
-iterators_some : (is : List (IndexOf Expr)) → IsSome is → spaced (a_word (codes "for")) ++ pieces_of_indices is ≡ iterators_pieces shown_expr is
-iterators_some [] h = elim h [ ]
-iterators_some (i ∷ is) h = refl
 
 iterated : (l : Limits) (e : Expr) (is : List (IndexOf Expr)) → IsGiven 0 l e → ExpressionFact Indices l is → ExpressionFact Arguments l (args_from (e, following_iters is))
 unfolding rule

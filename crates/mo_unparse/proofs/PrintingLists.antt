@@ -1,13 +1,13 @@
 -- Parts that may be left out, and lists of parts with a mark between, in pieces.
 use Rattle.std.proofs.Common.{◌≡◌, ℕ, true, List, [], ◌∷◌, ◌++◌, inl, inr, map, Option, Some, None, sym, ap, subst, ◌∙◌, append-nil, append_assoc}
-use Rattle.std.specs.Option.{option_map}
+use Rattle.mo_grammar.specs.Lexeme.{Lexeme}
 use Rattle.mo_grammar.specs.Grammar.{a_construct, Limits, left_inside, has, seq, token}
 use Rattle.mo_grammar.specs.Forms.{optional, behind, before, between, separated}
 use Rattle.mo_grammar.specs.Symbols.{Symbol, ValueOf, Form}
-use Rattle.mo_unparse.specs.Pieces.{Piece, tokens_of, tokens_of_piece, IsToken}
+use Rattle.mo_unparse.specs.Pieces.{Piece, a_mark, a_word, nowhere, tokens_of, tokens_of_piece, IsToken}
 use Rattle.mo_unparse.specs.ShownExpressions.{joined_by}
 use Rattle.mo_unparse.proofs.Holding.{Fact, HoldsBy, HoldsEach}
-use Rattle.mo_unparse.proofs.Building.{IsPrinted, IsPieceOf, by_tokens, by_pieces, by_piece, by_seq, by_each, by_behind, by_separated, tokens_joined, by_present, by_absent}
+use Rattle.mo_unparse.proofs.Building.{IsPrinted, IsPieceOf, by_tokens, by_pieces, by_piece, by_seq, by_each, by_behind, by_separated, tokens_joined, by_present}
 
 -- ---- what is known of the parts
 
@@ -30,7 +30,16 @@ pub each_held : {A : Type 0} {H K : A → Type 0} → ((a : A) → H a → K a) 
 each_held k [] h = tt
 each_held k (a ∷ list) h = (k a h.0, each_held k list h.1)
 
--- ---- marks with blanks
+-- ---- marks and words
+
+first_same : {t u : Lexeme} {rest more : List Lexeme} → t ∷ rest ≡ u ∷ more → t ≡ u
+first_same e = cc
+
+pub mark_place : {text : List ℕ} {c : ℕ} (k : IsPieceOf (a_mark text) c) → k.token.place ≡ nowhere
+mark_place k = sym (ap (λ t. t.place) (first_same k.is))
+
+pub word_place : {text : List ℕ} {c : ℕ} (k : IsPieceOf (a_word text) c) → k.token.place ≡ nowhere
+word_place k = sym (ap (λ t. t.place) (first_same k.is))
 
 -- a mark with blanks about it before a part
 pub by_mark : {A : Type 0} {g : Form A} {l : Limits} {ps : List Piece} {a : A} {c : ℕ} {m : Piece} (mark : List Piece) (k : IsPieceOf m c) → tokens_of mark ≡ tokens_of (m ∷ []) → IsPrinted g l ps a → IsPrinted (behind c g) l (mark ++ ps) a
@@ -62,11 +71,6 @@ pub separated_printed : {A B : Type 0} (P : Fact Symbol ValueOf) (g : Form A) {h
 separated_printed P g {h = h} l {c = c} mark k e pieces value one list ((x, xs), (first, others), same) =
     subst (λ v. IsPrinted (separated c h) l (joined_by mark pieces v) (map value v)) same
     (joined_printed mark k e pieces value x xs (one x first) (each_held (λ a held. one a (behind_held P c g l a held)) xs others))
-
--- a part that may be left out
-pub optional_printed : {A B : Type 0} {g : Form B} {l : Limits} (pieces : Option A → List Piece) (value : A → B) → pieces None ≡ [] → (o : Option A) → HoldsOption (λ a. IsPrinted g l (pieces (Some a)) (value a)) o → IsPrinted (optional g) l (pieces o) (option_map value o)
-optional_printed {g = g} {l = l} pieces value none None h = subst (λ ps. IsPrinted (optional g) l ps None) (sym none) by_absent
-optional_printed pieces value none (Some a) h = by_present h
 
 -- ---- what stands between two marks
 

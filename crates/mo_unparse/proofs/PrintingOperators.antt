@@ -26,7 +26,7 @@ use Rattle.mo_unparse.proofs.Holding.{HoldsBy, HoldsEach}
 use Rattle.mo_unparse.proofs.Building.{IsPrinted, IsPieceOf, by_pieces, by_piece, by_made, by_placed, by_seq, by_each, by_rule, by_left, by_nested, by_behind, by_present, by_absent, by_flag, after_blank}
 use Rattle.mo_unparse.proofs.WordPieces.{less_is, less_equal_is, greater_is, greater_equal_is, equal_equal_is, not_equal_is, plus_is, minus_is, times_is, divides_is, power_is, dot_plus_is, dot_minus_is, dot_times_is, dot_divides_is, dot_power_is, and_word_is, or_word_is, not_word_is, if_word_is, then_word_is, elseif_word_is, else_word_is, colon_is}
 use Rattle.mo_unparse.proofs.PrintingLevels.{IsGiven, given_less, given_node, operand_printed, expression_printed}
-use Rattle.mo_unparse.proofs.PrintingLists.{HoldsOption, optional_held, behind_held, each_held, by_mark, by_blanks, each_marked, infix_printed}
+use Rattle.mo_unparse.proofs.PrintingLists.{mark_place, HoldsOption, optional_held, behind_held, each_held, by_mark, by_blanks, each_marked, infix_printed}
 use Rattle.mo_unparse.proofs.ExpressionFacts.{ExpressionFact}
 
 -- ---- powers
@@ -81,12 +81,6 @@ pub products_step : (l : Limits) (e : Expr) → HoldsBy ExpressionFact IsToken t
 products_step l e ((place, (a, list)), (first, others), same) = subst (λ v. IsGiven 7 l v) same (multiplied l place a list first others)
 
 -- ---- sums
-
-first_same : {t u : Lexeme} {rest more : List Lexeme} → t ∷ rest ≡ u ∷ more → t ≡ u
-first_same e = cc
-
-mark_place : {text : List ℕ} {c : ℕ} (k : IsPieceOf (a_mark text) c) → k.token.place ≡ nowhere
-mark_place k = sym (ap (λ t. t.place) (first_same k.is))
 
 -- the sign of a term is a token that gives that term
 record IsSign (minus dotted : Bool) : Type 0 where
@@ -152,9 +146,6 @@ pub sums_step : (l : Limits) (e : Expr) → HoldsBy ExpressionFact IsToken arith
 sums_step l e ((o, (place, (a, list))), (sign, (first, others)), same) = subst (λ v. IsGiven 6 l v) same (summed l o place a list first others)
 
 -- ---- relations
-
-relation_codes : List ℕ
-relation_codes = less ∷ less_equal ∷ greater ∷ greater_equal ∷ equal_equal ∷ not_equal ∷ []
 
 relation_of_code : ℕ → RelOp
 relation_of_code c =

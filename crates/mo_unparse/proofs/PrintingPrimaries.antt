@@ -22,7 +22,7 @@ use Rattle.mo_grammar.specs.Expressions.{primary, literal, outputs, exprs, array
 use Rattle.mo_grammar.specs.Trees.{InBraces, expr_at, digits_after, callee_of, reference_tree, outputs_tree, matrix_tree, array_tree, braces_iters, braces_more}
 use Rattle.mo_unparse.specs.Pieces.{a_word, a_whole, nowhere, IsToken}
 use Rattle.mo_unparse.specs.Placeless.{placeless_expr, placeless_args, placeless_option, placeless_options, placeless_reference, placeless_callee, placeless_indices}
-use Rattle.mo_unparse.specs.ShownExpressions.{shown_expr, pieces_of_expr, pieces_of_args, pieces_of_reference, pieces_of_indices, pieces_of_outputs, callee_pieces, output_pieces, row_pieces, iterators_pieces, a_comma, a_semicolon, spaced}
+use Rattle.mo_unparse.specs.ShownExpressions.{shown_expr, pieces_of_expr, pieces_of_args, pieces_of_reference, pieces_of_outputs, callee_pieces, output_pieces, row_pieces, a_comma, a_semicolon, spaced}
 use Rattle.mo_unparse.proofs.PlacelessForms as placeless
 use Rattle.mo_unparse.proofs.ExpressionForms as forms
 use Rattle.mo_unparse.proofs.Holding.{HoldsBy, HoldsEach}
@@ -30,14 +30,9 @@ use Rattle.mo_unparse.proofs.Building.{IsPrinted, IsPieceOf, by_pieces, by_token
 use Rattle.mo_unparse.proofs.WordPieces.{comma_is, semicolon_is, open_paren_is, close_paren_is, open_bracket_is, close_bracket_is, open_brace_is, close_brace_is, true_word_is, false_word_is, end_word_is, der_word_is, initial_word_is, pure_word_is, for_word_is}
 use Rattle.mo_unparse.proofs.WholeNumbers.{decimal_whole, decimal_value, decimal_after}
 use Rattle.mo_unparse.proofs.PrintingLevels.{IsGiven, given_node, given_wrapped, expression_printed}
-use Rattle.mo_unparse.proofs.PrintingLists.{HoldsOption, optional_held, behind_held, between_held, each_held, by_mark, each_marked, separated_printed, IsSome}
+use Rattle.mo_unparse.proofs.PrintingLists.{word_place, HoldsOption, optional_held, behind_held, between_held, each_held, by_mark, each_marked, separated_printed}
+use Rattle.mo_unparse.proofs.PrintingReferences.{iterators_some}
 use Rattle.mo_unparse.proofs.ExpressionFacts.{ExpressionFact}
-
-first_same : {t u : Lexeme} {rest more : List Lexeme} → t ∷ rest ≡ u ∷ more → t ≡ u
-first_same e = cc
-
-word_place : {text : List ℕ} {c : ℕ} (k : IsPieceOf (a_word text) c) → k.token.place ≡ nowhere
-word_place k = sym (ap (λ t. t.place) (first_same k.is))
 
 -- ---- literals
 
@@ -155,10 +150,6 @@ matrix_given l inner place rows within h =
     given_node 9 l place (Matrix rows) (Matrix (map (map placeless_expr) rows)) _ (forms.level_at _ _ (outs-Matrix rows)) (forms.at_Matrix rows) (placeless.at_Matrix rows)
     (by_rule Primaries (by_right (by_right (by_right (by_right (by_left (by_made refl (by_placed refl (by_between within open_bracket_is close_bracket_is
     (separated_printed ExpressionFact exprs inner a_semicolon semicolon_is refl (row_pieces shown_expr) (map placeless_expr) (row_held inner) rows h))))))))))
-
-iterators_some : (is : List (IndexOf Expr)) → IsSome is → spaced (a_word (codes "for")) ++ pieces_of_indices is ≡ iterators_pieces shown_expr is
-iterators_some [] h = elim h [ ]
-iterators_some (i ∷ is) h = refl
 
 array_for_given : (l inner : Limits) (place : Place) (e : Expr) (is : List (IndexOf Expr)) → left_inside a_construct l ≡ Some inner → IsGiven 0 inner e → ExpressionFact Indices inner is → IsGiven 9 l (expr_at place (ArrayFor e is))
 unfolding rule

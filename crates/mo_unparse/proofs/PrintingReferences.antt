@@ -16,7 +16,7 @@ use Rattle.mo_grammar.specs.Expressions.{name, type_spec, part, reference, subsc
 use Rattle.mo_grammar.specs.Trees.{plain_part, part_of, or_nothing, name_reference}
 use Rattle.mo_unparse.specs.Pieces.{a_name, a_mark, a_word, IsToken, placeless_token}
 use Rattle.mo_unparse.specs.Placeless.{placeless_option, placeless_options, placeless_part, placeless_reference, placeless_index, placeless_indices}
-use Rattle.mo_unparse.specs.ShownExpressions.{shown_expr, pieces_of_reference, pieces_of_subscripts, pieces_of_indices, part_pieces, top_pieces, subscript_pieces, range_pieces, index_pieces, a_comma, spaced, joined_by, in_brackets}
+use Rattle.mo_unparse.specs.ShownExpressions.{shown_expr, pieces_of_reference, pieces_of_subscripts, pieces_of_indices, part_pieces, top_pieces, subscript_pieces, range_pieces, index_pieces, iterators_pieces, a_comma, spaced, joined_by, in_brackets}
 use Rattle.mo_unparse.proofs.PlacelessForms.{map_twice}
 use Rattle.mo_unparse.proofs.ExpressionForms.{joined-map}
 use Rattle.mo_unparse.proofs.Holding.{HoldsBy}
@@ -105,3 +105,8 @@ pub indices_step : (l : Limits) (is : List (IndexOf Expr)) → HoldsBy Expressio
 unfolding rule
 indices_step l is h =
     (by_rule Indices (separated_printed ExpressionFact index l a_comma comma_is refl (index_pieces shown_expr) placeless_index (index_held l) is h), separated_some ExpressionFact comma_code index l is h)
+
+-- iterators behind their `for`
+pub iterators_some : (is : List (IndexOf Expr)) → IsSome is → spaced (a_word (codes "for")) ++ pieces_of_indices is ≡ iterators_pieces shown_expr is
+iterators_some [] h = elim h [ ]
+iterators_some (i ∷ is) h = refl

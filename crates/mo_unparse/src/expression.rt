@@ -6,7 +6,7 @@ ghost use Rattle.mo_unparse.specs.Pieces.{a_mark, a_word, a_blank};
 ghost use Rattle.mo_unparse.specs.Gathered.{gathered};
 ghost use Rattle.mo_unparse.specs.Text.{text_of as text_of_pieces};
 ghost use Rattle.mo_unparse.specs.ReadAgain.{IsReadAgain};
-ghost use Rattle.mo_unparse.specs.ShownExpressions.{a_semicolon, branch_pieces, callee_pieces, chain_pieces, commas, factors_pieces, given_pieces, in_braces, in_brackets, in_parentheses, in_row, index_pieces, iterators_pieces, joined_by, named_pieces, operand, output_pieces, part_pieces, pieces_of_arg, pieces_of_args, pieces_of_expr, pieces_of_indices, pieces_of_node, pieces_of_outputs, pieces_of_reference, pieces_of_subscripts, power_mark, range_pieces, relation_mark, row_pieces, shown_expr, shown_node, spaced, step_pieces, subscript_pieces, terms_pieces};
+ghost use Rattle.mo_unparse.specs.ShownExpressions.{a_semicolon, branch_pieces, callee_pieces, chain_pieces, commas, factors_pieces, in_braces, in_brackets, in_parentheses, in_row, iterators_pieces, joined_by, named_pieces, operand, output_pieces, part_pieces, pieces_of_arg, pieces_of_args, pieces_of_expr, pieces_of_indices, pieces_of_node, pieces_of_outputs, pieces_of_reference, pieces_of_subscripts, power_mark, range_pieces, relation_mark, row_pieces, shown_expr, shown_node, spaced, step_pieces, subscript_pieces, terms_pieces};
 
 use crate::layout::{
     comma_between, dot_between, dot_where, mark_of_relation, separate, separate_rows, spaced_mark,
