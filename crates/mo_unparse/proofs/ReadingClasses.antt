@@ -1,7 +1,7 @@
 -- The text of a class, with a semicolon behind it, is read again as a file of that class, places aside.
-use Rattle.std.proofs.Common.{◌≡◌, ℕ, List, [], ◌∷◌, ◌++◌, map, None, Result, Ok, Err, refl, sym, ap, ◌∙◌, subst}
+use Rattle.std.proofs.Common.{◌≡◌, ℕ, List, [], ◌∷◌, ◌++◌, map, None, refl, sym, ap, ◌∙◌, subst}
 use Rattle.std.proofs.lemmas.List.{append-nil, map-append}
-use Rattle.std.specs.Prelude.{codes, IfOk}
+use Rattle.std.specs.Prelude.{codes}
 use Rattle.mo_syntax.specs.declared.class.Body.{Body}
 use Rattle.mo_syntax.specs.declared.class.ClassDefOf.{ClassDefOf}
 use Rattle.mo_lexer.specs.Lexing.{end_of}
@@ -47,8 +47,3 @@ pub class_read : (class : ClassDefOf Body) → PiecesSpell class → IsReadAsFil
 class_read class printed file outer tokens all spelled =
     let p = printed tokens (class_renamed outer [] 128 32 tokens class spelled) all in
     subst (λ text. HoldsClass text file class) (text_before_semicolon (pieces_of_class class)) (file_read class file (in_file class p))
-
--- and so is what is that text
-pub text_read : {E : Type 0} (r : Result (List ℕ) E) (class : ClassDefOf Body) → PiecesSpell class → IfOk r (λ text. text ≡ text_of (pieces_of_class class)) → IfOk r (λ text. IsReadAsFile text class)
-text_read (Ok text) class printed same = subst (λ t. IsReadAsFile t class) (sym same) (class_read class printed)
-text_read (Err x) class printed same = tt

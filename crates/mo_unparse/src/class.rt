@@ -5,6 +5,7 @@ ghost use Rattle.std.specs.Prelude.{◌≡◌, ◌++◌, codes, map, IfOk, OnOk}
 ghost use Rattle.mo_unparse.specs.Pieces.{a_word};
 ghost use Rattle.mo_unparse.specs.Gathered.{gathered};
 ghost use Rattle.mo_unparse.specs.Text.{text_of as text_of_pieces};
+ghost use Rattle.mo_unparse.specs.ReadAgain.{IsReadAsFile};
 ghost use Rattle.mo_unparse.specs.Lines.{on_a_line, word_if};
 ghost use Rattle.mo_unparse.specs.ShownExpressions.{commas, pieces_of_reference, spaced};
 ghost use Rattle.mo_unparse.specs.ShownModifiers.{pieces_of_path};
@@ -29,9 +30,11 @@ use mo_syntax::{
 };
 use std::alloc::Global;
 
-/// The source text of a class, without the semicolon behind it. `NoMemory` is the only other answer.
+/// The source text of a class, without the semicolon behind it. Where tokens of a text spell the class, this text with a
+/// semicolon is read again as a file of that class, places aside. `NoMemory` is the only other answer.
 pub fn class_text(alloc: Global, c: &ClassDef) -> Result<Text, NoMemory>
     ensures text { IfOk result (λ t. t ≡ text_of_pieces (pieces_of_class c.now)) }
+    ensures read { IfOk result (λ t. IsReadAsFile t c.now) }
 {
     let mut pieces = Pieces::new(alloc);
     write_class(&mut pieces, c)?;
@@ -250,6 +253,7 @@ fn write_mods<'t>(out: &mut Pieces<'t>, mods: &'t Mods) -> Result<(), NoMemory>
     out.mark(")")
 }
 
+/// Writes arguments with commas between them.
 #[cycle(class)]
 fn write_arguments<'t>(out: &mut Pieces<'t>, arguments: &'t [Argument]) -> Result<(), NoMemory>
     ensures { OnOk result (gathered out.new ≡ gathered out.old ++ commas pieces_of_argument arguments.now) }

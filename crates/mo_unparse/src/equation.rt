@@ -146,6 +146,7 @@ fn write_else<'t>(out: &mut Pieces<'t>, others: &'t [Equation]) -> Result<(), No
     write_block(out, others)
 }
 
+/// Writes equations under conditions, with those under `else`.
 #[cycle(equations)]
 fn write_if<'t>(
     out: &mut Pieces<'t>,
@@ -159,6 +160,7 @@ fn write_if<'t>(
     write_end(out, "if")
 }
 
+/// Writes equations that hold when a condition becomes true.
 #[cycle(equations)]
 fn write_when<'t>(
     out: &mut Pieces<'t>,
@@ -170,6 +172,7 @@ fn write_when<'t>(
     write_end(out, "when")
 }
 
+/// Writes equations over indices.
 #[cycle(equations)]
 fn write_for<'t>(
     out: &mut Pieces<'t>,

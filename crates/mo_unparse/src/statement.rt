@@ -146,6 +146,7 @@ fn write_else<'t>(out: &mut Pieces<'t>, others: &'t [Statement]) -> Result<(), N
     write_block(out, others)
 }
 
+/// Writes statements under conditions, with those under `else`.
 #[cycle(statements)]
 fn write_if<'t>(
     out: &mut Pieces<'t>,
@@ -159,6 +160,7 @@ fn write_if<'t>(
     write_end(out, "if")
 }
 
+/// Writes statements that are run when a condition becomes true.
 #[cycle(statements)]
 fn write_when<'t>(
     out: &mut Pieces<'t>,
@@ -170,6 +172,7 @@ fn write_when<'t>(
     write_end(out, "when")
 }
 
+/// Writes statements over indices.
 #[cycle(statements)]
 fn write_for<'t>(
     out: &mut Pieces<'t>,
@@ -187,6 +190,7 @@ fn write_for<'t>(
     write_end(out, "for")
 }
 
+/// Writes statements that are run while a condition holds.
 #[cycle(statements)]
 fn write_while<'t>(
     out: &mut Pieces<'t>,
