@@ -1,13 +1,12 @@
 -- The text of an expression is read again to that expression, places aside.
 use Rattle.std.proofs.Common.{◌≡◌, ℕ, List, subst, sym, ap, ◌∙◌}
 use Rattle.std.specs.Prelude.{Result, Ok, Err, IfOk}
-use Rattle.mo_syntax.specs.Lexeme.{Lexeme}
 use Rattle.mo_syntax.specs.declared.expr.Expr.{Expr}
-use Rattle.mo_grammar.specs.Language.{Spells, limits_inside}
+use Rattle.mo_grammar.specs.Language.{limits_inside}
 use Rattle.mo_grammar.specs.Symbols.{Expressions}
-use Rattle.mo_unparse.specs.Pieces.{Piece, AreTokens}
+use Rattle.mo_unparse.specs.Pieces.{Piece}
 use Rattle.mo_unparse.specs.Placeless.{placeless_expr}
-use Rattle.mo_unparse.specs.ReadAgain.{HoldsExpression, IsReadAgain}
+use Rattle.mo_unparse.specs.ReadAgain.{IsReadAgain}
 use Rattle.mo_unparse.specs.ShownExpressions.{pieces_of_expr}
 use Rattle.mo_unparse.specs.Text.{text_of}
 use Rattle.mo_unparse.proofs.PlacingLaw.{printed_again}
