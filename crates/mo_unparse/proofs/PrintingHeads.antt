@@ -19,7 +19,7 @@ use Rattle.mo_grammar.proofs.Codes.{one_of}
 use Rattle.mo_unparse.specs.Pieces.{Piece, a_word, a_blank, IsToken}
 use Rattle.mo_unparse.specs.Lines.{word_if}
 use Rattle.mo_unparse.specs.ShownElements.{pieces_of_causal, pieces_of_prefix, pieces_of_vary}
-use Rattle.mo_unparse.specs.ShownClasses.{head_of, pieces_of_purity, word_of_kind}
+use Rattle.mo_unparse.specs.ShownClasses.{pieces_of_purity, word_of_kind}
 use Rattle.mo_unparse.proofs.Holding.{Fact, HoldsEach, HoldsBy}
 use Rattle.mo_unparse.proofs.Building.{IsPrinted, IsPieceOf, after_blank, before_blank, by_absent, by_behind, by_flag, by_left, by_made, by_no_flag, by_one, by_piece, by_pieces, by_present, by_right, by_seq}
 use Rattle.mo_unparse.proofs.WordPieces.{block_word_is, class_word_is, connector_word_is, constant_word_is, discrete_word_is, expandable_word_is, flow_word_is, function_word_is, impure_word_is, input_word_is, model_word_is, operator_word_is, output_word_is, package_word_is, parameter_word_is, partial_word_is, pure_word_is, record_word_is, stream_word_is, type_word_is}
@@ -62,10 +62,6 @@ words_behind k = pieces_of_purity k.1.purity ++ (word_if (codes "operator") k.1.
 -- the words that a class begins with, without `encapsulated`
 abbrev pub kind_words : Kinded → List Piece
 kind_words k = word_if (codes "partial") k.1.partial ++ words_behind k
-
--- with `encapsulated` before them
-pub head_words : (encapsulated : Bool) (k : Kinded) → head_of k.0 (record k.1 { encapsulated = encapsulated }) ≡ word_if (codes "encapsulated") encapsulated ++ kind_words k
-head_words encapsulated k = refl
 
 -- what stands behind `partial`, in the grammar
 abbrev kinds : List ℕ
