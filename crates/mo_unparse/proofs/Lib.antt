@@ -24,7 +24,6 @@ pub mod PrintingCalls
 pub mod PrintingEquations
 pub mod PrintingImports
 pub mod KnownExpressions
-pub mod PrintingBehavior
 pub mod Listed
 pub mod Depths
 pub mod EquationLayers
