@@ -2,7 +2,7 @@
 use crate::files::shown;
 use mo_syntax::Stop;
 
-const LIBRARY: &str = "within ;
+pub const LIBRARY: &str = "within ;
 package Lib \"small circuits\"
   type Voltage = Real(final unit=\"V\");
   type Current = Real(final unit=\"A\");
@@ -41,7 +41,7 @@ package Lib \"small circuits\"
 end Lib;
 ";
 
-const CIRCUIT: &str = "model Circuit
+pub const CIRCUIT: &str = "model Circuit
   import Lib.*;
   Source s(V=5.0);
   Resistor r(R=2.0) annotation(Placement(transformation(extent={{0,0},{10,10}})));

@@ -9,7 +9,7 @@ use std::alloc::Global;
 /// A text and its tree; then a neighbour that is refused, with the rule and the byte of the refusal.
 type Row = (&'static str, &'static str, &'static str, (u8, u32));
 
-fn file(alloc: Global, text: &str) -> Result<FileTree, Stop> {
+pub fn file(alloc: Global, text: &str) -> Result<FileTree, Stop> {
     if text.len() > 1000000 {
         return Err(Stop::NoMemory);
     }

@@ -12,6 +12,8 @@ mod expressions;
 #[cfg(test)]
 mod files;
 #[cfg(test)]
+mod printed;
+#[cfg(test)]
 mod show;
 #[cfg(test)]
 mod words;
