@@ -145,6 +145,9 @@ fn statements_again(rt: HostRuntime) -> Result<(), Stop> {
 
 /// An expression printed.
 fn printed_expression(alloc: Global, text: &str) -> Result<String, Stop> {
+    if text.len() > 1000000 {
+        return Err(Stop::NoMemory);
+    }
     let list = tokens(alloc, 1, text)?;
     let (tree, _end) = expression(alloc, list.as_slice(), 0, 0)?;
     let text = expr_text(alloc, &tree)?;
