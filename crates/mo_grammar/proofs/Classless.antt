@@ -9,7 +9,7 @@ use Rattle.mo_grammar.specs.Symbols.{Symbol, ValueOf, Form, Expressions, Simples
 use Rattle.mo_grammar.specs.Productions.{rule}
 use Rattle.mo_grammar.specs.Tables.{tables}
 use Rattle.mo_grammar.specs.Classless.{is_classless, is_classless_form}
-use Rattle.mo_grammar.specs.Language.{reads}
+use Rattle.mo_grammar.specs.Language.{reads, reads_form}
 use Rattle.mo_grammar.proofs.Codes.{both}
 
 leads_on : (x : Symbol) → is_classless x ≡ true → is_classless_form (rule x) ≡ true
@@ -131,7 +131,7 @@ if_alike : {A : Type 0} (b : Bool) (o p o' p' : Outcome A) → o ≡ o' → p �
 if_alike true o p o' p' e d = e
 if_alike false o p o' p' e d = d
 
-each_alike : {A : Type 0} (codes : List ℕ) (part part' : List Lexeme → Outcome A) → ((w : List Lexeme) → part w ≡ part' w) → (n : ℕ) (w : List Lexeme) → each_from codes part n w ≡ each_from codes part' n w
+pub each_alike : {A : Type 0} (codes : List ℕ) (part part' : List Lexeme → Outcome A) → ((w : List Lexeme) → part w ≡ part' w) → (n : ℕ) (w : List Lexeme) → each_from codes part n w ≡ each_from codes part' n w
 each_alike codes part part' h zero w = refl
 each_alike codes part part' h (suc n) w =
     if_alike (next_in codes w) _ (read [] w) _ (read [] w)
@@ -172,3 +172,7 @@ alike_within (suc m) x e n j k a b w = alike_by (reads_within tables.starts rule
 pub alike : (x : Symbol) → is_classless x ≡ true → (n j k : ℕ) (a b : EndName) (w : List Lexeme) → reads x (at_most n j a) w ≡ reads x (at_most n k b) w
 unfolding reads reads_as
 alike x e n j k a b w = alike_within (length w * tables.ranks + tables.rank x + 1) x e n j k a b w
+
+-- So it is with a part of the grammar that leads to such productions alone.
+pub alike_form : {A : Type 0} (g : Form A) → is_classless_form g ≡ true → (n j k : ℕ) (a b : EndName) (w : List Lexeme) → reads_form g (at_most n j a) w ≡ reads_form g (at_most n k b) w
+alike_form g e n j k a b w = alike_by reads alike g e n j k a b w

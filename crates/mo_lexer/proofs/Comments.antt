@@ -13,7 +13,7 @@ use Rattle.mo_lexer.specs.Lexing.{Fits, opens_block, IsStuck, Breaks, cut_by_end
 use Rattle.mo_lexer.specs.Finding.{opens_line, IsFirstClose, ClosesAt}
 use Rattle.mo_lexer.proofs.Fronts.{first_is, run_passes, run_longest, tail_is}
 use Rattle.mo_lexer.proofs.Endings.{same_body}
-use Rattle.mo_lexer.proofs.Shapes.{some_of_separator, some_of_spelling, Marks, class, IsMarked, operator, number, comment'}
+use Rattle.mo_lexer.proofs.Shapes.{some_of_separator, some_of_spelling, Marks, class, operator_is_mark, IsMarked, operator, number, remark}
 use Rattle.mo_lexer.proofs.OneKind.{slash_mark}
 use Rattle.mo_lexer.proofs.Stuck.{fits_from, bounded, cut_after}
 use Rattle.mo_lexer.proofs.Words.{Front}
@@ -45,16 +45,16 @@ line_front a b t first second n size =
 
     longest : (s after : List ℕ) → b ∷ t ≡ s ++ after → IsMarked a s → suc (length s) ≤ suc (suc n)
     longest [] after e m = omega arith
-    longest (x ∷ s) after e (operator like code is) = absurd (slash_mark a x s first like)
+    longest (x ∷ s) after e (operator code is) = absurd (slash_mark a x s first (operator_is_mark _ code is))
     longest (x ∷ s) after e (number point d) = absurd (omega arith)
-    longest (x ∷ s) after e (comment' (line body is pass)) =
+    longest (x ∷ s) after e (remark (line body is pass)) =
         let rest : x ∷ s ≡ 47 ∷ body = tail_is a 47 (x ∷ s) (47 ∷ body) is in
         let text : s ≡ body = tail_is x 47 s body rest in
         let tails : t ≡ s ++ after = tail_is b x t (s ++ after) e in
         let most : length body ≤ prefix_len is_line_byte (body ++ after) = run_longest is_line_byte body after pass in
         let same : t ≡ body ++ after = tails ∙ ap (λ y. y ++ after) text in
         omega (arith, most, ap (prefix_len is_line_byte) same, ap length text)
-    longest (x ∷ s) after e (comment' (block body is never)) =
+    longest (x ∷ s) after e (remark (block body is never)) =
         let rest : x ∷ s ≡ 42 ∷ (body ++ 42 ∷ 47 ∷ []) = tail_is a 47 (x ∷ s) _ is in
         let star : x ≡ 42 = first_is x 42 s _ rest in
         let same : b ≡ x = first_is b x t (s ++ after) e in
@@ -165,9 +165,9 @@ module _ (a b : ℕ) (t : List ℕ) (first : a ≡ 47) (second : b ≡ 42) where
 
       longest : (n : ℕ) → n ≤ length t → NeverCloses (take n t) → t ≡ take n t ++ 42 ∷ 47 ∷ drop (n + 2) t → (s after : List ℕ) → b ∷ t ≡ s ++ after → IsMarked a s → suc (length s) ≤ suc (suc (n + 2))
       longest n within never whole [] after e m = omega arith
-      longest n within never whole (x ∷ s) after e (operator like code is) = absurd (slash_mark a x s first like)
+      longest n within never whole (x ∷ s) after e (operator code is) = absurd (slash_mark a x s first (operator_is_mark _ code is))
       longest n within never whole (x ∷ s) after e (number point d) = absurd (omega arith)
-      longest n within never whole (x ∷ s) after e (comment' c) =
+      longest n within never whole (x ∷ s) after e (remark c) =
           let found = is_block (x ∷ s) after e c in
           let same : found.0 ≡ take n t = same_body found.0 (take n t) after (drop (n + 2) t) found.1 never (sym found.3 ∙ whole) in
           omega (arith, ap length found.2, length-append found.0 (42 ∷ 47 ∷ []), ap length same, length-take-le n t within)

@@ -1,14 +1,14 @@
 mod Comments
 mod Endings
-mod Fronts
-mod Marks
+pub mod Fronts
+pub mod Marks
 mod Narrow
 mod Numbers
 mod OneKind
 mod Quoted
 mod Reached
-mod Refusals
-mod Shapes
+pub mod Refusals
+pub mod Shapes
 mod Stuck
-mod Unique
+pub mod Unique
 mod Words

@@ -8,7 +8,7 @@ use Rattle.mo_lexer.specs.Spelling.{IsDecimal, pointed, unpointed, IsComment, li
 use Rattle.mo_lexer.specs.Lexing.{opens_block, IsStuck, Breaks, no_token, IsCutByEnd, comment, string, quoted, IsBadAt, in_string, in_quoted}
 use Rattle.mo_lexer.specs.Finding.{is_mark, begins_number, opens_line}
 use Rattle.mo_lexer.proofs.Fronts.{first_is, both_hold, first_passes}
-use Rattle.mo_lexer.proofs.Shapes.{Marks, class, class_mark, IsMarked, operator, number, comment', is_mark_text, operator_is_mark}
+use Rattle.mo_lexer.proofs.Shapes.{Marks, class, class_mark, IsMarked, operator, number, remark, is_mark_text, operator_is_mark, mark_first, mark_second, NumberFirst, digit, point, decimal_first}
 use Rattle.mo_lexer.proofs.Stuck.{HasNoPiece, no_piece, stuck_where_none, narrow_where_none, fits_from, bounded, cut_after}
 use Rattle.mo_lexer.proofs.Words.{Front}
 
@@ -21,17 +21,11 @@ second_is : (b c x d : ℕ) (s t : List ℕ) → b ∷ c ∷ s ≡ x ∷ d ∷ t
 second_is b c x d s t e = cc
 
 digit_next : (b : ℕ) (s : List ℕ) → b ≡ 46 → IsDecimal (b ∷ s) → (c : ℕ) × (t : List ℕ) × (s ≡ c ∷ t) × (is_digit c ≡ true)
-digit_next b s e (pointed [] [] exponent is ds fs some ex) = absurd (omega arith)
-digit_next b s e (pointed [] (c ∷ fraction) exponent is ds fs some ex) = (c, fraction ++ exponent, (let tail : s ≡ c ∷ (fraction ++ exponent) = cc in tail), first_passes is_digit c fraction fs)
-digit_next b s e (pointed (d ∷ digits) fraction exponent is ds fs some ex) =
-    let same : b ≡ d = first_is b d s _ is in
-    let digit : is_digit d ≡ true = first_passes is_digit d digits ds in
-    absurd (grind (arith, nat_tests))
-digit_next b s e (unpointed [] exponent is w ex) = absurd (omega (arith, w.some))
-digit_next b s e (unpointed (d ∷ digits) exponent is w ex) =
-    let same : b ≡ d = first_is b d s _ is in
-    let digit : is_digit d ≡ true = first_passes is_digit d digits w.are_digits in
-    absurd (grind (arith, nat_tests))
+digit_next b s e d = go (decimal_first b s d)
+  where
+    go : NumberFirst b s → (c : ℕ) × (t : List ℕ) × (s ≡ c ∷ t) × (is_digit c ≡ true)
+    go (digit h) = absurd (grind (arith, nat_tests))
+    go (point f c u tail h) = (c, u, tail, h)
 
 decimal_begins : (b : ℕ) (s after : List ℕ) → b ≡ 46 → IsDecimal (b ∷ s) → begins_number (b ∷ (s ++ after)) ≡ true
 decimal_begins b s after e d =
@@ -72,11 +66,11 @@ module _ (b : ℕ) (t : List ℕ) (lone : IsLone (b ∷ t)) where
 
   -- only operators are of its shape
   only_operator : (s after : List ℕ) → t ≡ s ++ after → IsMarked b s → (code : ℕ) × IsOperator code (b ∷ s)
-  only_operator s after e (operator like code is) = (code, is)
-  only_operator s after e (number point d) =
-      let on : begins_number (b ∷ t) ≡ true = subst (λ x. begins_number (b ∷ x) ≡ true) (sym e) (decimal_begins b s after point d) in
+  only_operator s after e (operator code is) = (code, is)
+  only_operator s after e (number here d) =
+      let on : begins_number (b ∷ t) ≡ true = subst (λ x. begins_number (b ∷ x) ≡ true) (sym e) (decimal_begins b s after here d) in
       absurd (false≢true (sym lone.no_number ∙ on))
-  only_operator s after e (comment' c) = elim (comment_opens b s after c) [
+  only_operator s after e (remark c) = elim (comment_opens b s after c) [
     | inl opens ↦ absurd (false≢true (sym lone.no_line ∙ subst (λ x. opens_line (b ∷ x) ≡ true) (sym e) opens))
     | inr opens ↦ absurd (false≢true (sym lone.no_block ∙ subst (λ x. opens_block (b ∷ x) ≡ true) (sym e) opens))
   ]
@@ -99,7 +93,7 @@ module _ (b : ℕ) (t : List ℕ) (lone : IsLone (b ∷ t)) where
       ascii : (code : ℕ) → IsOperator code (b ∷ []) → b < 128
       ascii code is =
           let like : is_mark_text (b ∷ []) ≡ true = operator_is_mark _ code is in
-          let low : ltb b 128 ≡ true = (both_hold (is_mark b) (ltb b 128) like).1 in
+          let low : ltb b 128 ≡ true = (mark_first b [] like).0 in
           grind (arith, nat_tests)
 
       longest : (s after : List ℕ) → t ≡ s ++ after → (code : ℕ) × IsOperator code (b ∷ s) → suc (length s) ≤ 1
@@ -153,9 +147,7 @@ two_front b c t lone code is = record {
     ascii : c < 128
     ascii =
         let like : is_mark_text (b ∷ c ∷ []) ≡ true = operator_is_mark _ code is in
-        let second = (both_hold (is_mark b) _ like).1 in
-        let third = (both_hold (not (eqb b 47)) (not (is_digit c) && ltb c 128) second).1 in
-        let low : ltb c 128 ≡ true = (both_hold (not (is_digit c)) (ltb c 128) third).1 in
+        let low : ltb c 128 ≡ true = (mark_second b c [] like).2 in
         grind (arith, nat_tests)
 
     longest : (s : List ℕ) → (code : ℕ) × IsOperator code (b ∷ s) → suc (length s) ≤ 2

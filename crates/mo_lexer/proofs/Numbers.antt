@@ -13,7 +13,7 @@ use Rattle.mo_lexer.specs.Spelling.{are_digits, IsExponent, IsWhole, IsDecimal, 
 use Rattle.mo_lexer.specs.Lexing.{IsPiece, opens_block, Fits, IsStuck, Breaks}
 use Rattle.mo_lexer.specs.Finding.{point_len, mark_len, exponent_len, begins_number, is_mark, number_kind, IsCut, IsNumberFront}
 use Rattle.mo_lexer.proofs.Fronts.{first_is, both_hold, both, first_passes, later_pass, all_joined, run_passes, run_longest, run_ends, tail_is}
-use Rattle.mo_lexer.proofs.Shapes.{IsNumber, whole, decimal, Digits, Marks, class, class_digit, IsMarked, operator, number, comment', some_of_spelling}
+use Rattle.mo_lexer.proofs.Shapes.{operator_is_mark, mark_second, digit_is_no_mark, IsNumber, whole, decimal, Digits, Marks, class, class_digit, IsMarked, operator, number, remark, some_of_spelling}
 use Rattle.mo_lexer.proofs.Stuck.{fits_from, bounded, cut_after, opens_with_slash, wide_front}
 
 -- ---- the exponent
@@ -322,17 +322,13 @@ module _ (b : ℕ) (t : List ℕ) (d f e : ℕ) (m : Measured (b ∷ t) d f e) w
     where
       longest : (s after : List ℕ) → t ≡ s ++ after → IsMarked b s → suc (length s) ≤ d + f + e
       longest s after eq (number there num) = number_longest (b ∷ t) d f e m (b ∷ s) after (ap (λ x. b ∷ x) eq) (decimal num)
-      longest s after eq (comment' (line body is pass)) = let slash : b ≡ 47 = first_is b 47 s _ is in absurd (omega arith)
-      longest s after eq (comment' (block body is never)) = let slash : b ≡ 47 = first_is b 47 s _ is in absurd (omega arith)
-      longest [] after eq (operator like code is) = omega arith
-      longest (x ∷ []) after eq (operator like code is) =
-          let same : c ≡ x = first_is c x u after (sym tail ∙ eq) in
-          let second = (both_hold (is_mark b) _ like).1 in
-          let third = (both_hold (not (eqb b 47)) (not (is_digit x) && ltb x 128) second).1 in
-          let off : not (is_digit x) ≡ true = (both_hold (not (is_digit x)) (ltb x 128) third).0 in
+      longest s after eq (remark (line body is pass)) = let slash : b ≡ 47 = first_is b 47 s _ is in absurd (omega arith)
+      longest s after eq (remark (block body is never)) = let slash : b ≡ 47 = first_is b 47 s _ is in absurd (omega arith)
+      longest [] after eq (operator code is) = omega arith
+      longest (x ∷ s) after eq (operator code is) =
+          let same : c ≡ x = first_is c x u (s ++ after) (sym tail ∙ eq) in
           let on : is_digit x ≡ true = rw (← same) digit in
-          cc
-      longest (x ∷ y ∷ s) after eq (operator like code is) = cc
+          absurd (digit_is_no_mark x on (mark_second b x s (operator_is_mark _ code is)).3)
 
   no_block : is_digit b ≡ true ⊎ (b ≡ 46) → opens_block (b ∷ t) ≡ true → ⊥
   no_block (inl digit) opens = let slash : b ≡ 47 = opens_with_slash b t opens in grind (arith, nat_tests)

@@ -9,7 +9,7 @@ use Rattle.mo_lexer.specs.Bytes.{is_blank, is_letter, is_digit, is_word_byte}
 use Rattle.mo_lexer.specs.Finding.{is_mark}
 use Rattle.mo_lexer.specs.Spelling.{is_word, are_digits, IsDecimal, pointed, unpointed, Spells, IsComment, line, block, IsSeparator, blank, comment}
 use Rattle.mo_lexer.proofs.Fronts.{first_is, both_hold, first_passes, all_back}
-use Rattle.mo_lexer.proofs.Shapes.{Class, Blanks, Letters, Digits, SingleQuotes, DoubleQuotes, Marks, class, is_mark_text, operator_is_mark, mark_first, class_letter, class_digit, class_mark, some_of_spelling, some_of_separator}
+use Rattle.mo_lexer.proofs.Shapes.{Class, Blanks, Letters, Digits, SingleQuotes, DoubleQuotes, Marks, class, is_mark_text, operator_is_mark, mark_first, mark_second, digit_is_no_mark, class_letter, class_digit, class_mark, some_of_spelling, some_of_separator}
 
 word_kind : Option ℕ → TokenKind
 word_kind None = Ident
@@ -54,7 +54,7 @@ no_mark : (digits rest : List ℕ) → are_digits digits ≡ true → 0 < length
 no_mark [] rest ds some h = omega arith
 no_mark (d ∷ []) [] ds some h =
     let digit : is_digit d ≡ true = first_passes is_digit d [] ds in
-    let clash : not (is_digit d) ≡ true = (both_hold (not (is_digit d)) _ h).0 in cc
+    digit_is_no_mark d digit (mark_second 46 d [] h).3
 no_mark (d ∷ []) (x ∷ rest) ds some h = cc
 no_mark (d ∷ e ∷ digits) rest ds some h = cc
 
@@ -88,7 +88,7 @@ kind_is Ident b t (inr q) = by_class Ident SingleQuotes b t (ap class (first_is 
 kind_is (Keyword code) b t word =
     let some : code_in keywords (b ∷ t) ≡ Some code = word.1 in
     by_class (Keyword code) Letters b t (class_letter b (both_hold _ _ word.0).0) (rw some refl)
-kind_is (Operator code) b t e = by_class (Operator code) Marks b t (class_mark b (mark_first b t (operator_is_mark (b ∷ t) code e))) (rw e refl)
+kind_is (Operator code) b t e = by_class (Operator code) Marks b t (class_mark b (mark_first b t (operator_is_mark (b ∷ t) code e)).1) (rw e refl)
 kind_is Whole b t w =
     let on : are_digits (b ∷ t) ≡ true = w.are_digits in
     by_class Whole Digits b t (class_digit b (both_hold _ _ w.are_digits).0) (rw on refl)
@@ -120,15 +120,13 @@ no_spelling End b t h l d s q p m = h
 
 blank_mark : (b : ℕ) (t : List ℕ) → is_blank b ≡ true → is_mark_text (b ∷ t) ≡ true → ⊥
 blank_mark b t h k =
-    let is_first : is_mark b ≡ true = mark_first b t k in
+    let is_first : is_mark b ≡ true = (mark_first b t k).1 in
     let clash : not (is_blank b) ≡ true = (both_hold (not (is_blank b)) _ is_first).0 in cc
 
 pub slash_mark : (b c : ℕ) (t : List ℕ) → b ≡ 47 → is_mark_text (b ∷ c ∷ t) ≡ true → ⊥
-slash_mark b c [] e h =
-    let second : (not (eqb b 47) && (not (is_digit c) && ltb c 128)) ≡ true = (both_hold (is_mark b) _ h).1 in
-    let clash : not (eqb b 47) ≡ true = (both_hold (not (eqb b 47)) _ second).0 in
-    let same : eqb b 47 ≡ true = rw e refl in cc
-slash_mark b c (d ∷ t) e h = cc
+slash_mark b c t e h =
+    let off : eqb b 47 ≡ false = (mark_second b c t h).1 in
+    let on : eqb b 47 ≡ true = rw e refl in cc
 
 slash_is_no_token : (kind : TokenKind) (b c : ℕ) (t : List ℕ) → b ≡ 47 → Spells kind (b ∷ c ∷ t) → ⊥
 slash_is_no_token kind b c t e s =

@@ -1,5 +1,6 @@
 -- What the first byte of a piece says of the piece.
-use Rattle.std.proofs.Common.{◌≡◌, ℕ, ◌+◌, ◌<◌, inl, inr, Bool, true, false, ◌&&◌, not, List, [], ◌∷◌, length, Some, if◌then◌else◌, eqb, ltb, refl, sym, ap, subst, arith}
+use Rattle.std.proofs.Common.{◌≡◌, ℕ, ◌+◌, ◌<◌, inl, inr, Bool, true, false, ◌&&◌, not, List, [], ◌∷◌, ◌++◌, length, Some, if◌then◌else◌, eqb, ltb, refl, sym, ap, subst, ◌∙◌, arith}
+use mathlib.Core.Bool.{false≢true}
 use Rattle.std.specs.List.{list_all, position_from}
 use Rattle.std.specs.Str.{bytes_eq}
 use Rattle.std.proofs.lemmas.Bool.Decides.{nat_tests}
@@ -11,7 +12,7 @@ use Rattle.mo_lexer.specs.Bytes.{is_blank, is_letter, is_digit, is_word_byte}
 use Rattle.mo_lexer.specs.Spelling.{is_word, IsQuoted, IsString, IsWhole, IsDecimal, pointed, unpointed, Spells, IsComment, line, block, IsSeparator, blank, comment}
 use Rattle.mo_lexer.specs.Finding.{is_mark}
 use Rattle.mo_lexer.specs.Lexing.{IsPiece}
-use Rattle.mo_lexer.proofs.Fronts.{both_hold}
+use Rattle.mo_lexer.proofs.Fronts.{both_hold, first_is, tail_is, first_passes}
 
 -- the classes of first bytes
 pub data Class : Type 0 where
@@ -25,11 +26,11 @@ pub data Class : Type 0 where
 abbrev pub class : ℕ → Class
 class b = if is_blank b then Blanks else if is_letter b then Letters else if is_digit b then Digits else if eqb b 39 then SingleQuotes else if eqb b 34 then DoubleQuotes else Marks
 
--- what each operator and mark is like: one ASCII byte, or two of which the first is no `/` and the second no digit
+-- what each operator is like: one ASCII mark, or two of which the first is no `/`
 abbrev pub is_mark_text : List ℕ → Bool
 is_mark_text [] = false
-is_mark_text (b ∷ []) = is_mark b && ltb b 128
-is_mark_text (b ∷ c ∷ []) = is_mark b && (not (eqb b 47) && (not (is_digit c) && ltb c 128))
+is_mark_text (b ∷ []) = ltb b 128 && is_mark b
+is_mark_text (b ∷ c ∷ []) = (ltb b 128 && is_mark b) && (not (eqb b 47) && (ltb c 128 && is_mark c))
 is_mark_text (b ∷ c ∷ d ∷ t) = false
 
 marks : list_all is_mark_text operators ≡ true
@@ -37,7 +38,7 @@ unfolding operators
 marks = refl
 
 -- a word of a table is like all words of the table
-among : (test : List ℕ → Bool) (text : List ℕ) (words : List (List ℕ)) (i code : ℕ) → position_from (λ word. bytes_eq word text) i words ≡ Some code → list_all test words ≡ true → test text ≡ true
+pub among : (test : List ℕ → Bool) (text : List ℕ) (words : List (List ℕ)) (i code : ℕ) → position_from (λ word. bytes_eq word text) i words ≡ Some code → list_all test words ≡ true → test text ≡ true
 among test text [] i code e h = cc
 among test text (word ∷ words) i code e h = go (λ later. among test text words (i + 1) code later (both_hold _ _ h).1) (bytes_eq word text) refl
   where
@@ -48,10 +49,27 @@ among test text (word ∷ words) i code e h = go (λ later. among test text word
 pub operator_is_mark : (text : List ℕ) (code : ℕ) → code_in operators text ≡ Some code → is_mark_text text ≡ true
 operator_is_mark text code e = among is_mark_text text operators 0 code e marks
 
-pub mark_first : (b : ℕ) (t : List ℕ) → is_mark_text (b ∷ t) ≡ true → is_mark b ≡ true
-mark_first b [] h = (both_hold _ _ h).0
-mark_first b (c ∷ []) h = (both_hold _ _ h).0
+pub mark_first : (b : ℕ) (t : List ℕ) → is_mark_text (b ∷ t) ≡ true → (ltb b 128 ≡ true) × (is_mark b ≡ true)
+mark_first b [] h = both_hold _ _ h
+mark_first b (c ∷ []) h = both_hold _ _ (both_hold _ _ h).0
 mark_first b (c ∷ d ∷ t) h = cc
+
+is_off : (a : Bool) → not a ≡ true → a ≡ false
+is_off true h = cc
+is_off false h = refl
+
+-- what a second byte says: it is the last, no comment begins so, and it is an ASCII mark
+pub mark_second : (b c : ℕ) (t : List ℕ) → is_mark_text (b ∷ c ∷ t) ≡ true → (t ≡ []) × (eqb b 47 ≡ false) × (ltb c 128 ≡ true) × (is_mark c ≡ true)
+mark_second b c [] h =
+    let second = both_hold (not (eqb b 47)) (ltb c 128 && is_mark c) (both_hold (ltb b 128 && is_mark b) _ h).1 in
+    let last = both_hold (ltb c 128) (is_mark c) second.1 in
+    (refl, is_off _ second.0, last.0, last.1)
+mark_second b c (d ∷ t) h = cc
+
+pub digit_is_no_mark : (b : ℕ) → is_digit b ≡ true → is_mark b ≡ true → ⊥
+digit_is_no_mark b h k =
+    let no_digit : is_digit b ≡ false = is_off (is_digit b) (both_hold _ _ (both_hold _ _ (both_hold _ _ k).1).1).0 in
+    false≢true (sym no_digit ∙ h)
 
 pub class_letter : (b : ℕ) → is_letter b ≡ true → class b ≡ Letters
 class_letter b h =
@@ -63,10 +81,6 @@ class_digit b h =
     let other : is_blank b ≡ false = grind (arith, nat_tests) in
     let no_letter : is_letter b ≡ false = grind (arith, nat_tests) in
     rw (other, no_letter, h) refl
-
-is_off : (a : Bool) → not a ≡ true → a ≡ false
-is_off true h = cc
-is_off false h = refl
 
 pub class_mark : (b : ℕ) → is_mark b ≡ true → class b ≡ Marks
 class_mark b h =
@@ -88,9 +102,9 @@ pub data IsNumber (text : List ℕ) : Type 0 where
 
 -- an operator, a number that begins with its point, or a comment
 pub data IsMarked (b : ℕ) (t : List ℕ) : Type 0 where
-  operator : is_mark_text (b ∷ t) ≡ true → (code : ℕ) → code_in operators (b ∷ t) ≡ Some code → IsMarked b t
+  operator : (code : ℕ) → code_in operators (b ∷ t) ≡ Some code → IsMarked b t
   number : b ≡ 46 → IsDecimal (b ∷ t) → IsMarked b t
-  comment' : IsComment (b ∷ t) → IsMarked b t
+  remark : IsComment (b ∷ t) → IsMarked b t
 
 abbrev pub ShapeAt : Class → ℕ → List ℕ → Type 0
 ShapeAt Blanks b t = t ≡ []
@@ -107,8 +121,8 @@ at_byte : (n : ℕ) (b : ℕ) (t : List ℕ) → b ≡ n → ShapeAt (class n) b
 at_byte n b t e h = at_class (class n) b t (ap class e) h
 
 comment_shape : (b : ℕ) (t : List ℕ) → IsComment (b ∷ t) → ShapeAt (class b) b t
-comment_shape b t (line body e h) = at_byte 47 b t (cc) (comment' (line body e h))
-comment_shape b t (block body e h) = at_byte 47 b t (cc) (comment' (block body e h))
+comment_shape b t (line body e h) = at_byte 47 b t (cc) (remark (line body e h))
+comment_shape b t (block body e h) = at_byte 47 b t (cc) (remark (block body e h))
 
 separator_shape : (b : ℕ) (t : List ℕ) → IsSeparator (b ∷ t) → ShapeAt (class b) b t
 separator_shape b t (blank x e h) =
@@ -123,25 +137,35 @@ word_shape b t h = at_class Letters b t (class_letter b (both_hold _ _ h).0) (bo
 whole_shape : (b : ℕ) (t : List ℕ) → IsWhole (b ∷ t) → ShapeAt (class b) b t
 whole_shape b t w = at_class Digits b t (class_digit b (both_hold _ _ w.are_digits).0) (whole w)
 
+-- what the first byte of a decimal number is
+pub data NumberFirst (b : ℕ) (t : List ℕ) : Type 0 where
+  digit : is_digit b ≡ true → NumberFirst b t
+  point : b ≡ 46 → (c : ℕ) (u : List ℕ) → t ≡ c ∷ u → is_digit c ≡ true → NumberFirst b t
+
+pub decimal_first : (b : ℕ) (t : List ℕ) → IsDecimal (b ∷ t) → NumberFirst b t
+decimal_first b t (pointed [] [] exponent e ds fs some ex) = absurd (omega arith)
+decimal_first b t (pointed [] (c ∷ fraction) exponent e ds fs some ex) = point (first_is b 46 t _ e) c (fraction ++ exponent) (tail_is b 46 t _ e) (first_passes is_digit c fraction fs)
+decimal_first b t (pointed (d ∷ digits) fraction exponent e ds fs some ex) =
+    let same : b ≡ d = first_is b d t _ e in
+    digit (rw same (first_passes is_digit d digits ds))
+decimal_first b t (unpointed [] exponent e w ex) = absurd (omega (arith, w.some))
+decimal_first b t (unpointed (d ∷ digits) exponent e w ex) =
+    let same : b ≡ d = first_is b d t _ e in
+    digit (rw same (first_passes is_digit d digits w.are_digits))
+
 decimal_shape : (b : ℕ) (t : List ℕ) → IsDecimal (b ∷ t) → ShapeAt (class b) b t
-decimal_shape b t (pointed [] fraction exponent e ds fs some ex) = at_byte 46 b t (cc) (number (cc) (pointed [] fraction exponent e ds fs some ex))
-decimal_shape b t (pointed (d ∷ digits) fraction exponent e ds fs some ex) =
-    let same : b ≡ d = cc in
-    let here : is_digit b ≡ true = rw same (both_hold _ _ ds).0 in
-    at_class Digits b t (class_digit b here) (decimal (pointed (d ∷ digits) fraction exponent e ds fs some ex))
-decimal_shape b t (unpointed [] exponent e ds ex) = absurd (omega (arith, ds.some))
-decimal_shape b t (unpointed (d ∷ digits) exponent e ds ex) =
-    let same : b ≡ d = cc in
-    let here : is_digit b ≡ true = rw same (both_hold _ _ ds.are_digits).0 in
-    at_class Digits b t (class_digit b here) (decimal (unpointed (d ∷ digits) exponent e ds ex))
+decimal_shape b t d = go (decimal_first b t d)
+  where
+    go : NumberFirst b t → ShapeAt (class b) b t
+    go (digit h) = at_class Digits b t (class_digit b h) (decimal d)
+    go (point e c u f h) = at_byte 46 b t e (number e d)
 
 spelling_shape : (kind : TokenKind) (b : ℕ) (t : List ℕ) → Spells kind (b ∷ t) → ShapeAt (class b) b t
 spelling_shape Ident b t (inl word) = word_shape b t word.0
 spelling_shape Ident b t (inr q) = at_byte 39 b t (let e = q.is in cc) q
 spelling_shape (Keyword code) b t word = word_shape b t word.0
 spelling_shape (Operator code) b t e =
-    let is_like = operator_is_mark (b ∷ t) code e in
-    at_class Marks b t (class_mark b (mark_first b t is_like)) (operator is_like code e)
+    at_class Marks b t (class_mark b (mark_first b t (operator_is_mark (b ∷ t) code e)).1) (operator code e)
 spelling_shape Whole b t w = whole_shape b t w
 spelling_shape Decimal b t d = decimal_shape b t d
 spelling_shape Str b t s = at_byte 34 b t (let e = s.is in cc) s

@@ -15,7 +15,7 @@ use Rattle.mo_grammar.specs.Tables.{tables}
 use Rattle.mo_grammar.specs.Language.{reads, reads_form}
 use Rattle.mo_grammar.proofs.Loops.{with_front, many_done, many_stuck}
 use Rattle.mo_parse_class.specs.Parts.{Head, head, what_of}
-use Rattle.mo_parse_class.proofs.Apart.{bind_same, if_same, each_same}
+use Rattle.mo_grammar.proofs.Classless.{each_alike}
 
 abbrev mapped : {A B : Type 0} → (A → B) → Outcome A → Outcome B
 mapped f o = o >>= λ x. read (f x.0) x.1
@@ -53,7 +53,7 @@ mapped_behind f unfinished p = refl
 -- values behind tokens of one code
 pub many_mapped : {A B : Type 0} (f : A → B) (c : ℕ) (g : Form A) (l : Limits) (w : List Lexeme) → reads_form (many (behind c (made f g))) l w ≡ mapped (map f) (reads_form (many (behind c g)) l w)
 many_mapped f c g l w =
-    each_same (c ∷ []) (reads_form (behind c (made f g)) l) (λ v. mapped f (reads_form (behind c g) l v)) (λ v. mapped_behind f (reads_token (c ∷ []) v) (reads_form g l)) (length w) w
+    each_alike (c ∷ []) (reads_form (behind c (made f g)) l) (λ v. mapped f (reads_form (behind c g) l v)) (λ v. mapped_behind f (reads_token (c ∷ []) v) (reads_form g l)) (length w) w
     ∙ each_mapped f (c ∷ []) (reads_form (behind c g) l) (length w) w
 
 list_mapped : {A B : Type 0} (f : A → B) (o : Outcome A) (h : List Lexeme → Outcome (List B)) (k : List Lexeme → Outcome (List A)) → ((w : List Lexeme) → h w ≡ mapped (map f) (k w)) → ((mapped f o >>= λ x. h x.1 >>= λ y. let two : Outcome (B × List B) = read (x.0, y.0) y.1 in two) >>= λ x. read (joined x.0) x.1) ≡ mapped (map f) ((o >>= λ x. k x.1 >>= λ y. let two : Outcome (A × List A) = read (x.0, y.0) y.1 in two) >>= λ x. read (joined x.0) x.1)

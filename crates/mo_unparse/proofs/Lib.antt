@@ -10,7 +10,6 @@ pub mod Building
 pub mod WordPieces
 pub mod FileEnds
 pub mod Growth
-pub mod FirstBytes
 pub mod NumberEnds
 pub mod TokenFits
 pub mod TextRead

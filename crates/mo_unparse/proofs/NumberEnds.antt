@@ -4,7 +4,8 @@ use Rattle.std.specs.List.{list_all}
 use Rattle.std.proofs.lemmas.Bool.Decides.{nat_tests}
 use Rattle.mo_lexer.specs.Bytes.{is_digit, is_letter, is_word_byte, is_exponent_mark, is_sign}
 use Rattle.mo_lexer.specs.Spelling.{are_digits, IsExponent, pointed, unpointed}
-use Rattle.mo_unparse.proofs.FirstBytes.{first_passes, later_pass, IsNumber, whole, decimal}
+use Rattle.mo_lexer.proofs.Fronts.{first_passes, later_pass}
+use Rattle.mo_lexer.proofs.Shapes.{IsNumber, whole, decimal}
 
 -- a byte of a word, or a point
 abbrev pub is_plain : ℕ → Bool

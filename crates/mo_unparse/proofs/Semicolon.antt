@@ -8,7 +8,7 @@ use Rattle.mo_unparse.specs.declared.text.Ending.{Ending}
 use Rattle.mo_unparse.specs.declared.text.Ending.TheVariants.{Closed, Word, Number, Mark}
 use Rattle.mo_unparse.specs.Pieces.{Piece, a_mark}
 use Rattle.mo_unparse.specs.Text.{joins, spaced, ending_after, depth_after, piece_text, text_from, text_of}
-use Rattle.mo_unparse.proofs.FirstBytes.{among}
+use Rattle.mo_lexer.proofs.Shapes.{among}
 use Rattle.mo_unparse.proofs.TokenFits.{mark_apart}
 
 is_second : ℕ → List ℕ → Bool

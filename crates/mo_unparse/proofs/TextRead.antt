@@ -16,14 +16,15 @@ use Rattle.mo_unparse.specs.declared.text.Ending.{Ending}
 use Rattle.mo_unparse.specs.declared.text.Ending.TheVariants.{Closed, Word, Number, Mark}
 use Rattle.mo_unparse.specs.Pieces.{Piece, a_name, a_word, a_mark, a_whole, a_decimal, a_string, a_blank, a_line, deeper, shallower, nowhere, placeless_token, tokens_of, IsToken, AreTokens}
 use Rattle.mo_unparse.specs.Text.{joins, spaced, name_ending, mark_ending, depth_after, text_from, text_of}
-use Rattle.mo_unparse.proofs.FirstBytes.{both_hold, first_passes, first_is, is_operator_like, operator_is_like, operator_first, operator_second, NumberFirst, digit, point, decimal_first}
+use Rattle.mo_lexer.proofs.Fronts.{both_hold, first_passes, first_is}
+use Rattle.mo_lexer.proofs.Shapes.{is_mark_text, operator_is_mark, mark_first, mark_second, NumberFirst, digit, point, decimal_first}
 use Rattle.mo_unparse.proofs.TokenFits.{IsApart, mark_apart, some_of_decimal, blank_fits, name_fits, keyword_fits, mark_fits, whole_number_fits, decimal_number_fits, quoted_string_fits}
 
 -- ---- what a text begins with
 -- a blank joins nothing
 no_operator_ends_blank : (a : ℕ) (o : Option ℕ) → code_in operators (a ∷ 32 ∷ []) ≡ o → is_some o ≡ false
 no_operator_ends_blank a None e = refl
-no_operator_ends_blank a (Some code) e = let clash = (operator_second a 32 [] (operator_is_like (a ∷ 32 ∷ []) code e)).2 in absurd (false≢true clash)
+no_operator_ends_blank a (Some code) e = let clash = (mark_second a 32 [] (operator_is_mark (a ∷ 32 ∷ []) code e)).3 in absurd (false≢true clash)
 
 blank_apart : (before : Ending) → joins before 32 ≡ false
 blank_apart Closed = refl
@@ -62,7 +63,7 @@ first_is_low : (kind : TokenKind) (b : ℕ) (t : List ℕ) → Spells kind (b �
 first_is_low Ident b t (inl word) = letter_is_low b (both_hold (is_letter b) (list_all is_word_byte t) word.0).0
 first_is_low Ident b t (inr q) = omega (arith, first_is b 39 t _ q.is)
 first_is_low (Keyword code) b t word = letter_is_low b (both_hold (is_letter b) (list_all is_word_byte t) word.0).0
-first_is_low (Operator code) b t is = let low : ltb b 128 ≡ true = (operator_first b t (operator_is_like (b ∷ t) code is)).0 in grind (arith, nat_tests)
+first_is_low (Operator code) b t is = let low : ltb b 128 ≡ true = (mark_first b t (operator_is_mark (b ∷ t) code is)).0 in grind (arith, nat_tests)
 first_is_low Whole b t w = digit_is_low b (first_passes is_digit b t w.are_digits)
 first_is_low Decimal b t d = decimal_is_low b t (decimal_first b t d)
 first_is_low Str b t q = omega (arith, first_is b 34 t _ q.is)
@@ -73,7 +74,7 @@ some_of_spelling : (kind : TokenKind) → Spells kind [] → ⊥
 some_of_spelling Ident (inl word) = cc
 some_of_spelling Ident (inr q) = let e = q.is in cc
 some_of_spelling (Keyword code) word = cc
-some_of_spelling (Operator code) is = let like : is_operator_like [] ≡ true = operator_is_like [] code is in cc
+some_of_spelling (Operator code) is = let like : is_mark_text [] ≡ true = operator_is_mark [] code is in cc
 some_of_spelling Whole w = omega (arith, w.some)
 some_of_spelling Decimal d = some_of_decimal d
 some_of_spelling Str q = let e = q.is in cc

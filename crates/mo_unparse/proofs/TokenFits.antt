@@ -11,7 +11,8 @@ use Rattle.mo_lexer.specs.Lexing.{IsPiece, opens_block, Fits}
 use Rattle.mo_unparse.specs.declared.text.Ending.{Ending}
 use Rattle.mo_unparse.specs.declared.text.Ending.TheVariants.{Word, Number, Mark}
 use Rattle.mo_unparse.specs.Text.{joins, name_ending, mark_ending}
-use Rattle.mo_unparse.proofs.FirstBytes.{both_hold, first_passes, middle_passes, first_is, tail_is, is_operator_like, operator_is_like, operator_first, operator_second, digit_is_no_mark, Class, Blanks, Letters, Digits, SingleQuotes, DoubleQuotes, Marks, class, class_letter, class_digit, class_mark, IsNumber, whole, decimal, IsMarked, operator, number, remark, ShapeAt, shape_as, NumberFirst, digit, point, decimal_first}
+use Rattle.mo_lexer.proofs.Fronts.{both_hold, first_passes, all_back, first_is, tail_is}
+use Rattle.mo_lexer.proofs.Shapes.{is_mark_text, operator_is_mark, mark_first, mark_second, digit_is_no_mark, Class, Blanks, Letters, Digits, SingleQuotes, DoubleQuotes, Marks, class, class_letter, class_digit, class_mark, IsNumber, whole, decimal, IsMarked, operator, number, remark, ShapeAt, shape_as, NumberFirst, digit, point, decimal_first}
 use Rattle.mo_unparse.proofs.NumberEnds.{number_goes_on}
 
 -- what follows does not join
@@ -44,7 +45,7 @@ pub word_fits : (b : ℕ) (t rest : List ℕ) → is_word (b ∷ t) ≡ true →
 word_fits b t rest h apart =
     let letter : is_letter b ≡ true = (both_hold (is_letter b) (list_all is_word_byte t) h).0 in
     fits_where Letters b t rest (class_letter b letter)
-    (λ x more after e shape. false≢true (sym (apart_at Word rest x (more ++ after) apart e) ∙ middle_passes is_word_byte t x more shape))
+    (λ x more after e shape. false≢true (sym (apart_at Word rest x (more ++ after) apart e) ∙ first_passes is_word_byte x more (all_back is_word_byte t (x ∷ more) shape)))
     (λ opens. absurd (grind (arith, nat_tests, opens_with_slash b (t ++ rest) opens)))
 
 -- ---- text in quotes
@@ -108,7 +109,7 @@ number_at_digit b t rest h n apart =
 
 -- more than a point and a digit is no operator
 no_operator : (b c : ℕ) (u : List ℕ) (x : ℕ) (more : List ℕ) → is_digit c ≡ true → (code : ℕ) → code_in operators (b ∷ c ∷ (u ++ x ∷ more)) ≡ Some code → ⊥
-no_operator b c u x more h code is = digit_is_no_mark c h (operator_second b c (u ++ x ∷ more) (operator_is_like _ code is)).2
+no_operator b c u x more h code is = digit_is_no_mark c h (mark_second b c (u ++ x ∷ more) (operator_is_mark _ code is)).3
 
 not_slash : (b : ℕ) (t s : List ℕ) → b ≡ 46 → b ∷ t ≡ 47 ∷ s → ⊥
 not_slash b t s e f = let slash : b ≡ 47 = first_is b 47 t s f in omega arith
@@ -173,7 +174,7 @@ mark_apart a x none no_comment no_digit = rw (none, no_comment, no_digit) (no_mo
 module _ (a x : ℕ) (more : List ℕ) where
   mark_joined : IsMarked a (x ∷ more) → joins (Mark a) x ≡ true
   mark_joined (operator code is) =
-      let none : more ≡ [] = (operator_second a x more (operator_is_like _ code is)).0 in
+      let none : more ≡ [] = (mark_second a x more (operator_is_mark _ code is)).0 in
       joins_operator a x code (subst (λ more. code_in operators (a ∷ x ∷ more) ≡ Some code) none is)
   mark_joined (number e d) = go (decimal_first a (x ∷ more) d)
     where
@@ -190,7 +191,7 @@ opens_with_star a x after h = grind (arith, nat_tests)
 
 one_fits : (a code : ℕ) (rest : List ℕ) → code_in operators (a ∷ []) ≡ Some code → IsApart (Mark a) rest → Fits (a ∷ []) rest
 one_fits a code rest is apart =
-    fits_where Marks a [] rest (class_mark a (operator_first a [] (operator_is_like _ code is)).1)
+    fits_where Marks a [] rest (class_mark a (mark_first a [] (operator_is_mark _ code is)).1)
     (λ x more after e shape. false≢true (sym (apart_at (Mark a) rest x (more ++ after) apart e) ∙ mark_joined a x more shape))
     (λ opens. absurd (unopened rest apart opens))
   where
@@ -201,32 +202,32 @@ one_fits a code rest is apart =
 
 two_fits : (a b code : ℕ) (rest : List ℕ) → code_in operators (a ∷ b ∷ []) ≡ Some code → Fits (a ∷ b ∷ []) rest
 two_fits a b code rest is =
-    fits_where Marks a (b ∷ []) rest (class_mark a (operator_first a (b ∷ []) like).1)
+    fits_where Marks a (b ∷ []) rest (class_mark a (mark_first a (b ∷ []) like).1)
     (λ x more after e shape. not_marked x more shape)
     (λ opens. absurd (no_slash (opens_with_slash a (b ∷ rest) opens)))
   where
-    like : is_operator_like (a ∷ b ∷ []) ≡ true
-    like = operator_is_like (a ∷ b ∷ []) code is
+    like : is_mark_text (a ∷ b ∷ []) ≡ true
+    like = operator_is_mark (a ∷ b ∷ []) code is
 
     no_slash : a ≡ 47 → ⊥
-    no_slash e = let off : eqb a 47 ≡ false = (operator_second a b [] like).1 in grind (arith, nat_tests)
+    no_slash e = let off : eqb a 47 ≡ false = (mark_second a b [] like).1 in grind (arith, nat_tests)
 
     not_marked : (x : ℕ) (more : List ℕ) → IsMarked a (b ∷ x ∷ more) → ⊥
-    not_marked x more (operator code' is') = let none : x ∷ more ≡ [] = (operator_second a b (x ∷ more) (operator_is_like _ code' is')).0 in cc
+    not_marked x more (operator code' is') = let none : x ∷ more ≡ [] = (mark_second a b (x ∷ more) (operator_is_mark _ code' is')).0 in cc
     not_marked x more (number e d) = go (decimal_first a (b ∷ x ∷ more) d)
       where
         go : NumberFirst a (b ∷ x ∷ more) → ⊥
         go (digit h) = grind (arith, nat_tests)
         go (point f c u g h) =
             let same : b ≡ c = cc in
-            digit_is_no_mark b (rw same h) (operator_second a b [] like).2
+            digit_is_no_mark b (rw same h) (mark_second a b [] like).3
     not_marked x more (remark (line body is pass)) = no_slash (first_is a 47 _ _ is)
     not_marked x more (remark (block body is never)) = no_slash (first_is a 47 _ _ is)
 
 pub operator_fits : (a : ℕ) (t rest : List ℕ) (code : ℕ) → code_in operators (a ∷ t) ≡ Some code → IsApart (mark_ending (a ∷ t)) rest → Fits (a ∷ t) rest
 operator_fits a [] rest code is apart = one_fits a code rest is apart
 operator_fits a (b ∷ []) rest code is apart = two_fits a b code rest is
-operator_fits a (b ∷ c ∷ t) rest code is apart = let like : is_operator_like (a ∷ b ∷ c ∷ t) ≡ true = operator_is_like _ code is in cc
+operator_fits a (b ∷ c ∷ t) rest code is apart = let like : is_mark_text (a ∷ b ∷ c ∷ t) ≡ true = operator_is_mark _ code is in cc
 
 -- ---- by the kind of the token
 pub name_fits : (text rest : List ℕ) → Spells Ident text → IsApart (name_ending text) rest → Fits text rest
@@ -243,7 +244,7 @@ keyword_fits code [] rest word apart = cc
 keyword_fits code (b ∷ t) rest word apart = word_fits b t rest word.0 apart
 
 pub mark_fits : (code : ℕ) (text rest : List ℕ) → Spells (Operator code) text → IsApart (mark_ending text) rest → Fits text rest
-mark_fits code [] rest is apart = let like : is_operator_like [] ≡ true = operator_is_like [] code is in cc
+mark_fits code [] rest is apart = let like : is_mark_text [] ≡ true = operator_is_mark [] code is in cc
 mark_fits code (a ∷ t) rest is apart = operator_fits a t rest code is apart
 
 pub whole_number_fits : (text rest : List ℕ) → IsWhole text → IsApart Number rest → Fits text rest
