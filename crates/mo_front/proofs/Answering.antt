@@ -1,5 +1,5 @@
 -- From what each step finds to what is told.
-use Rattle.std.proofs.Common.{◌≡◌, ◌+◌, ◌-◌, ℕ, Bool, true, List, [], ◌∷◌, length, Option, Some, None, unwrap_or, IfSome, Result, Ok, Err, IfOk, refl, ap, sym, ◌∙◌, subst}
+use Rattle.std.proofs.Common.{◌≡◌, ◌+◌, ◌-◌, ℕ, Bool, true, false, if◌then◌else◌, List, [], ◌∷◌, length, Option, Some, None, unwrap_or, IfSome, Result, Ok, Err, IfOk, refl, ap, sym, ◌∙◌, subst}
 use Rattle.mo_syntax.specs.declared.class.Body.{Body}
 use Rattle.mo_syntax.specs.declared.class.ClassDefOf.{ClassDefOf}
 use Rattle.mo_syntax.specs.declared.class.FileTree.{FileTree}
@@ -13,23 +13,26 @@ use Rattle.mo_syntax.specs.declared.finding.ClassAt.{ClassAt}
 use Rattle.mo_syntax.specs.ClassTable.{broken_class, broken_tree, class_of_path}
 use Rattle.mo_syntax.specs.Rows.{row_of}
 use Rattle.mo_syntax.specs.Lexeme.{Lexeme}
+use Rattle.mo_flat.specs.declared.model.FlatModel.{FlatModel}
 use Rattle.mo_lexer.specs.Lexing.{IfBroken}
 use Rattle.mo_ports.specs.Contents.{Contents}
 use Rattle.mo_front.specs.declared.load.Unread.TheVariants.{Refused}
 use Rattle.mo_front.specs.declared.model.NameAt.{NameAt}
 use Rattle.mo_front.specs.declared.status.Status.{Status}
-use Rattle.mo_front.specs.declared.status.Status.TheVariants.{Done, Refused as Refuses}
+use Rattle.mo_front.specs.declared.status.Status.TheVariants.{Done, Singular, Refused as refused_status}
+use Rattle.mo_front.specs.declared.words.Emit.{Emit}
+use Rattle.mo_front.specs.declared.words.Emit.TheVariants as asks
+use Rattle.mo_front.specs.Emitted.{Refuses, Writes, analysed, flat_text, is_singular}
 use Rattle.mo_front.specs.Files.{Reads, none, text, Tokens, Trees}
 use Rattle.mo_front.specs.Form.{declared_names, is_plain_model, items_of}
 use Rattle.mo_front.specs.Limits.{all_files_limit}
-use Rattle.mo_front.specs.Loading.{RefusesReading, TellsTexts, done, refused}
+use Rattle.mo_front.specs.Loading.{RefusesReading, TellsTexts}
 use Rattle.mo_front.specs.Names.{are_names_plain, first_undeclared, top_names}
 use Rattle.mo_front.specs.Run.{IsAnswer}
-use Rattle.mo_front.specs.Told.{ItemsGive, not_declared, broken, written, used_in, ClassGives, model, IsAskedClass, TreesGive, outermost, no_tree, TextsGive, trees, no_trees, no_tokens, read, unread, line_of_broken, bytes_of_all, Tells}
-use Rattle.mo_front.specs.Told as told
+use Rattle.mo_front.specs.Told.{ItemsGive, not_declared, broken, flat, used_in, ClassGives, model, IsAskedClass, TreesGive, outermost, no_tree, TextsGive, trees, no_trees, no_tokens, read, unread, line_of_broken, bytes_of_all, Breaks, FilesGive, Tells, WritesGiven, no_model, no_text, refused, written}
 
 -- a stop at a broken rule
-pub stopped : (s : Stop) (b : Broken) (P : Broken → Type 0) → s ≡ broken_by b → P b → IfBroken {T = List ℕ} (Err s) P
+pub stopped : (s : Stop) (b : Broken) (P : Broken → Type 0) → s ≡ broken_by b → P b → IfBroken {T = FlatModel} (Err s) P
 stopped s b P is p = rw is p
 
 pub gives_undeclared : (names top : List (List ℕ)) (class : ClassDefOf Body) (items : List Item) (declared uses listed again : List NameAt) (plain : Bool) (found : Option Place) (place : Place)
@@ -46,72 +49,95 @@ gives_undeclared names top class items declared uses listed again plain found pl
 
 -- ---- a class
 
-pub class-text : (files : List FileTree) (class : ClassDefOf Body) (given : List Item) (form : Bool) (r : Result (List ℕ) Stop) → form ≡ is_plain_model class → form ≡ true → Some given ≡ items_of class.body
-    → IfOk r (λ t. ItemsGive (top_names files) class given (written t)) → IfOk r (λ t. ClassGives files class (written t))
-class-text files class given form (Ok t) is holds they gives = model given (sym is ∙ holds) (sym they) gives
-class-text files class given form (Err s) is holds they gives = tt
+pub class-flat : (files : List FileTree) (class : ClassDefOf Body) (given : List Item) (form : Bool) (r : Result FlatModel Stop) → form ≡ is_plain_model class → form ≡ true → Some given ≡ items_of class.body
+    → IfOk r (λ m. ItemsGive (top_names files) class given (flat m)) → IfOk r (λ m. ClassGives files class (flat m))
+class-flat files class given form (Ok m) is holds they gives = model given (sym is ∙ holds) (sym they) gives
+class-flat files class given form (Err s) is holds they gives = tt
 
-pub class-refusal : (files : List FileTree) (class : ClassDefOf Body) (given : List Item) (form : Bool) (r : Result (List ℕ) Stop) → form ≡ is_plain_model class → form ≡ true → Some given ≡ items_of class.body
+pub class-refusal : (files : List FileTree) (class : ClassDefOf Body) (given : List Item) (form : Bool) (r : Result FlatModel Stop) → form ≡ is_plain_model class → form ≡ true → Some given ≡ items_of class.body
     → IfBroken r (λ b. ItemsGive (top_names files) class given (broken b)) → IfBroken r (λ b. ClassGives files class (broken b))
-class-refusal files class given form (Ok t) is holds they gives = tt
+class-refusal files class given form (Ok m) is holds they gives = tt
 class-refusal files class given form (Err (broken_by b)) is holds they gives = model given (sym is ∙ holds) (sym they) gives
 class-refusal files class given form (Err no_memory) is holds they gives = tt
 
 -- ---- trees
 
-pub asked-text : (path : List (List ℕ)) (files : List FileTree) (class : ClassDefOf Body) (r : Result (List ℕ) Stop) → IsAskedClass path files class → length path ≡ 1
-    → IfOk r (λ t. ClassGives files class (written t)) → IfOk r (λ t. TreesGive path files (written t))
-asked-text path files class (Ok t) asked one gives = outermost class asked one gives
-asked-text path files class (Err s) asked one gives = tt
+pub asked-flat : (path : List (List ℕ)) (files : List FileTree) (class : ClassDefOf Body) (r : Result FlatModel Stop) → IsAskedClass path files class → length path ≡ 1
+    → IfOk r (λ m. ClassGives files class (flat m)) → IfOk r (λ m. TreesGive path files (flat m))
+asked-flat path files class (Ok m) asked one gives = outermost class asked one gives
+asked-flat path files class (Err s) asked one gives = tt
 
-pub asked-refusal : (path : List (List ℕ)) (files : List FileTree) (class : ClassDefOf Body) (r : Result (List ℕ) Stop) → IsAskedClass path files class → length path ≡ 1
+pub asked-refusal : (path : List (List ℕ)) (files : List FileTree) (class : ClassDefOf Body) (r : Result FlatModel Stop) → IsAskedClass path files class → length path ≡ 1
     → IfBroken r (λ b. ClassGives files class (broken b)) → IfBroken r (λ b. TreesGive path files (broken b))
-asked-refusal path files class (Ok t) asked one gives = tt
+asked-refusal path files class (Ok m) asked one gives = tt
 asked-refusal path files class (Err (broken_by b)) asked one gives = outermost class asked one gives
 asked-refusal path files class (Err no_memory) asked one gives = tt
 
-pub no-tree : {T : Type 0} (path : List (List ℕ)) (files : List FileTree) (r : Result T Stop) (s : Stop) → r ≡ Err s → IfBroken r (λ b. broken_tree files ≡ Some b) → IfBroken {T = List ℕ} (Err s) (λ b. TreesGive path files (broken b))
+pub no-tree : {T : Type 0} (path : List (List ℕ)) (files : List FileTree) (r : Result T Stop) (s : Stop) → r ≡ Err s → IfBroken r (λ b. broken_tree files ≡ Some b) → IfBroken {T = FlatModel} (Err s) (λ b. TreesGive path files (broken b))
 no-tree {T} path files r s is was = at s (rw is at was)
   where
-    at : (s : Stop) → IfBroken {T = T} (Err s) (λ b. broken_tree files ≡ Some b) → IfBroken {T = List ℕ} (Err s) (λ b. TreesGive path files (broken b))
+    at : (s : Stop) → IfBroken {T = T} (Err s) (λ b. broken_tree files ≡ Some b) → IfBroken {T = FlatModel} (Err s) (λ b. TreesGive path files (broken b))
     at (broken_by b) was = no_tree b was refl
     at no_memory was = tt
 
 -- ---- texts
 
-pub trees-text : (path texts : List (List ℕ)) (lists : List (List Lexeme)) (files : List FileTree) (r : Result (List ℕ) Stop) → Tokens texts (Ok lists) → Trees lists (Ok files)
-    → IfOk r (λ t. TreesGive path files (written t)) → IfOk r (λ t. TextsGive path texts (written t))
-trees-text path texts lists files (Ok t) tokens trees_are gives = trees lists files tokens trees_are gives
-trees-text path texts lists files (Err s) tokens trees_are gives = tt
+pub trees-flat : (path texts : List (List ℕ)) (lists : List (List Lexeme)) (files : List FileTree) (r : Result FlatModel Stop) → Tokens texts (Ok lists) → Trees lists (Ok files)
+    → IfOk r (λ m. TreesGive path files (flat m)) → IfOk r (λ m. TextsGive path texts (flat m))
+trees-flat path texts lists files (Ok m) tokens trees_are gives = trees lists files tokens trees_are gives
+trees-flat path texts lists files (Err s) tokens trees_are gives = tt
 
-pub trees-refusal : (path texts : List (List ℕ)) (lists : List (List Lexeme)) (files : List FileTree) (r : Result (List ℕ) Stop) → Tokens texts (Ok lists) → Trees lists (Ok files)
+pub trees-refusal : (path texts : List (List ℕ)) (lists : List (List Lexeme)) (files : List FileTree) (r : Result FlatModel Stop) → Tokens texts (Ok lists) → Trees lists (Ok files)
     → IfBroken r (λ b. TreesGive path files (broken b)) → IfBroken r (λ b. TextsGive path texts (broken b))
-trees-refusal path texts lists files (Ok t) tokens trees_are gives = tt
+trees-refusal path texts lists files (Ok m) tokens trees_are gives = tt
 trees-refusal path texts lists files (Err (broken_by b)) tokens trees_are gives = trees lists files tokens trees_are gives
 trees-refusal path texts lists files (Err no_memory) tokens trees_are gives = tt
 
 pub no-trees : {T : Type 0} (path texts : List (List ℕ)) (lists : List (List Lexeme)) (r : Result T Stop) (s : Stop) → r ≡ Err s → Tokens texts (Ok lists) → IfBroken r (λ b. Trees lists (Err b))
-    → IfBroken {T = List ℕ} (Err s) (λ b. TextsGive path texts (broken b))
+    → IfBroken {T = FlatModel} (Err s) (λ b. TextsGive path texts (broken b))
 no-trees {T} path texts lists r s is tokens was = at s (rw is at was)
   where
-    at : (s : Stop) → IfBroken {T = T} (Err s) (λ b. Trees lists (Err b)) → IfBroken {T = List ℕ} (Err s) (λ b. TextsGive path texts (broken b))
+    at : (s : Stop) → IfBroken {T = T} (Err s) (λ b. Trees lists (Err b)) → IfBroken {T = FlatModel} (Err s) (λ b. TextsGive path texts (broken b))
     at (broken_by b) was = no_trees b lists tokens was refl
     at no_memory was = tt
 
-pub no-tokens : {T : Type 0} (path texts : List (List ℕ)) (r : Result T Stop) (s : Stop) → r ≡ Err s → IfBroken r (λ b. Tokens texts (Err b)) → IfBroken {T = List ℕ} (Err s) (λ b. TextsGive path texts (broken b))
+pub no-tokens : {T : Type 0} (path texts : List (List ℕ)) (r : Result T Stop) (s : Stop) → r ≡ Err s → IfBroken r (λ b. Tokens texts (Err b)) → IfBroken {T = FlatModel} (Err s) (λ b. TextsGive path texts (broken b))
 no-tokens {T} path texts r s is was = at s (rw is at was)
   where
-    at : (s : Stop) → IfBroken {T = T} (Err s) (λ b. Tokens texts (Err b)) → IfBroken {T = List ℕ} (Err s) (λ b. TextsGive path texts (broken b))
+    at : (s : Stop) → IfBroken {T = T} (Err s) (λ b. Tokens texts (Err b)) → IfBroken {T = FlatModel} (Err s) (λ b. TextsGive path texts (broken b))
     at (broken_by b) was = no_tokens b was refl
     at no_memory was = tt
 
 -- ---- what is told
 
-pub told-done : (path names texts : List (List ℕ)) (given line : List ℕ) → line ≡ given → TextsGive path texts (written given) → TellsTexts path names texts Done line
-told-done path names texts given line is gives = done (subst (λ (x : List ℕ). TextsGive path texts (written x)) (sym is) gives) refl
+pub told-written : (path : List (List ℕ)) (emit : Emit) (names texts : List (List ℕ)) (status : Status) (bytes line : List ℕ) → line ≡ bytes → WritesGiven (TextsGive path texts) emit status bytes
+    → TellsTexts path emit names texts status line
+told-written path emit names texts status bytes line is writes = written (subst (λ (x : List ℕ). WritesGiven (TextsGive path texts) emit status x) (sym is) writes)
 
-pub told-refused : (path names texts : List (List ℕ)) (b : Broken) (line : List ℕ) → line ≡ line_of_broken names texts b → TextsGive path texts (broken b) → TellsTexts path names texts Refuses line
-told-refused path names texts b line is gives = refused b gives refl is
+pub told-refused : (path : List (List ℕ)) (emit : Emit) (names texts : List (List ℕ)) (b : Broken) (line : List ℕ) → line ≡ line_of_broken names texts b → Breaks (TextsGive path texts) emit b
+    → TellsTexts path emit names texts refused_status line
+told-refused path emit names texts b line is breaks = refused b breaks refl is
+
+-- of the model that the texts give
+pub written-given : (path texts : List (List ℕ)) (emit : Emit) (m : FlatModel) (r : Result (Status × List ℕ) Stop) → TextsGive path texts (flat m) → IfOk r (λ w. Writes emit m w.0 w.1)
+    → IfOk r (λ w. WritesGiven (TextsGive path texts) emit w.0 w.1)
+written-given path texts emit m (Ok w) gives writes = record { m = m; given = gives; writes = writes }
+written-given path texts emit m (Err s) gives writes = tt
+
+pub broken-given : (path texts : List (List ℕ)) (emit : Emit) (m : FlatModel) (r : Result (Status × List ℕ) Stop) → TextsGive path texts (flat m) → IfBroken r (λ b. Refuses emit m b)
+    → IfBroken r (λ b. Breaks (TextsGive path texts) emit b)
+broken-given path texts emit m (Ok w) gives refuses = tt
+broken-given path texts emit m (Err (broken_by b)) gives refuses = no_text m gives refuses
+broken-given path texts emit m (Err no_memory) gives refuses = tt
+
+-- the texts give no model
+pub broken-before : (path texts : List (List ℕ)) (emit : Emit) (r : Result FlatModel Stop) (s : Stop) → r ≡ Err s → IfBroken r (λ b. TextsGive path texts (broken b))
+    → IfBroken {T = Status × List ℕ} (Err s) (λ b. Breaks (TextsGive path texts) emit b)
+broken-before path texts emit r s is was = at s (rw is at was)
+  where
+    at : (s : Stop) → IfBroken {T = FlatModel} (Err s) (λ b. TextsGive path texts (broken b)) → IfBroken {T = Status × List ℕ} (Err s) (λ b. Breaks (TextsGive path texts) emit b)
+    at (broken_by b) was = no_model was
+    at no_memory was = tt
 
 -- the bytes of files that were read are their texts
 read-bytes : (contents : Contents) (k left : ℕ) (names texts : List (List ℕ)) → Reads contents k left names (Ok texts) → bytes_of_all contents names ≡ texts
@@ -121,23 +147,51 @@ read-bytes contents k left (name ∷ names) [] r = elim r [ ]
 read-bytes contents k left (name ∷ names) (t ∷ texts) (text it more) =
     ap (λ (x : List ℕ). x ∷ bytes_of_all contents names) (ap (λ (o : Option (List ℕ)). unwrap_or o []) it.holds) ∙ ap (λ (xs : List (List ℕ)). t ∷ xs) (read-bytes contents (k + 1) (left - length t) names texts more)
 
-tells : (path names texts : List (List ℕ)) (contents : Contents) (status : Status) (line : List ℕ) → Reads contents 1 all_files_limit names (Ok texts) → TellsTexts path names texts status line → Tells path names contents status line
-tells path names texts contents status line reads (done gives is) = told.done (read texts reads gives) is
-tells path names texts contents status line reads (refused b gives is line_is) =
-    told.refused b (read texts reads gives) is (line_is ∙ ap (λ (x : List (List ℕ)). line_of_broken names x b) (sym (read-bytes contents 1 all_files_limit names texts reads)))
+-- what is given by the texts of files is given by the files
+breaks-of-files : (path : List (List ℕ)) (emit : Emit) (names texts : List (List ℕ)) (contents : Contents) (b : Broken) → Reads contents 1 all_files_limit names (Ok texts)
+    → Breaks (TextsGive path texts) emit b → Breaks (FilesGive path names contents) emit b
+breaks-of-files path emit names texts contents b reads (no_model gives) = no_model (read texts reads gives)
+breaks-of-files path emit names texts contents b reads (no_text m gives refuses) = no_text m (read texts reads gives) refuses
 
-pub told-texts : (tells_of : Option Contents) (path names texts : List (List ℕ)) (r : Result (Status × List ℕ) NoMemory) (a : Status × List ℕ) → r ≡ Ok a → IfSome tells_of (λ contents. Reads contents 1 all_files_limit names (Ok texts))
-    → IfOk r (λ x. TellsTexts path names texts x.0 x.1) → IfSome tells_of (λ contents. Tells path names contents a.0 a.1)
-told-texts None path names texts r a is reads gives = tt
-told-texts (Some contents) path names texts r a is reads gives = tells path names texts contents a.0 a.1 reads (rw is at gives)
+tells : (path : List (List ℕ)) (emit : Emit) (names texts : List (List ℕ)) (contents : Contents) (status : Status) (line : List ℕ) → Reads contents 1 all_files_limit names (Ok texts)
+    → TellsTexts path emit names texts status line → Tells path emit names contents status line
+tells path emit names texts contents status line reads (written w) = written (record { m = w.m; given = read texts reads w.given; writes = w.writes })
+tells path emit names texts contents status line reads (refused b breaks is line_is) =
+    refused b (breaks-of-files path emit names texts contents b reads breaks) is
+    (line_is ∙ ap (λ (x : List (List ℕ)). line_of_broken names x b) (sym (read-bytes contents 1 all_files_limit names texts reads)))
 
-pub told-line : (tells_of : Option Contents) (path names : List (List ℕ)) (line : List ℕ) → IfSome tells_of (λ contents. RefusesReading contents names (Refused line)) → IfSome tells_of (λ contents. Tells path names contents Refuses line)
-told-line None path names line refuses = tt
-told-line (Some contents) path names line refuses = told.refused refuses.b (unread refuses.b refuses.reads refl) refl refuses.is
+pub told-texts : (tells_of : Option Contents) (path : List (List ℕ)) (emit : Emit) (names texts : List (List ℕ)) (r : Result (Status × List ℕ) NoMemory) (a : Status × List ℕ) → r ≡ Ok a
+    → IfSome tells_of (λ contents. Reads contents 1 all_files_limit names (Ok texts)) → IfOk r (λ x. TellsTexts path emit names texts x.0 x.1) → IfSome tells_of (λ contents. Tells path emit names contents a.0 a.1)
+told-texts None path emit names texts r a is reads gives = tt
+told-texts (Some contents) path emit names texts r a is reads gives = tells path emit names texts contents a.0 a.1 reads (rw is at gives)
 
-pub answers : (path names texts : List (List ℕ)) (status : Status) (line : List ℕ) → TellsTexts path names texts status line → IsAnswer status
-answers path names texts status line (done gives is) = rw is tt
-answers path names texts status line (refused b gives is line_is) = rw is tt
+pub told-line : (tells_of : Option Contents) (path : List (List ℕ)) (emit : Emit) (names : List (List ℕ)) (line : List ℕ) → IfSome tells_of (λ contents. RefusesReading contents names (Refused line))
+    → IfSome tells_of (λ contents. Tells path emit names contents refused_status line)
+told-line None path emit names line refuses = tt
+told-line (Some contents) path emit names line refuses = refused refuses.b (no_model (unread refuses.b refuses.reads refl)) refl refuses.is
+
+-- ---- the status
+
+answer-of : (b : Bool) → IsAnswer (if b then Singular else Done)
+answer-of true = tt
+answer-of false = tt
+
+writes-answer : (emit : Emit) (m : FlatModel) (status : Status) (bytes : List ℕ) → Writes emit m status bytes → IsAnswer status
+writes-answer emit m status bytes (flat_text asked is bytes_are) = rw is tt
+writes-answer emit m status bytes (analysed r asked accepted right passed is bytes_are) = rw is (answer-of (is_singular r))
+
+pub answers : (path : List (List ℕ)) (emit : Emit) (names texts : List (List ℕ)) (status : Status) (line : List ℕ) → TellsTexts path emit names texts status line → IsAnswer status
+answers path emit names texts status line (written w) = writes-answer emit w.m status line w.writes
+answers path emit names texts status line (refused b breaks is line_is) = rw is tt
+
+-- a flat text is never singular
+flat-done : (emit : Emit) (m : FlatModel) (status : Status) (bytes : List ℕ) → Writes emit m status bytes → emit ≡ asks.Flat → status ≡ Singular → ⊥
+flat-done emit m status bytes (flat_text asked is bytes_are) only_flat singular = cc
+flat-done emit m status bytes (analysed r asked accepted right passed is bytes_are) only_flat singular = asked only_flat
+
+pub never-singular : (path : List (List ℕ)) (emit : Emit) (names texts : List (List ℕ)) (status : Status) (line : List ℕ) → TellsTexts path emit names texts status line → emit ≡ asks.Flat → status ≡ Singular → ⊥
+never-singular path emit names texts status line (written w) only_flat singular = flat-done emit w.m status line w.writes only_flat singular
+never-singular path emit names texts status line (refused b breaks is line_is) only_flat singular = cc
 
 -- the class that was found
 pub asked-class : (path : List (List ℕ)) (files list : List FileTree) (found : ClassAt) → list ≡ files → Some (row_of found) ≡ class_of_path list path → broken_class (class_of_path files path) ≡ None

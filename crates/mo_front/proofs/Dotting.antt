@@ -1,13 +1,9 @@
 -- Names with dots between them.
-use Rattle.std.proofs.Common.{◌≡◌, ◌<◌, ◌≤◌, ◌-◌, ℕ, suc, List, [], ◌∷◌, ◌++◌, length, drop, take, get_or, subst, Option, Some, None, refl, ap, sym, ◌∙◌, append_assoc, arith}
-use Rattle.std.specs.Prelude.{string_bytes}
-use Rattle.std.specs.declared.string.String.{String}
-use Rattle.std.specs.declared.alloc.Global.{Global}
-use Rattle.std.proofs.lemmas.List.{length-drop, length-map, take_all}
+use Rattle.std.proofs.Common.{◌≡◌, ◌<◌, ◌≤◌, ◌-◌, ℕ, List, [], ◌∷◌, ◌++◌, length, drop, take, Option, Some, None, refl, ap, sym, ◌∙◌, append_assoc, arith}
+use Rattle.std.proofs.lemmas.List.{length-drop, take_all}
 use Rattle.mo_syntax.specs.declared.token.Token.{Token}
 use Rattle.mo_syntax.specs.Lexeme.{Lexeme, lexemes}
-use Rattle.mo_front.specs.Run.{Names, words, words_of}
-use Rattle.mo_front.specs.Words.{NamesClass, before, dotted_names, name_alone, name_before_dot, with_dots}
+use Rattle.mo_front.specs.Words.{before, dotted_names, name_alone, name_before_dot, with_dots}
 
 -- names before those that tokens are
 abbrev pub behind : List (List ℕ) → Option (List (List ℕ)) → Option (List (List ℕ))
@@ -67,27 +63,3 @@ other-word mine yours names path listed word joined some same is they joined_is 
 
     one : names ≡ path
     one = cc
-
--- ---- the words of the command line
-
-words-split : (all : List (String Global)) (d : String Global) (name : List ℕ) → 1 ≤ length all → name ≡ string_bytes (get_or all 0 d) → words_of all ≡ name ∷ words_of (take (length all - 1) (drop 1 all))
-words-split [] d name some is = absurd (omega (arith, some))
-words-split (w ∷ all) d name some is =
-    ap (λ (x : List ℕ). x ∷ words_of all) (sym is) ∙ ap (λ (x : List (String Global)). name ∷ words_of x) (sym (take_all (length (w ∷ all) - 1) all (omega (arith, length-more w all))))
-  where
-    length-more : (w : String Global) (xs : List (String Global)) → length (w ∷ xs) ≡ suc (length xs)
-    length-more w xs = refl
-
-pub names-words : (all : List (String Global)) (d : String Global) (name : List ℕ) (path : List (List ℕ)) → 1 ≤ length all → name ≡ string_bytes (get_or all 0 d) → NamesClass name path
-    → 1 ≤ length (take (length all - 1) (drop 1 all)) → length (take (length all - 1) (drop 1 all)) ≤ 64 → Names (words_of all) path (words_of (take (length all - 1) (drop 1 all)))
-names-words all d name path some is names one most =
-    words name (words-split all d name some is) names (rw (length-map (take (length all - 1) (drop 1 all)) string_bytes) one) (rw (length-map (take (length all - 1) (drop 1 all)) string_bytes) most)
-
-pub no-names : (all : List (String Global)) (d : String Global) (name : List ℕ) → 1 ≤ length all → name ≡ string_bytes (get_or all 0 d) → ((path : List (List ℕ)) → NamesClass name path → ⊥)
-    → (path files : List (List ℕ)) → Names (words_of all) path files → ⊥
-no-names all d name some is none path files (words class split names one most) = none path (subst (λ (x : List ℕ). NamesClass x path) (sym same) names)
-  where
-    same : name ≡ class
-    same =
-        let both : name ∷ words_of (take (length all - 1) (drop 1 all)) ≡ class ∷ files = sym (words-split all d name some is) ∙ split in
-        cc

@@ -1,13 +1,11 @@
 -- Names that are looked up, one more at a time.
 use Rattle.std.proofs.Common.{◌≡◌, ◌<◌, ◌+◌, ℕ, suc, arith, Bool, true, false, cond, ◌||◌, List, [], ◌∷◌, ◌++◌, length, Option, Some, None, if◌then◌else◌, refl, ap, sym, ◌∙◌}
-use Rattle.std.specs.List.{position_or_len}
 use Rattle.std.specs.Str.{bytes_eq}
 use Rattle.std.proofs.lemmas.List.Folds.{list_any-append}
 use Rattle.std.proofs.lemmas.List.{length-append}
 use Rattle.std.proofs.lemmas.Slice.Eq.{bytes_eq-Decides}
 use Rattle.mo_front.specs.declared.model.NameAt.{NameAt}
-use Rattle.mo_front.specs.Flat.{number_of}
-use Rattle.mo_front.specs.Known.{number_in}
+use Rattle.mo_front.specs.Flat.{number_in, number_of}
 use Rattle.mo_front.specs.Names.{has_name, is_among}
 
 bytes_eq-true : (xs ys : List ℕ) → bytes_eq xs ys ≡ true → xs ≡ ys
@@ -25,37 +23,11 @@ among-more names all text bytes name before after are is changed held =
     changed ∙ ap (λ (b : Bool). cond (bytes_eq bytes name) true b) held ∙ ap (λ (x : List ℕ). cond (bytes_eq x name) true (is_among names name)) is
     ∙ sym (either (is_among names name) (bytes_eq text name)) ∙ sym (list_any-append (λ other. bytes_eq other name) names (text ∷ [])) ∙ ap (λ (x : List (List ℕ)). is_among x name) (sym are)
 
-next-length : (k : ℕ) → 1 + k ≡ suc k
-next-length k = omega arith
-
 one-more : (k : ℕ) → 1 + k + 1 ≡ k + 1 + 1
 one-more k = omega arith
 
 suc-more : (k : ℕ) → k + 1 + 1 ≡ suc k + 1
 suc-more k = omega arith
-
--- a name that is not there has the place behind them
-placed-behind : (names : List NameAt) (name : List ℕ) → has_name names name ≡ false → position_or_len (λ n. bytes_eq n.name name) names ≡ length names
-placed-behind [] name absent = refl
-placed-behind (n ∷ names) name absent = at (bytes_eq n.name name) refl absent (λ below. placed-behind names name below)
-  where
-    true_is : true ≡ false → ⊥
-    true_is eq = cc
-
-    at : (b : Bool) → bytes_eq n.name name ≡ b → (b || has_name names name) ≡ false → (has_name names name ≡ false → position_or_len (λ n. bytes_eq n.name name) names ≡ length names)
-        → position_or_len (λ n. bytes_eq n.name name) (n ∷ names) ≡ length (n ∷ names)
-    at true is absent below = absurd (true_is absent)
-    at false is absent below = rw is (ap (λ k. 1 + k) (below absent) ∙ next-length (length names))
-
-pub unknown-number : (names : List NameAt) (name : List ℕ) (g : Option ℕ) → g ≡ number_in names name → g ≡ None → length names + 1 ≡ number_of names name
-unknown-number names name g is none = at (has_name names name) refl
-  where
-    some_is : (n : ℕ) → None ≡ Some n → ⊥
-    some_is n eq = cc
-
-    at : (b : Bool) → has_name names name ≡ b → length names + 1 ≡ number_of names name
-    at true has = absurd (some_is (number_of names name) (sym none ∙ is ∙ (rw has refl)))
-    at false has = ap (λ k. k + 1) (sym (placed-behind names name has))
 
 abbrev up : Option ℕ → Option ℕ
 up None = None

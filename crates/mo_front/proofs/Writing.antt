@@ -1,30 +1,54 @@
 -- What was written of what is told.
-use Rattle.std.proofs.Common.{◌≡◌, ℕ, List, Option, Some, None, IfSome, ap, ◌∙◌, subst}
+use Rattle.std.proofs.Common.{◌≡◌, ℕ, List, Option, Some, None, IfSome, ap, sym, ◌∙◌, subst, refl, slice_index, if◌then◌else◌, ◌==◌}
 use Rattle.mo_ports.specs.Contents.{Contents}
 use Rattle.mo_ports.specs.Written.{AppendsFront, appended}
 use Rattle.mo_front.specs.declared.status.Status.{Status}
-use Rattle.mo_front.specs.Run.{Names, TellsWords, WritesFront, WritesTold}
+use Rattle.mo_front.specs.declared.words.Emit.{Emit}
+use Rattle.mo_front.specs.Run.{TellsWords, WritesFront, WritesTold}
 use Rattle.mo_front.specs.Told.{Tells}
+use Rattle.mo_front.specs.declared.words.Emit.TheVariants as asks
+use Rattle.mo_front.specs.Words.{AsksFor, Names, word_of}
 
-pub writes-told : (told : Option Contents) (path files : List (List ℕ)) (before after : Option (List ℕ)) (status : Status) (line bytes : List ℕ) → IfSome told (λ contents. Tells path files contents status line)
-    → after ≡ appended before bytes → bytes ≡ line → IfSome told (λ contents. WritesTold (Tells path files contents) before after status)
-writes-told None path files before after status line bytes tells wrote is = tt
-writes-told (Some contents) path files before after status line bytes tells wrote is = record { text = line; told = tells; written = wrote ∙ ap (appended before) is }
+pub writes-told : (told : Option Contents) (path : List (List ℕ)) (emit : Emit) (files : List (List ℕ)) (before after : Option (List ℕ)) (status : Status) (line bytes : List ℕ) → IfSome told (λ contents. Tells path emit files contents status line)
+    → after ≡ appended before bytes → bytes ≡ line → IfSome told (λ contents. WritesTold (Tells path emit files contents) before after status)
+writes-told None path emit files before after status line bytes tells wrote is = tt
+writes-told (Some contents) path emit files before after status line bytes tells wrote is = record { text = line; told = tells; written = wrote ∙ ap (appended before) is }
 
-pub writes-front : (told : Option Contents) (path files : List (List ℕ)) (before after : Option (List ℕ)) (status : Status) (line bytes : List ℕ) → IfSome told (λ contents. Tells path files contents status line)
-    → AppendsFront before after bytes → bytes ≡ line → IfSome told (λ contents. WritesFront (Tells path files contents) before after)
-writes-front None path files before after status line bytes tells wrote is = tt
-writes-front (Some contents) path files before after status line bytes tells wrote is =
+pub writes-front : (told : Option Contents) (path : List (List ℕ)) (emit : Emit) (files : List (List ℕ)) (before after : Option (List ℕ)) (status : Status) (line bytes : List ℕ) → IfSome told (λ contents. Tells path emit files contents status line)
+    → AppendsFront before after bytes → bytes ≡ line → IfSome told (λ contents. WritesFront (Tells path emit files contents) before after)
+writes-front None path emit files before after status line bytes tells wrote is = tt
+writes-front (Some contents) path emit files before after status line bytes tells wrote is =
     record { status = status; text = line; told = tells; written = subst (λ (x : List ℕ). AppendsFront before after x) is wrote }
 
-pub words-told : (told : Option Contents) (words path files : List (List ℕ)) (before after : Option (List ℕ)) (status : Status) → Names words path files
-    → IfSome told (λ contents. WritesTold (Tells path files contents) before after status) → IfSome told (λ contents. WritesTold (TellsWords words contents) before after status)
-words-told None words path files before after status names wrote = tt
-words-told (Some contents) words path files before after status names wrote =
-    record { text = wrote.text; told = record { path = path; files = files; names = names; tells = wrote.told }; written = wrote.written }
+pub words-told : (told : Option Contents) (words path files : List (List ℕ)) (before after : Option (List ℕ)) (status : Status) (emit : Emit) → Names words path emit files
+    → IfSome told (λ contents. WritesTold (Tells path emit files contents) before after status) → IfSome told (λ contents. WritesTold (TellsWords words contents) before after status)
+words-told None words path files before after status emit names wrote = tt
+words-told (Some contents) words path files before after status emit names wrote =
+    record { text = wrote.text; told = record { path = path; files = files; emit = emit; names = names; tells = wrote.told }; written = wrote.written }
 
-pub words-front : (told : Option Contents) (words path files : List (List ℕ)) (before after : Option (List ℕ)) → Names words path files
-    → IfSome told (λ contents. WritesFront (Tells path files contents) before after) → IfSome told (λ contents. WritesFront (TellsWords words contents) before after)
-words-front None words path files before after names wrote = tt
-words-front (Some contents) words path files before after names wrote =
-    record { status = wrote.status; text = wrote.text; told = record { path = path; files = files; names = names; tells = wrote.told }; written = wrote.written }
+pub words-front : (told : Option Contents) (words path files : List (List ℕ)) (before after : Option (List ℕ)) (emit : Emit) → Names words path emit files
+    → IfSome told (λ contents. WritesFront (Tells path emit files contents) before after) → IfSome told (λ contents. WritesFront (TellsWords words contents) before after)
+words-front None words path files before after emit names wrote = tt
+words-front (Some contents) words path files before after emit names wrote =
+    record { status = wrote.status; text = wrote.text; told = record { path = path; files = files; emit = emit; names = names; tells = wrote.told }; written = wrote.written }
+
+-- ---- what the words ask for
+
+-- what is asked for by a word, which its third letter tells
+asked_by : List ℕ → Emit
+asked_by word = if slice_index word 2 == 97 then asks.Flat else (if slice_index word 2 == 100 then asks.Reduced else (if slice_index word 2 == 112 then asks.Report else asks.All))
+
+asked-word : (emit : Emit) → asked_by (word_of emit) ≡ emit
+unfolding asked_by
+asked-word asks.Flat = refl
+asked-word asks.Reduced = refl
+asked-word asks.Report = refl
+asked-word asks.All = refl
+
+one-asked : (word : Option (List ℕ)) (emit other : Emit) → AsksFor word emit → AsksFor word other → emit ≡ other
+one-asked None emit other is also = is ∙ sym also
+one-asked (Some word) emit other is also = sym (asked-word emit) ∙ ap asked_by (sym is ∙ also) ∙ asked-word other
+
+-- words ask for one thing only
+pub one-emit : (words path others files more : List (List ℕ)) (emit other : Emit) → Names words path emit files → Names words others other more → emit ≡ other
+one-emit words path others files more emit other names again = one-asked _ emit other names.asks.asks_for again.asks.asks_for

@@ -1,19 +1,15 @@
 -- Names that are looked up in ordered sets and maps.
-use Rattle.std.specs.Prelude.{◌≡◌, ◌<◌, ◌^◌, ◌-◌, ℕ, List, length, Option, Some, None, if◌then◌else◌}
+use Rattle.std.specs.Prelude.{◌≡◌, ◌<◌, ◌^◌, ◌-◌, ℕ, List, length}
 use Rattle.std.specs.BTreeMap.{get_by_text}
 use Rattle.std.specs.BTreeSet.{contains_text}
-use Rattle.mo_front.specs.declared.model.NameAt.{NameAt}
 use Rattle.mo_front.specs.declared.top.TopNames.{TopNames}
 use Rattle.mo_front.specs.declared.variables.Variables.{Variables}
-use Rattle.mo_front.specs.Flat.{number_of}
-use Rattle.mo_front.specs.Names.{has_name, is_among}
+use Rattle.mo_front.specs.Flat.{number_in}
+use Rattle.mo_front.specs.Names.{is_among}
 
 -- the set holds the names
 abbrev pub IsKnown : TopNames → Type 0
 IsKnown top = (name : List ℕ) → contains_text top.set name ≡ is_among top.names name
-
-abbrev pub number_in : List NameAt → List ℕ → Option ℕ
-number_in names name = if has_name names name then Some (number_of names name) else None
 
 -- the map holds the number of each name, and there are few enough
 abbrev pub IsNumbered : Variables → Type 0

@@ -1,3 +1,4 @@
+pub mod Emitted
 pub mod Files
 pub mod Flat
 pub mod Form
@@ -7,5 +8,6 @@ pub mod Loading
 pub mod Names
 pub mod Refusal
 pub mod Run
+pub mod Structure
 pub mod Told
 pub mod Words

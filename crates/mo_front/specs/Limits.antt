@@ -13,7 +13,14 @@ file_limit = 4194304
 abbrev pub all_files_limit : ℕ
 all_files_limit = 16777216
 
--- the most unknowns of a flat model, and the most equations
+-- the most derivatives around one another; no source text within its limits has so many
+abbrev pub derivative_limit : ℕ
+derivative_limit = 128
+
+-- the most variables of a flat model, the most unknowns among them, and the most equations
+abbrev pub variable_limit : ℕ
+variable_limit = 400000
+
 abbrev pub unknown_limit : ℕ
 unknown_limit = 50000
 

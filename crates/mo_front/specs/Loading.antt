@@ -8,8 +8,8 @@ use Rattle.mo_front.specs.declared.load.Unread.TheVariants.{Fault, NoMemory, Ref
 use Rattle.mo_front.specs.Files.{BreaksFile, Each, Reads, breaks_at}
 use Rattle.mo_front.specs.Limits.{all_files_limit}
 use Rattle.mo_front.specs.declared.status.Status.{Status}
-use Rattle.mo_front.specs.declared.status.Status.TheVariants.{Done, Refused as Refuses}
-use Rattle.mo_front.specs.Told.{TextsGive, written, broken, bytes_of_all, line_of_broken}
+use Rattle.mo_front.specs.declared.words.Emit.{Emit}
+use Rattle.mo_front.specs.Told.{TellsOf, TextsGive, bytes_of_all, line_of_broken}
 use Rattle.mo_front.specs.Refusal.{refusal_line}
 
 -- the line of a broken rule in a file of that name with these bytes, where memory suffices
@@ -52,9 +52,8 @@ RefusesReading contents names Fault = Unit {0}
 RefusesReading contents names NoMemory = Unit {0}
 
 -- what is told of a class and of files with these texts
-pub data TellsTexts (path names texts : List (List ℕ)) (status : Status) (text : List ℕ) : Type 0 where
-  done : TextsGive path texts (written text) → status ≡ Done → TellsTexts path names texts status text
-  refused : (b : Broken) → TextsGive path texts (broken b) → status ≡ Refuses → text ≡ line_of_broken names texts b → TellsTexts path names texts status text
+abbrev pub TellsTexts : (path : List (List ℕ)) → Emit → (names texts : List (List ℕ)) → Status → List ℕ → Type 0
+TellsTexts path emit names texts = TellsOf (TextsGive path texts) (line_of_broken names texts) emit
 
 -- ---- what is left of a phase
 

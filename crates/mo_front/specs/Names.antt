@@ -8,6 +8,8 @@ use Rattle.mo_syntax.specs.declared.class.FileTree.{FileTree}
 use Rattle.mo_syntax.specs.declared.equation.EquationOf.{EquationOf}
 use Rattle.mo_syntax.specs.declared.equation.EquationKind.{EquationKind}
 use Rattle.mo_syntax.specs.declared.equation.EquationKind.TheVariants.{Equal}
+use Rattle.mo_syntax.specs.declared.expr.Arg.{Arg, Arg-F, fold-Arg}
+use Rattle.mo_syntax.specs.declared.expr.Args.{Args, Args-F, fold-Args}
 use Rattle.mo_syntax.specs.declared.expr.Expr.{Expr, Expr-F, fold-Expr}
 use Rattle.mo_syntax.specs.declared.expr.Node.{Node, Node-F, fold-Node}
 use Rattle.mo_syntax.specs.declared.expr.PartOf.{PartOf}
@@ -18,26 +20,46 @@ use Rattle.mo_front.specs.declared.model.NameAt.{NameAt}
 
 -- ---- the names that an expression uses, from left to right
 
-abbrev pub name_at_part : {E : Type 0} → PartOf E → NameAt
-name_at_part part = record { name = part.name; place = part.place }
+-- the independent variable is used by no name (Modelica Language Specification 3.5, section 3.6.7)
+abbrev pub is_time : List ℕ → Bool
+is_time name = bytes_eq name (codes "time")
 
-abbrev pub used_in_node : Node-F (Unit {0}) (List NameAt) (Unit {0}) (List NameAt) → List NameAt
-used_in_node (Node-F.Ref reference) = map name_at_part reference.parts
+abbrev pub used_at_part : {E : Type 0} → PartOf E → List NameAt
+used_at_part part = if is_time part.name then [] else record { name = part.name; place = part.place } ∷ []
+
+abbrev pub Uses : Type 0
+Uses = List NameAt
+
+-- of a call the arguments
+abbrev pub used_in_node : Node-F Uses Uses Uses Uses → Uses
+used_in_node (Node-F.Ref reference) = flat_map used_at_part reference.parts
 used_in_node (Node-F.Sum terms) = flat_map (λ t. t.value) terms
 used_in_node (Node-F.Product factors) = flat_map (λ f. f.value) factors
+used_in_node (Node-F.Power base dotted exponent) = base ++ exponent
+used_in_node (Node-F.Call callee arguments) = arguments
 used_in_node _ = []
 
-abbrev pub nothing_used : {A : Type 0} → A → Unit {0}
-nothing_used a = tt
+abbrev pub used_in_arguments : Args-F Uses Uses Uses Uses → Uses
+used_in_arguments arguments = flat_map (λ a. a) arguments.plain
 
-abbrev pub used_in_expr : Expr-F (Unit {0}) (List NameAt) (Unit {0}) (List NameAt) → List NameAt
+abbrev pub used_in_argument : Arg-F Uses Uses Uses Uses → Uses
+used_in_argument (Arg-F.Value value) = value
+used_in_argument (Arg-F.Partial function named) = []
+
+abbrev pub used_in_expr : Expr-F Uses Uses Uses Uses → Uses
 used_in_expr e = e.node
 
-abbrev pub used : Expr → List NameAt
-used = fold-Expr (Unit {0}) (List NameAt) (Unit {0}) (List NameAt) nothing_used used_in_node nothing_used used_in_expr
+abbrev pub used : Expr → Uses
+used = fold-Expr Uses Uses Uses Uses used_in_argument used_in_node used_in_arguments used_in_expr
 
-abbrev pub used_below : Node → List NameAt
-used_below = fold-Node (Unit {0}) (List NameAt) (Unit {0}) (List NameAt) nothing_used used_in_node nothing_used used_in_expr
+abbrev pub used_below : Node → Uses
+used_below = fold-Node Uses Uses Uses Uses used_in_argument used_in_node used_in_arguments used_in_expr
+
+abbrev pub used_by_argument : Arg → Uses
+used_by_argument = fold-Arg Uses Uses Uses Uses used_in_argument used_in_node used_in_arguments used_in_expr
+
+abbrev pub used_by_arguments : Args → Uses
+used_by_arguments = fold-Args Uses Uses Uses Uses used_in_argument used_in_node used_in_arguments used_in_expr
 
 abbrev pub used_in_kind : EquationKind → List NameAt
 used_in_kind (Equal left right) = used left ++ used right

@@ -1,31 +1,28 @@
 -- What the whole program writes, and where its answers come from.
-use Rattle.std.specs.Prelude.{◌≡◌, ◌≤◌, ℕ, List, ◌∷◌, length, map, Option, Some, Contains, string_bytes}
+use Rattle.std.specs.Prelude.{◌≡◌, ℕ, List, map, Option, Some, Contains, string_bytes}
 use Rattle.std.specs.declared.string.String.{String}
 use Rattle.std.specs.declared.alloc.Global.{Global}
 use Rattle.mo_ports.specs.Contents.{Contents}
 use Rattle.mo_ports.specs.Written.{AppendsFront, appended}
 use Rattle.mo_front.specs.declared.status.Status.{Status}
 use Rattle.mo_front.specs.declared.status.Status.TheVariants.{Done, Refused, Singular, Usage, ReadFault, WriteFault, NoMemory}
-use Rattle.mo_front.specs.Limits.{most_files}
 use Rattle.mo_front.specs.Told.{Tells}
-use Rattle.mo_front.specs.Words.{NamesClass}
+use Rattle.mo_front.specs.declared.words.Emit.{Emit}
+use Rattle.mo_front.specs.Words.{Names}
 
--- The words name a class and from 1 to 64 files.
-pub data Names : List (List ℕ) → List (List ℕ) → List (List ℕ) → Type 0 where
-  words : {all path files : List (List ℕ)} (class : List ℕ) → all ≡ class ∷ files → NamesClass class path → 1 ≤ length files → length files ≤ most_files → Names all path files
-
--- the words name a class and files, and of these the text is told with this status
+-- the words name a class and files and ask for a text, and of these the text is told with this status
 pub record TellsWords (words : List (List ℕ)) (contents : Contents) (status : Status) (text : List ℕ) : Type 0 where
   pub path : List (List ℕ)
   pub files : List (List ℕ)
-  pub names : Names words path files
-  pub tells : Tells path files contents status text
+  pub emit : Emit
+  pub names : Names words path emit files
+  pub tells : Tells path emit files contents status text
 
 -- the statuses that come with a text
 abbrev pub IsAnswer : Status → Type 0
 IsAnswer Done = Unit {0}
 IsAnswer Refused = Unit {0}
-IsAnswer Singular = ⊥
+IsAnswer Singular = Unit {0}
 IsAnswer Usage = ⊥
 IsAnswer ReadFault = ⊥
 IsAnswer WriteFault = ⊥
@@ -78,5 +75,6 @@ pub record IsNamedFault (failed : Option (List ℕ)) (names : List (List ℕ)) :
 pub record NamesFault (words : List (List ℕ)) (failed : Option (List ℕ)) : Type 0 where
   pub path : List (List ℕ)
   pub files : List (List ℕ)
-  pub names : Names words path files
+  pub emit : Emit
+  pub names : Names words path emit files
   pub fault : IsNamedFault failed files

@@ -1,4 +1,4 @@
--- What is told of a class and the named files: its flat text, or the line of the first broken rule.
+-- What is told of a class and the named files: the text of its flat model, or the line of the first broken rule.
 use Rattle.std.specs.Prelude.{◌≡◌, ℕ, ◌-◌, true, false, List, [], length, map, Some, None, unwrap_or, Ok, Err, slice_index_or}
 use Rattle.mo_syntax.specs.declared.class.Body.{Body}
 use Rattle.mo_syntax.specs.declared.class.ClassDefOf.{ClassDefOf}
@@ -10,21 +10,22 @@ use Rattle.mo_syntax.specs.Classes.{ClassRow}
 use Rattle.mo_syntax.specs.ClassTable.{class_of_path, broken_tree, broken_class}
 use Rattle.mo_syntax.specs.Lexeme.{Lexeme}
 use Rattle.mo_flat.specs.declared.model.FlatModel.{FlatModel}
-use Rattle.mo_flat.specs.Text.{model_text}
 use Rattle.mo_ports.specs.Contents.{Contents}
 use Rattle.mo_front.specs.declared.model.NameAt.{NameAt}
 use Rattle.mo_front.specs.declared.status.Status.{Status}
-use Rattle.mo_front.specs.declared.status.Status.TheVariants.{Done, Refused}
+use Rattle.mo_front.specs.declared.status.Status.TheVariants.{Refused}
+use Rattle.mo_front.specs.declared.words.Emit.{Emit}
+use Rattle.mo_front.specs.Emitted.{Refuses, Writes}
 use Rattle.mo_front.specs.Files.{Reads, Tokens, Trees}
 use Rattle.mo_front.specs.Flat.{flat_of, is_too_large}
-use Rattle.mo_front.specs.Form.{is_plain_model, items_of, declared_names, equations_in}
+use Rattle.mo_front.specs.Form.{is_plain_model, items_of, components_in, declared_names, equations_in}
 use Rattle.mo_front.specs.Limits.{all_files_limit}
 use Rattle.mo_front.specs.Names.{top_names, used_names, are_names_plain, first_undeclared}
 use Rattle.mo_front.specs.Refusal.{refusal_line}
 
--- a text, or the first broken rule with its place
+-- a flat model, or the first broken rule with its place
 pub data Outcome : Type 0 where
-  written : List ℕ → Outcome
+  flat : FlatModel → Outcome
   broken : Broken → Outcome
 
 -- ---- what a class gives
@@ -38,7 +39,7 @@ used_in items = used_names (equations_in items)
 
 -- the flat model of a class with these parts
 abbrev pub flat_class : ClassDefOf Body → List Item → FlatModel
-flat_class class items = flat_of class.name class.place (declared_names items) (equations_in items)
+flat_class class items = flat_of class.name class.place (declared_names items) (components_in items) (equations_in items)
 
 -- What a class with these parts gives, where they have the form that is flattened today, and these are the names of the
 -- classes at the top. The first rule that applies is the one that is broken.
@@ -48,8 +49,8 @@ pub data ItemsGive (top : List (List ℕ)) (class : ClassDefOf Body) (items : Li
       → o ≡ broken (record { rule = 12; place = place }) → ItemsGive top class items o
   too_large : are_names_plain top (declared_names items) (used_in items) ≡ true → first_undeclared (declared_names items) (used_in items) ≡ None
       → is_too_large (flat_class class items) ≡ true → o ≡ at_name 41 class → ItemsGive top class items o
-  flat : are_names_plain top (declared_names items) (used_in items) ≡ true → first_undeclared (declared_names items) (used_in items) ≡ None
-      → is_too_large (flat_class class items) ≡ false → o ≡ written (model_text (flat_class class items)) → ItemsGive top class items o
+  flattened : are_names_plain top (declared_names items) (used_in items) ≡ true → first_undeclared (declared_names items) (used_in items) ≡ None
+      → is_too_large (flat_class class items) ≡ false → o ≡ flat (flat_class class items) → ItemsGive top class items o
 
 -- what a class at the top gives
 pub data ClassGives (files : List FileTree) (class : ClassDefOf Body) (o : Outcome) : Type 0 where
@@ -98,8 +99,23 @@ bytes_of_all contents names = map (λ name. unwrap_or (contents name) []) names
 abbrev pub line_of_broken : (names bytes : List (List ℕ)) → Broken → List ℕ
 line_of_broken names bytes b = refusal_line (of_file names b.place.file) (of_file bytes b.place.file) b
 
--- Of the named files, the class of the path is told by this text with this status.
-pub data Tells (path names : List (List ℕ)) (contents : Contents) (status : Status) (text : List ℕ) : Type 0 where
-  done : FilesGive path names contents (written text) → status ≡ Done → Tells path names contents status text
-  refused : (b : Broken) → FilesGive path names contents (broken b) → status ≡ Refused → text ≡ line_of_broken names (bytes_of_all contents names) b
-      → Tells path names contents status text
+-- the text that is written with this status of the model that is given
+pub record WritesGiven (Gives : Outcome → Type 0) (emit : Emit) (status : Status) (text : List ℕ) : Type 0 where
+  pub m : FlatModel
+  pub given : Gives (flat m)
+  pub writes : Writes emit m status text
+
+-- A rule is broken on the way to what is asked for: none is given, or it breaks one as it is written.
+pub data Breaks (Gives : Outcome → Type 0) (emit : Emit) (b : Broken) : Type 0 where
+  no_model : Gives (broken b) → Breaks Gives emit b
+  no_text : (m : FlatModel) → Gives (flat m) → Refuses emit m b → Breaks Gives emit b
+
+-- What is told by this text with this status: what is asked for of the model that is given, or the line of the first broken
+-- rule.
+pub data TellsOf (Gives : Outcome → Type 0) (line : Broken → List ℕ) (emit : Emit) (status : Status) (text : List ℕ) : Type 0 where
+  written : WritesGiven Gives emit status text → TellsOf Gives line emit status text
+  refused : (b : Broken) → Breaks Gives emit b → status ≡ Refused → text ≡ line b → TellsOf Gives line emit status text
+
+-- what is told of the class of the path in the named files, by what is asked for
+abbrev pub Tells : (path : List (List ℕ)) → Emit → (names : List (List ℕ)) → Contents → Status → List ℕ → Type 0
+Tells path emit names contents = TellsOf (FilesGive path names contents) (line_of_broken names (bytes_of_all contents names)) emit

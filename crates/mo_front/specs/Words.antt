@@ -1,10 +1,19 @@
--- The words of the command line: the name of a class, and the files.
-use Rattle.std.specs.Prelude.{◌≡◌, ℕ, ◌==◌, ◌&&◌, Bool, true, false, List, [], ◌∷◌, ◌++◌, Option, Some, None, if◌then◌else◌}
+-- The words of the command line: the name of a class, what is to be written, and the files.
+use Rattle.std.specs.Prelude.{◌≡◌, ℕ, ◌==◌, ◌&&◌, ◌≤◌, Bool, true, false, List, [], ◌∷◌, ◌++◌, length, codes, Option, Some}
+use Rattle.std.specs.Prelude.{None, if◌then◌else◌}
 use Rattle.std.specs.List.{flat_map}
+use Rattle.clap.specs.declared.builder.action.ArgAction.TheVariants.{Append}
+use Rattle.clap.specs.Simple.{new_shape}
+use Rattle.clap.specs.Words.{App, Row, Rule, all_of, fault_of, first_of, matches_of, new_rule}
 use Rattle.mo_syntax.specs.declared.token.TokenKind.TheVariants.{Ident, Operator, End}
 use Rattle.mo_syntax.specs.declared.token.TokenKind.{TokenKind}
 use Rattle.mo_syntax.specs.Lexeme.{Lexeme}
 use Rattle.mo_lexer.specs.Lexing.{Lexes}
+use Rattle.mo_front.specs.declared.words.Emit.{Emit}
+use Rattle.mo_front.specs.declared.words.Emit.TheVariants as emit
+use Rattle.mo_front.specs.Limits.{most_files}
+
+-- ---- the class
 
 abbrev pub is_ident : TokenKind → Bool
 is_ident Ident = true
@@ -52,3 +61,59 @@ pub record NamesClass (word : List ℕ) (path : List (List ℕ)) : Type 0 where
   pub lexes : Lexes 0 word tokens
   pub dotted : dotted_names tokens ≡ Some path
   pub whole : word ≡ with_dots path
+
+-- ---- what is to be written
+
+-- the word for it
+abbrev pub word_of : Emit → List ℕ
+word_of emit.Flat = codes "flat"
+word_of emit.Reduced = codes "reduced"
+word_of emit.Report = codes "report"
+word_of emit.All = codes "all"
+
+-- a word that is given says what is to be written; with none all is written
+abbrev pub AsksFor : Option (List ℕ) → Emit → Type 0
+AsksFor None e = e ≡ emit.All
+AsksFor (Some word) e = word ≡ word_of e
+
+-- ---- the command
+
+-- `--class NAME`, which must be given
+abbrev pub class_option : Rule
+class_option = record (new_rule (codes "class")) { long = Some (codes "class"); required = true }
+
+-- `--emit WORD`, which may be given
+abbrev pub emit_option : Rule
+emit_option = record (new_rule (codes "emit")) { long = Some (codes "emit") }
+
+-- `FILE..`, of which one must be given
+abbrev pub file_words : Rule
+file_words = record (new_rule (codes "file")) { action = Some Append; required = true }
+
+-- The command, as the crate `clap` reads one: `--class NAME [--emit WORD] FILE..`, where no word is the program's own name
+-- and none asks for help or for a version. An option has one value and stands once, before, between or behind the files.
+abbrev pub command : App
+command = record {
+  top = record (new_shape (codes "mofront")) {
+    rules = class_option ∷ emit_option ∷ file_words ∷ [];
+    no_binary_name = true;
+    disable_help_flag = true;
+  };
+  subs = [];
+}
+
+-- What the command's options and files, by what was given of each, ask for: the class of that path, what is to be written,
+-- and from 1 to 64 files.
+pub record Asks (given : List Row) (path : List (List ℕ)) (emit : Emit) (files : List (List ℕ)) : Type 0 where
+  pub class : List ℕ
+  pub class_given : first_of (codes "class") given ≡ Some class
+  pub names_class : NamesClass class path
+  pub asks_for : AsksFor (first_of (codes "emit") given) emit
+  pub files_given : all_of (codes "file") given ≡ Some files
+  pub some : 1 ≤ length files
+  pub few : length files ≤ most_files
+
+-- The words are those of the command, without a fault, and ask for that.
+pub record Names (words path : List (List ℕ)) (emit : Emit) (files : List (List ℕ)) : Type 0 where
+  pub no_fault : fault_of command words ≡ []
+  pub asks : Asks (matches_of command words) path emit files

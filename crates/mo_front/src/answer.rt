@@ -1,12 +1,14 @@
-//! What is told of a class and the texts of the files.
-ghost use Rattle.std.specs.Prelude.{◌≡◌, ◌<◌, ◌≤◌, length, None, IfOk, All};
+//! What files give, asked for a class.
+ghost use Rattle.std.specs.Prelude.{◌≡◌, ◌<◌, ◌≤◌, length, true, None, IfOk, All};
+ghost use Rattle.std.specs.List.{list_all};
 ghost use Rattle.mo_syntax.specs.ClassTable.{broken_tree, class_count};
 ghost use Rattle.mo_lexer.specs.Lexing.{IfBroken};
-ghost use Rattle.mo_front.specs.Form.{is_plain_model, items_of, declared_names, equations_in};
+ghost use Rattle.mo_flat.specs.Sound.{IsSoundModel};
+ghost use Rattle.mo_front.specs.Form.{is_item, is_plain_model, items_of, declared_names, equations_in};
 ghost use Rattle.mo_front.specs.Known.{IsKnown, IsNumbered};
 ghost use Rattle.mo_front.specs.Limits.{file_limit, most_files};
 ghost use Rattle.mo_front.specs.Names.{top_names, used_names, are_names_plain};
-ghost use Rattle.mo_front.specs.Told.{ClassGives, IsAskedClass, TreesGive, TextsGive, ItemsGive, written, broken};
+ghost use Rattle.mo_front.specs.Told.{ClassGives, IsAskedClass, TreesGive, TextsGive, ItemsGive, flat as flattens, broken};
 
 use crate::flat::flat;
 use crate::form::{is_flat_form, items};
@@ -16,7 +18,7 @@ use crate::phases::{all_tokens, all_trees};
 use crate::size::is_large;
 use crate::top::{TopNames, top};
 use crate::variables::{Variables, declared_variables, first_unknown};
-use mo_flat::flat_text;
+use mo_flat::{FlatModel, flat_text};
 use mo_syntax::{
     Broken, ClassDef, ClassTree, FileTree, Item, List, Path, Place, Rule, Stop, Text, class_count,
     find_class,
@@ -24,11 +26,12 @@ use mo_syntax::{
 use mo_tree::{asked, build};
 use std::alloc::Global;
 
-/// What the texts of the files give, asked for the class of a path: a text, or the first broken rule.
-pub(crate) fn of_texts(alloc: Global, path: &Path, texts: &[Text]) -> Result<Text, Stop>
+/// What the texts of the files give, asked for the class of a path: a flat model, or the first broken rule.
+pub(crate) fn of_texts(alloc: Global, path: &Path, texts: &[Text]) -> Result<FlatModel, Stop>
     requires few { length texts.now ≤ most_files }
     requires short { All (λ text. length text ≤ file_limit) texts.now }
-    ensures text { IfOk result (λ text. TextsGive path.now.0 texts.now (written text)) }
+    ensures flat { IfOk result (λ m. TextsGive path.now.0 texts.now (flattens m)) }
+    ensures sound { IfOk result IsSoundModel }
     ensures refused { IfBroken result (λ b. TextsGive path.now.0 texts.now (broken b)) }
 {
     match all_tokens(alloc, texts) {
@@ -40,9 +43,10 @@ pub(crate) fn of_texts(alloc: Global, path: &Path, texts: &[Text]) -> Result<Tex
     }
 }
 
-/// What the trees of the files give: a text, or the first broken rule.
-fn of_trees(alloc: Global, path: &Path, files: List<FileTree>) -> Result<Text, Stop>
-    ensures text { IfOk result (λ text. TreesGive path.now.0 files (written text)) }
+/// What the trees of the files give: a flat model, or the first broken rule.
+fn of_trees(alloc: Global, path: &Path, files: List<FileTree>) -> Result<FlatModel, Stop>
+    ensures flat { IfOk result (λ m. TreesGive path.now.0 files (flattens m)) }
+    ensures sound { IfOk result IsSoundModel }
     ensures refused { IfBroken result (λ b. TreesGive path.now.0 files (broken b)) }
 {
     // No files within their limits have so many classes.
@@ -56,10 +60,11 @@ fn of_trees(alloc: Global, path: &Path, files: List<FileTree>) -> Result<Text, S
 }
 
 /// What a class tree gives that breaks no rule.
-fn of_tree(alloc: Global, path: &Path, tree: &ClassTree) -> Result<Text, Stop>
+fn of_tree(alloc: Global, path: &Path, tree: &ClassTree) -> Result<FlatModel, Stop>
     requires few { class_count tree.now.files < 4294967290 }
     requires sound { broken_tree tree.now.files ≡ None }
-    ensures text { IfOk result (λ text. TreesGive path.now.0 tree.now.files (written text)) }
+    ensures flat { IfOk result (λ m. TreesGive path.now.0 tree.now.files (flattens m)) }
+    ensures sound { IfOk result IsSoundModel }
     ensures refused { IfBroken result (λ b. TreesGive path.now.0 tree.now.files (broken b)) }
 {
     match asked(tree, path) {
@@ -73,9 +78,15 @@ fn of_tree(alloc: Global, path: &Path, tree: &ClassTree) -> Result<Text, Stop>
 }
 
 /// What the class of that path gives. Only a class at the top is flattened today.
-fn of_asked(alloc: Global, path: &Path, files: &[FileTree], class: &ClassDef) -> Result<Text, Stop>
+fn of_asked(
+    alloc: Global,
+    path: &Path,
+    files: &[FileTree],
+    class: &ClassDef,
+) -> Result<FlatModel, Stop>
     requires asked { IsAskedClass path.now.0 files.now class.now }
-    ensures text { IfOk result (λ text. TreesGive path.now.0 files.now (written text)) }
+    ensures flat { IfOk result (λ m. TreesGive path.now.0 files.now (flattens m)) }
+    ensures sound { IfOk result IsSoundModel }
     ensures refused { IfBroken result (λ b. TreesGive path.now.0 files.now (broken b)) }
 {
     if path.0.len() != 1 {
@@ -84,9 +95,10 @@ fn of_asked(alloc: Global, path: &Path, files: &[FileTree], class: &ClassDef) ->
     of_class(alloc, files, class)
 }
 
-/// What a class at the top gives: a text, or the first broken rule.
-fn of_class(alloc: Global, files: &[FileTree], class: &ClassDef) -> Result<Text, Stop>
-    ensures text { IfOk result (λ text. ClassGives files.now class.now (written text)) }
+/// What a class at the top gives: a flat model, or the first broken rule.
+fn of_class(alloc: Global, files: &[FileTree], class: &ClassDef) -> Result<FlatModel, Stop>
+    ensures flat { IfOk result (λ m. ClassGives files.now class.now (flattens m)) }
+    ensures sound { IfOk result IsSoundModel }
     ensures refused { IfBroken result (λ b. ClassGives files.now class.now (broken b)) }
 {
     if !is_flat_form(class) {
@@ -104,8 +116,10 @@ fn of_items(
     files: &[FileTree],
     class: &ClassDef,
     items: &[Item],
-) -> Result<Text, Stop>
-    ensures text { IfOk result (λ text. ItemsGive (top_names files.now) class.now items.now (written text)) }
+) -> Result<FlatModel, Stop>
+    requires form { list_all is_item items.now ≡ true }
+    ensures flat { IfOk result (λ m. ItemsGive (top_names files.now) class.now items.now (flattens m)) }
+    ensures sound { IfOk result IsSoundModel }
     ensures refused { IfBroken result (λ b. ItemsGive (top_names files.now) class.now items.now (broken b)) }
 {
     let top = top(alloc, files)?;
@@ -122,7 +136,7 @@ fn of_items(
     if is_large(&flat, &text) {
         return Err(stop(41, class.place));
     }
-    Ok(text)
+    Ok(flat)
 }
 
 /// Whether no class at the top has a predefined name, and all declared and used names are plain.

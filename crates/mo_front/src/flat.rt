@@ -1,20 +1,21 @@
 //! The flat model of one model of Real scalars.
-ghost use Rattle.std.specs.Prelude.{◌≡◌, ◌++◌, map, IfOk, OnOk};
-ghost use Rattle.mo_front.specs.Flat.{flat_reference, flat_expr, flat_below, unknown_of, flat_equation, flat_of};
-ghost use Rattle.mo_front.specs.Form.{equations_in, equations_of};
+ghost use Rattle.std.specs.Prelude.{◌≡◌, ◌++◌, map, option_map, unwrap_or, IfOk, OnOk};
+ghost use Rattle.mo_tables.specs.Words.{code_in, functions};
+ghost use Rattle.mo_front.specs.Flat.{flat_reference, flat_derivative, flat_expr, flat_below, flat_argument, flat_arguments, flat_variable, flat_equation, flat_of};
+ghost use Rattle.mo_front.specs.Form.{components_in, components_of, equations_in, equations_of, name_in};
 ghost use Rattle.mo_front.specs.Known.{IsNumbered};
 
-use crate::model::NameAt;
+use crate::form::{named_function, role};
 use crate::variables::Variables;
 use mo_flat::{FlatEquation, FlatExpr, FlatModel, FlatVar};
 use mo_syntax::{
-    ClassDef, Equation, EquationKind, Expr, Factor, Item, Kind, List, NoMemory, Node, Part, Role,
-    Term, Text,
+    Arg, Args, Boxed, Callee, ClassDef, Component, Equation, EquationKind, Expr, Factor, Item,
+    Kind, List, NoMemory, Node, Part, Reference, Role, Term, Text, What,
 };
 use std::alloc::Global;
 
-/// The flat model of the class with these parts. A declared name is an unknown, and its number is its place among the
-/// declarations, from 1.
+/// The flat model of the class with these parts. The number of a declared name is its place among the declarations,
+/// from 1.
 pub(crate) fn flat(
     alloc: Global,
     class: &ClassDef,
@@ -22,12 +23,12 @@ pub(crate) fn flat(
     items: &[Item],
 ) -> Result<FlatModel, NoMemory>
     requires numbered { IsNumbered variables.now }
-    ensures { IfOk result (λ f. f ≡ flat_of class.now.name class.now.place variables.now.names (equations_in items.now)) }
+    ensures { IfOk result (λ f. f ≡ flat_of class.now.name class.now.place variables.now.names (components_in items.now) (equations_in items.now)) }
 {
     Ok(FlatModel {
         name: class.name.copy(alloc)?,
         place: class.place,
-        vars: unknowns(alloc, variables.names.as_slice())?,
+        vars: flat_variables(alloc, variables, items)?,
         first: List::new(alloc),
         first_asserts: List::new(alloc),
         equations: equations(alloc, variables, items)?,
@@ -35,22 +36,72 @@ pub(crate) fn flat(
     })
 }
 
-fn unknowns(alloc: Global, declared: &[NameAt]) -> Result<List<FlatVar>, NoMemory>
-    ensures { IfOk result (λ vars. vars ≡ map unknown_of declared.now) }
+fn flat_variables(
+    alloc: Global,
+    variables: &Variables,
+    items: &[Item],
+) -> Result<List<FlatVar>, NoMemory>
+    requires numbered { IsNumbered variables.now }
+    ensures { IfOk result (λ made. made ≡ map (flat_variable variables.now.names) (components_in items.now)) }
 {
-    let mut vars = List::new(alloc);
-    for n in declared {
-        vars.push(FlatVar {
-            name: n.name.copy(alloc)?,
-            kind: Kind::Real,
-            kind_text: Text::from_str(alloc, "Real")?,
-            role: Role::Unknown,
-            attributes: List::new(alloc),
-            binding: None,
-            place: n.place,
-        })?;
+    let mut made = List::new(alloc);
+    for item in items {
+        push_component(alloc, &mut made, variables, item)?;
     }
-    Ok(vars)
+    Ok(made)
+}
+
+fn push_component(
+    alloc: Global,
+    made: &mut List<FlatVar>,
+    variables: &Variables,
+    item: &Item,
+) -> Result<(), NoMemory>
+    requires numbered { IsNumbered variables.now }
+    ensures { OnOk result (made.new ≡ made.old ++ map (flat_variable variables.now.names) (components_of item.now)) }
+{
+    match item {
+        Item::Member(element) => match &element.what {
+            What::Component(component) => made.push(one_variable(alloc, variables, component)?),
+            What::Class(_) => Ok(()),
+        },
+        Item::Import(_) | Item::Extends(_) | Item::Equations(_, _) | Item::Algorithm(_, _) => Ok(
+            (),
+        ),
+    }
+}
+
+fn one_variable(
+    alloc: Global,
+    variables: &Variables,
+    component: &Component,
+) -> Result<FlatVar, NoMemory>
+    requires numbered { IsNumbered variables.now }
+    ensures { IfOk result (λ made. made ≡ flat_variable variables.now.names component.now) }
+{
+    Ok(FlatVar {
+        name: component.name.copy(alloc)?,
+        kind: Kind::Real,
+        kind_text: Text::from_str(alloc, "Real")?,
+        role: role(component.prefix).unwrap_or(Role::Unknown),
+        attributes: List::new(alloc),
+        binding: binding(alloc, variables, &component.binding)?,
+        place: component.place,
+    })
+}
+
+fn binding(
+    alloc: Global,
+    variables: &Variables,
+    e: &Option<Expr>,
+) -> Result<Option<FlatExpr>, NoMemory>
+    requires numbered { IsNumbered variables.now }
+    ensures { IfOk result (λ made. made ≡ option_map (flat_expr variables.now.names) e.now) }
+{
+    match e {
+        None => Ok(None),
+        Some(e) => Ok(Some(expression(alloc, variables, e)?)),
+    }
 }
 
 fn equations(
@@ -146,6 +197,15 @@ fn node(alloc: Global, variables: &Variables, node: &Node) -> Result<FlatExpr, N
         Node::Ref(reference) => Ok(variable(variables, reference.parts.as_slice())),
         Node::Sum(all) => Ok(FlatExpr::Sum(terms(alloc, variables, all.as_slice())?)),
         Node::Product(all) => Ok(FlatExpr::Product(factors(alloc, variables, all.as_slice())?)),
+        Node::Power(base, _, exponent) => Ok(FlatExpr::Power(
+            Boxed::new(alloc, expression(alloc, variables, base)?)?,
+            Boxed::new(alloc, expression(alloc, variables, exponent)?)?,
+        )),
+        Node::Call(Callee::Der, all) => derivative(alloc, variables, all),
+        Node::Call(Callee::Named(reference), all) => Ok(FlatExpr::Call(
+            code(reference),
+            arguments(alloc, variables, all)?,
+        )),
         _ => Ok(FlatExpr::Time),
     }
 }
@@ -182,12 +242,65 @@ fn factors(
     Ok(made)
 }
 
+/// The derivative of the first argument.
+#[cycle(flat)]
+fn derivative(alloc: Global, variables: &Variables, all: &Args) -> Result<FlatExpr, NoMemory>
+    requires numbered { IsNumbered variables.now }
+    ensures { IfOk result (λ f. f ≡ flat_derivative (flat_arguments variables.now.names all.now)) }
+{
+    match all.plain.as_slice() {
+        [] => Ok(FlatExpr::Time),
+        [first, ..] => Ok(FlatExpr::Der(Boxed::new(alloc, argument(alloc, variables, first)?)?)),
+    }
+}
+
+#[cycle(flat)]
+fn arguments(alloc: Global, variables: &Variables, all: &Args) -> Result<List<FlatExpr>, NoMemory>
+    requires numbered { IsNumbered variables.now }
+    ensures { IfOk result (λ made. made ≡ flat_arguments variables.now.names all.now) }
+{
+    plain(alloc, variables, all.plain.as_slice())
+}
+
+#[cycle(flat)]
+fn plain(alloc: Global, variables: &Variables, all: &[Arg]) -> Result<List<FlatExpr>, NoMemory>
+    requires numbered { IsNumbered variables.now }
+    ensures { IfOk result (λ made. made ≡ map (flat_argument variables.now.names) all.now) }
+{
+    let mut made = List::new(alloc);
+    for one in all {
+        made.push(argument(alloc, variables, one)?)?;
+    }
+    Ok(made)
+}
+
+#[cycle(flat)]
+fn argument(alloc: Global, variables: &Variables, one: &Arg) -> Result<FlatExpr, NoMemory>
+    requires numbered { IsNumbered variables.now }
+    ensures { IfOk result (λ f. f ≡ flat_argument variables.now.names one.now) }
+{
+    match one {
+        Arg::Value(value) => expression(alloc, variables, value),
+        Arg::Partial(_, _) => Ok(FlatExpr::Time),
+    }
+}
+
+/// The code of the function of that name.
+fn code(reference: &Reference) -> u16
+    ensures { result ≡ unwrap_or (code_in functions (name_in reference.now.parts)) 0 }
+{
+    named_function(reference.parts.as_slice()).unwrap_or(0)
+}
+
 fn variable(variables: &Variables, parts: &[Part]) -> FlatExpr
     requires numbered { IsNumbered variables.now }
     ensures { result ≡ flat_reference variables.now.names parts.now }
 {
     match parts {
         [] => FlatExpr::Time,
-        [part, ..] => FlatExpr::Var(variables.number(part.name.as_str()), 0),
+        [part, ..] => match variables.number(part.name.as_str()) {
+            Some(number) => FlatExpr::Var(number, 0),
+            None => FlatExpr::Time,
+        },
     }
 }

@@ -1,13 +1,17 @@
-//! The program from words and files to bytes: it reads the files, finds the class in their trees, and writes its
-//! flat text or the line that names the first broken rule.
+//! The program from words and files to bytes: it reads the files, finds the class in their trees, and writes its flat
+//! text, its reduced model and the report on its structure, or the line that names the first broken rule.
 //!
 //! - `run`: the program over any shelf and sink.
+//! - `files_give_one` is the law that files give one thing only.
 //! - `Status`: how it ended, and the number that it ends with.
 #![tactic(auto)]
 
 mod answer;
+mod degrees;
+mod emit;
 mod flat;
 mod form;
+mod laws;
 mod load;
 mod model;
 mod names;
@@ -16,12 +20,18 @@ mod program;
 mod refusal;
 mod size;
 mod status;
+mod structure;
 mod top;
 mod variables;
 mod words;
 
+pub use laws::files_give_one;
 pub use program::run;
 pub use status::Status;
 
 #[cfg(test)]
+mod structure_tests;
+#[cfg(test)]
 mod tests;
+#[cfg(test)]
+mod words_tests;

@@ -4,12 +4,12 @@ ghost use Rattle.std.specs.List.{flat_map, list_any};
 ghost use Rattle.std.specs.Str.{bytes_eq};
 ghost use Rattle.mo_front.specs.Form.{equations_in, equations_of};
 ghost use Rattle.mo_front.specs.Known.{IsKnown};
-ghost use Rattle.mo_front.specs.Names.{used, used_below, used_in_equation, used_names, name_at_part, is_quoted, is_predefined, is_predefined_type, is_plain_name, are_plain};
+ghost use Rattle.mo_front.specs.Names.{used, used_below, used_by_argument, used_by_arguments, used_in_equation, used_names, used_at_part, is_quoted, is_predefined, is_predefined_type, is_plain_name, are_plain};
 
 use crate::model::NameAt;
 use crate::top::TopNames;
 use mo_syntax::{
-    Equation, EquationKind, Expr, Factor, Item, List, NoMemory, Node, Part, Term, Text,
+    Arg, Args, Equation, EquationKind, Expr, Factor, Item, List, NoMemory, Node, Part, Term, Text,
 };
 use mo_tables::function;
 use std::alloc::Global;
@@ -94,7 +94,40 @@ fn push_node(alloc: Global, names: &mut List<NameAt>, node: &Node) -> Result<(),
         Node::Ref(reference) => push_parts(alloc, names, reference.parts.as_slice()),
         Node::Sum(terms) => push_terms(alloc, names, terms.as_slice()),
         Node::Product(factors) => push_factors(alloc, names, factors.as_slice()),
+        Node::Power(base, _, exponent) => {
+            push_uses(alloc, names, base)?;
+            push_uses(alloc, names, exponent)
+        }
+        Node::Call(_, arguments) => push_arguments(alloc, names, arguments),
         _ => Ok(()),
+    }
+}
+
+#[cycle(uses)]
+#[tactic(auto, using(crate::proofs::NameLemmas::uses_of))]
+fn push_arguments(alloc: Global, names: &mut List<NameAt>, arguments: &Args) -> Result<(), NoMemory>
+    ensures { OnOk result (names.new ≡ names.old ++ used_by_arguments arguments.now) }
+{
+    push_plain(alloc, names, arguments.plain.as_slice())
+}
+
+#[cycle(uses)]
+fn push_plain(alloc: Global, names: &mut List<NameAt>, arguments: &[Arg]) -> Result<(), NoMemory>
+    ensures { OnOk result (names.new ≡ names.old ++ flat_map used_by_argument arguments.now) }
+{
+    for argument in arguments {
+        push_argument(alloc, names, argument)?;
+    }
+    Ok(())
+}
+
+#[cycle(uses)]
+fn push_argument(alloc: Global, names: &mut List<NameAt>, argument: &Arg) -> Result<(), NoMemory>
+    ensures { OnOk result (names.new ≡ names.old ++ used_by_argument argument.now) }
+{
+    match argument {
+        Arg::Value(value) => push_uses(alloc, names, value),
+        Arg::Partial(_, _) => Ok(()),
     }
 }
 
@@ -119,14 +152,24 @@ fn push_factors(alloc: Global, names: &mut List<NameAt>, factors: &[Factor]) -> 
 }
 
 fn push_parts(alloc: Global, names: &mut List<NameAt>, parts: &[Part]) -> Result<(), NoMemory>
-    ensures { OnOk result (names.new ≡ names.old ++ map name_at_part parts.now) }
+    ensures { OnOk result (names.new ≡ names.old ++ flat_map used_at_part parts.now) }
 {
     for part in parts {
-        names.push(NameAt {
-            name: part.name.copy(alloc)?,
-            place: part.place,
-        })?;
+        push_part(alloc, names, part)?;
     }
+    Ok(())
+}
+
+fn push_part(alloc: Global, names: &mut List<NameAt>, part: &Part) -> Result<(), NoMemory>
+    ensures { OnOk result (names.new ≡ names.old ++ used_at_part part.now) }
+{
+    if part.name.as_str() == "time" {
+        return Ok(());
+    }
+    names.push(NameAt {
+        name: part.name.copy(alloc)?,
+        place: part.place,
+    })?;
     Ok(())
 }
 

@@ -1,22 +1,25 @@
 //! The program over any shelf and sink.
 ghost use Rattle.std.specs.Prelude.{◌≡◌, ◌≢◌, ℕ, ◌≤◌, ◌⊎◌, List as Seq, length, IfOk, IfErr, IfSome, All};
+ghost use Rattle.mo_lexer.specs.Lexing.{IfBroken};
 ghost use Rattle.mo_ports.specs.Counts.{Rose};
 ghost use Rattle.mo_front.specs.Limits.{most_files, file_limit};
 ghost use Rattle.mo_front.specs.Loading.{TellsTexts};
-ghost use Rattle.mo_front.specs.Run.{IsAnswer, IsNamedFault, IsSilent, Names, NamesFault, TellsWords, WritesTold, WritesFront, words_of};
-ghost use Rattle.mo_front.specs.Told.{Tells, line_of_broken};
+ghost use Rattle.mo_front.specs.Run.{IsAnswer, IsNamedFault, IsSilent, NamesFault, TellsWords, WritesTold, WritesFront, words_of};
+ghost use Rattle.mo_front.specs.Told.{Breaks, Tells, TextsGive, WritesGiven, line_of_broken};
+ghost use Rattle.mo_front.specs.Words.{Names};
 
 use crate::answer::of_texts;
+use crate::emit::written_of;
 use crate::load::{Unread, read_files};
 use crate::refusal::refusal_text;
 use crate::status::Status;
-use crate::words::{WordsFault, read_words};
+use crate::words::{Emit, WordsFault, read_words};
 use mo_ports::{Shelf, Sink, put_all};
 use mo_syntax::{Broken, List, NoMemory, Path, Stop, Text};
 use std::alloc::Global;
 
-/// Runs the program with its words: the name of a class and from 1 to 64 names of files. It writes the flat text of the
-/// class in these files, or the line that names the first broken rule.
+/// Runs the program with its words: the name of a class, what is to be written of it, and from 1 to 64 names of files. It
+/// writes that text of the class in these files, or the line that names the first broken rule.
 ///
 /// All memory is taken before the first write.
 pub fn run<S: Shelf, W: Sink>(alloc: Global, words: &[String], shelf: &mut S, out: &mut W) -> Status
@@ -26,41 +29,49 @@ pub fn run<S: Shelf, W: Sink>(alloc: Global, words: &[String], shelf: &mut S, ou
     ensures front { result ≡ Status.WriteFault → IfSome (S.told shelf.old) (λ contents. WritesFront (TellsWords (words_of words.now) contents) (W.written out.old) (W.written out.new)) }
 
     // Where each answer comes from. Want of memory is the one free answer.
-    ensures usage { result ≡ Status.Usage → (path files : Seq (Seq ℕ)) → Names (words_of words.now) path files → ⊥ }
-    ensures only_usage { ((path files : Seq (Seq ℕ)) → Names (words_of words.now) path files → ⊥) → (result ≡ Status.Usage) ⊎ (result ≡ Status.NoMemory) }
-    ensures singular { result ≢ Status.Singular }
+    ensures usage { result ≡ Status.Usage → (path files : Seq (Seq ℕ)) → (emit : Emit) → Names (words_of words.now) path emit files → ⊥ }
+    ensures only_usage { ((path files : Seq (Seq ℕ)) → (emit : Emit) → Names (words_of words.now) path emit files → ⊥) → (result ≡ Status.Usage) ⊎ (result ≡ Status.NoMemory) }
+    ensures flat { (path files : Seq (Seq ℕ)) → Names (words_of words.now) path Emit.Flat files → result ≢ Status.Singular }
     ensures read { result ≡ Status.ReadFault → Rose (S.faults shelf.old) (S.faults shelf.new) }
     ensures read_name { result ≡ Status.ReadFault → NamesFault (words_of words.now) (S.failed shelf.new) }
     ensures write { result ≡ Status.WriteFault → Rose (W.faults out.old) (W.faults out.new) }
-    ensures complete { (path files : Seq (Seq ℕ)) → Names (words_of words.now) path files → (Rose (S.faults shelf.old) (S.faults shelf.new) → ⊥) → (Rose (W.faults out.old) (W.faults out.new) → ⊥) → IsAnswer result ⊎ (result ≡ Status.NoMemory) }
+    ensures complete { (path files : Seq (Seq ℕ)) → (emit : Emit) → Names (words_of words.now) path emit files → (Rose (S.faults shelf.old) (S.faults shelf.new) → ⊥) → (Rose (W.faults out.old) (W.faults out.new) → ⊥) → IsAnswer result ⊎ (result ≡ Status.NoMemory) }
 {
     match read_words(alloc, words) {
-        Ok(words) => run_job(alloc, &words.class, words.files, shelf, out),
+        Ok(job) => run_job(
+            alloc,
+            &job.class,
+            job.emit,
+            job.files.as_slice(),
+            shelf,
+            out,
+        ),
         Err(WordsFault::Usage) => Status::Usage,
         Err(WordsFault::NoMemory) => Status::NoMemory,
     }
 }
 
-/// Runs the program for a class and files.
+/// Runs the program for a class, what is to be written of it, and files.
 fn run_job<S: Shelf, W: Sink>(
     alloc: Global,
     class: &Path,
+    emit: Emit,
     files: &[String],
     shelf: &mut S,
     out: &mut W,
 ) -> Status
     requires few { length files.now ≤ most_files }
-    ensures told { IsAnswer result → IfSome (S.told shelf.old) (λ contents. WritesTold (Tells class.now.0 (words_of files.now) contents) (W.written out.old) (W.written out.new) result) }
+    ensures told { IsAnswer result → IfSome (S.told shelf.old) (λ contents. WritesTold (Tells class.now.0 emit (words_of files.now) contents) (W.written out.old) (W.written out.new) result) }
     ensures silent { IsSilent result → W.written out.new ≡ W.written out.old }
-    ensures front { result ≡ Status.WriteFault → IfSome (S.told shelf.old) (λ contents. WritesFront (Tells class.now.0 (words_of files.now) contents) (W.written out.old) (W.written out.new)) }
+    ensures front { result ≡ Status.WriteFault → IfSome (S.told shelf.old) (λ contents. WritesFront (Tells class.now.0 emit (words_of files.now) contents) (W.written out.old) (W.written out.new)) }
 
     ensures usage { result ≢ Status.Usage }
-    ensures singular { result ≢ Status.Singular }
+    ensures flat { emit ≡ Emit.Flat → result ≢ Status.Singular }
     ensures read { result ≡ Status.ReadFault → Rose (S.faults shelf.old) (S.faults shelf.new) }
     ensures read_name { result ≡ Status.ReadFault → IsNamedFault (S.failed shelf.new) (words_of files.now) }
     ensures write { result ≡ Status.WriteFault → Rose (W.faults out.old) (W.faults out.new) }
 {
-    let (status, text) = match read_answer(alloc, class, files, shelf) {
+    let (status, text) = match read_answer(alloc, class, emit, files, shelf) {
         Ok(answer) => answer,
         Err(status) => return status,
     };
@@ -74,18 +85,20 @@ fn run_job<S: Shelf, W: Sink>(
 fn read_answer<S: Shelf>(
     alloc: Global,
     class: &Path,
+    emit: Emit,
     files: &[String],
     shelf: &mut S,
 ) -> Result<(Status, List<u8>), Status>
     requires few { length files.now ≤ most_files }
-    ensures told { IfOk result (λ a. IfSome (S.told shelf.old) (λ contents. Tells class.now.0 (words_of files.now) contents a.0 a.1)) }
+    ensures told { IfOk result (λ a. IfSome (S.told shelf.old) (λ contents. Tells class.now.0 emit (words_of files.now) contents a.0 a.1)) }
     ensures answers { IfOk result (λ a. IsAnswer a.0) }
+    ensures flat { IfOk result (λ a. emit ≡ Emit.Flat → a.0 ≢ Status.Singular) }
     ensures stops { IfErr result (λ status. (status ≡ Status.ReadFault) ⊎ (status ≡ Status.NoMemory)) }
     ensures read { IfErr result (λ status. status ≡ Status.ReadFault → Rose (S.faults shelf.old) (S.faults shelf.new)) }
     ensures read_name { IfErr result (λ status. status ≡ Status.ReadFault → IsNamedFault (S.failed shelf.new) (words_of files.now)) }
 {
     match read_files(alloc, files, shelf) {
-        Ok(texts) => match answer(alloc, class, files, texts.as_slice()) {
+        Ok(texts) => match answer(alloc, class, emit, files, texts.as_slice()) {
             Ok(answer) => Ok(answer),
             Err(_) => Err(Status::NoMemory),
         },
@@ -99,24 +112,42 @@ fn read_answer<S: Shelf>(
 fn answer(
     alloc: Global,
     class: &Path,
+    emit: Emit,
     files: &[String],
     texts: &[Text],
 ) -> Result<(Status, List<u8>), NoMemory>
     requires few { length texts.now ≤ most_files }
     requires short { All (λ text. length text ≤ file_limit) texts.now }
-    ensures tells { IfOk result (λ a. TellsTexts class.now.0 (words_of files.now) texts.now a.0 a.1) }
+    ensures tells { IfOk result (λ a. TellsTexts class.now.0 emit (words_of files.now) texts.now a.0 a.1) }
 {
-    match of_texts(alloc, class, texts) {
-        Ok(text) => Ok((
-            Status::Done,
-            List::from_vec(Vec::from_slice(alloc, text.as_str().as_bytes())?),
-        )),
+    match written(alloc, class, emit, texts) {
+        Ok((status, text)) => Ok((status, bytes_of(alloc, &text)?)),
         Err(Stop::Broken(broken)) => Ok((
             Status::Refused,
             List::from_vec(line_of(alloc, files, texts, broken)?),
         )),
         Err(Stop::NoMemory) => Err(NoMemory),
     }
+}
+
+/// What is written of the class in files with these texts and the status, or the first broken rule.
+fn written(alloc: Global, class: &Path, emit: Emit, texts: &[Text]) -> Result<(Status, Text), Stop>
+    requires few { length texts.now ≤ most_files }
+    requires short { All (λ text. length text ≤ file_limit) texts.now }
+    ensures written { IfOk result (λ w. WritesGiven (TextsGive class.now.0 texts.now) emit w.0 w.1) }
+    ensures refused { IfBroken result (λ b. Breaks (TextsGive class.now.0 texts.now) emit b) }
+{
+    match of_texts(alloc, class, texts) {
+        Ok(m) => written_of(alloc, emit, &m),
+        Err(stop) => Err(stop),
+    }
+}
+
+/// The bytes of a text.
+fn bytes_of(alloc: Global, text: &Text) -> Result<List<u8>, NoMemory>
+    ensures { IfOk result (λ bytes. bytes ≡ text.now) }
+{
+    Ok(List::from_vec(Vec::from_slice(alloc, text.as_str().as_bytes())?))
 }
 
 /// The line of a rule that is broken in files with these texts.

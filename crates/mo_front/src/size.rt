@@ -1,10 +1,13 @@
 //! The size of a flat model.
-ghost use Rattle.std.specs.Prelude.{◌≡◌, ◌^◌, ◌-◌, min, sum_by};
+ghost use Rattle.std.specs.Prelude.{◌≡◌, ◌^◌, ◌-◌, min, count_by, sum_by};
 ghost use Rattle.mo_flat.specs.Text.{model_text};
-ghost use Rattle.mo_front.specs.Flat.{equation_nodes, is_too_large};
+ghost use Rattle.mo_front.specs.Flat.{equation_nodes, is_unknown, is_too_large};
 
-use mo_flat::{FlatEquation, FlatModel, flat_nodes};
-use mo_syntax::Text;
+use mo_flat::{FlatEquation, FlatModel, FlatVar, flat_nodes};
+use mo_syntax::{Role, Text};
+
+/// The most variables of a flat model.
+const VARIABLE_LIMIT: usize = 400_000;
 
 /// The most unknowns of a flat model.
 const UNKNOWN_LIMIT: usize = 50_000;
@@ -23,7 +26,10 @@ pub(crate) fn is_large(m: &FlatModel, text: &Text) -> bool
     requires printed { text.now ≡ model_text m.now }
     ensures { result ≡ is_too_large m.now }
 {
-    if m.vars.len() > UNKNOWN_LIMIT {
+    if m.vars.len() > VARIABLE_LIMIT {
+        return true;
+    }
+    if unknowns(m.vars.as_slice()) > UNKNOWN_LIMIT {
         return true;
     }
     if m.equations.len() > EQUATION_LIMIT {
@@ -33,6 +39,28 @@ pub(crate) fn is_large(m: &FlatModel, text: &Text) -> bool
         return true;
     }
     text.as_str().len() > TEXT_LIMIT
+}
+
+/// How many of the variables are unknowns.
+fn unknowns(vars: &[FlatVar]) -> usize
+    ensures { result ≡ count_by is_unknown vars.now }
+{
+    let mut all = 0usize;
+    for v in vars {
+        if is_unknown_variable(v) {
+            all += 1;
+        }
+    }
+    all
+}
+
+fn is_unknown_variable(v: &FlatVar) -> bool
+    ensures { result ≡ is_unknown v.now }
+{
+    match v.role {
+        Role::Unknown => true,
+        _ => false,
+    }
 }
 
 /// How many nodes the sides of the equations have.

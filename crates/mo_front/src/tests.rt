@@ -154,9 +154,47 @@ const ORDER: [Row; 5] = [
     ("M N", "model M end M;", None, Status::Usage, ""),
 ];
 
-fn words(alloc: Global, class: &str, files: usize) -> Result<Vec<String>, NoMemory> {
+const EVERYTHING: [Row; 1] = [(
+    "M",
+    FIRST,
+    None,
+    Status::Done,
+    "model M\n  Real x;\nequation\n  x = 1.0;\nend M;\nreduced M\n  x = 1.0;\nend M;\nreport M\nequations 1 unknowns 1\nequation 1 c 0 pairs x order 0\nunknown x d 0\nblock 1\nindex 1\nfreedom 0\n",
+)];
+
+const SINGULAR: [Row; 2] = [
+    (
+        "M",
+        "model M Real x; Real y; equation x = 1.0; x = 2.0; end M;",
+        None,
+        Status::Singular,
+        "report M\nequations 2 unknowns 2\ndeficit 2 equations 1 unknowns\nin 1\nin 2\nmentions x\n",
+    ),
+    (
+        "M",
+        "model M Real x; Real y; equation x + y = 1.0; end M;",
+        None,
+        Status::Singular,
+        "report M\nequations 1 unknowns 2\nequation 1 c 0 pairs x order 0\nunknown x d 0\nunknown y d 0\nundetermined x\nundetermined y\n",
+    ),
+];
+
+/// The words of the option that asks for the flat text.
+const ASK_FLAT: [&str; 2] = ["--emit", "flat"];
+
+fn words(
+    alloc: Global,
+    class: &str,
+    asked: &[&str],
+    files: usize,
+) -> Result<Vec<String>, NoMemory> {
     let mut words = Vec::new(alloc);
-    words.push(String::from_str(alloc, class)?)?;
+    for word in ["--class", class] {
+        words.push(String::from_str(alloc, word)?)?;
+    }
+    for word in asked {
+        words.push(String::from_str(alloc, *word)?)?;
+    }
     for file in 0..files {
         words.push(String::from_str(alloc, if file == 0 { "m.mo" } else { "n.mo" })?)?;
     }
@@ -174,7 +212,12 @@ fn put(
 }
 
 // The status of a run over a shelf that gives 4096 bytes a read and a sink that takes 16 bytes a write, where it wrote that text.
-fn status_of(rt: &impl Abort, alloc: Global, row: &Row) -> Result<Status, NoMemory> {
+fn status_of(
+    rt: &impl Abort,
+    alloc: Global,
+    asked: &[&str],
+    row: &Row,
+) -> Result<Status, NoMemory> {
     let mut files = List::new(alloc);
     put(alloc, &mut files, "m.mo", row.1)?;
     let mut count = 1usize;
@@ -182,7 +225,7 @@ fn status_of(rt: &impl Abort, alloc: Global, row: &Row) -> Result<Status, NoMemo
         put(alloc, &mut files, "n.mo", second)?;
         count = 2;
     }
-    let words = words(alloc, row.0, count)?;
+    let words = words(alloc, row.0, asked, count)?;
     let mut shelf = MemoryShelf::new(files, 4096, List::new(alloc));
     let mut sink = MemorySink::new(alloc, 1000, 16, List::new(alloc))?;
     let status = run(alloc, words.as_slice(), &mut shelf, &mut sink);
@@ -190,26 +233,128 @@ fn status_of(rt: &impl Abort, alloc: Global, row: &Row) -> Result<Status, NoMemo
     Ok(status)
 }
 
-fn all_hold(rt: &impl Abort, alloc: Global, rows: &[Row]) -> Result<(), NoMemory> {
+fn all_hold(rt: &impl Abort, alloc: Global, asked: &[&str], rows: &[Row]) -> Result<(), NoMemory> {
     for row in rows {
-        assert_eq!(rt; status_of(rt, alloc, row)?, row.3);
+        assert_eq!(rt; status_of(rt, alloc, asked, row)?, row.3);
     }
     Ok(())
 }
 
 #[test]
 fn writes_flat_texts(rt: HostRuntime) -> Result<(), Fail> {
-    Ok(all_hold(&rt, rt.alloc(), &FLAT)?)
+    Ok(all_hold(&rt, rt.alloc(), &ASK_FLAT, &FLAT)?)
 }
 
 #[test]
 fn names_the_first_broken_rule(rt: HostRuntime) -> Result<(), Fail> {
-    Ok(all_hold(&rt, rt.alloc(), &REFUSED)?)
+    Ok(all_hold(&rt, rt.alloc(), &ASK_FLAT, &REFUSED)?)
 }
 
 #[test]
 fn asks_file_by_file_and_phase_by_phase(rt: HostRuntime) -> Result<(), Fail> {
-    Ok(all_hold(&rt, rt.alloc(), &ORDER)?)
+    Ok(all_hold(&rt, rt.alloc(), &ASK_FLAT, &ORDER)?)
+}
+
+#[test]
+fn writes_what_is_asked_for(rt: HostRuntime) -> Result<(), Fail> {
+    all_hold(&rt, rt.alloc(), &[], &EVERYTHING)?;
+    Ok(all_hold(&rt, rt.alloc(), &["--emit", "report"], &SINGULAR)?)
+}
+
+const PENDULUM: &str =
+    "model M\n  parameter Real g = 9.81;\n  parameter Real L = 1.0;\n  Real x;\n  Real y;\n  Real vx;\n  Real vy;\n  Real lam;\nequation\n  der(x) = vx;\n  der(y) = vy;\n  der(vx) = -lam*x;\n  der(vy) = -lam*y - g;\n  x^2 + y^2 = L^2;\nend M;\n";
+
+const FUNCTIONS: &str =
+    "model M\n  input Real u;\n  parameter Real p = -2*sqrt(2.5e1);\n  Real x;\nequation\n  der(der(x)) = abs(u) + acos(u) + asin(u) + atan(u) + atan2(u, x) + cos(u) + cosh(u) + exp(u);\n  log(x) + log10(x) + max(x, 1) + min(x, 1) = sin(time) + sinh(u) + sqrt(u) + tan(u) + tanh(u);\n  (x + u)/(x*p)^2 = der(x*u);\nend M;\n";
+
+const IN_THE_FORM: [Row; 3] = [
+    ("M", PENDULUM, None, Status::Done, PENDULUM),
+    ("M", FUNCTIONS, None, Status::Done, FUNCTIONS),
+    (
+        "M",
+        "model M Real x; Real y; equation x*(y + 1) = y; y = sin(z); end M;",
+        None,
+        Status::Refused,
+        "m.mo:1:57: rule 12: name not found\n",
+    ),
+];
+
+// Texts of another form.
+const OUTSIDE: [&str; 16] = [
+    "model M Real x; equation x = if true then 1 else 2; end M;",
+    "model M Real x; equation x = sin(x, x); end M;",
+    "model M Real x; equation x = max(x); end M;",
+    "model M Real x; equation x = sin(u = x); end M;",
+    "model M Real x; equation x = noEvent(x); end M;",
+    "model M Real x; equation x = mod(x, 2); end M;",
+    "model M Real x; equation x = x.y; end M;",
+    "model M Real x; equation x = x[1]; end M;",
+    "model M Real x; equation x = .x; end M;",
+    "model M Real x; equation x = \"s\"; end M;",
+    "model M Real x; equation x = x .* x; end M;",
+    "model M Real x; equation x = der(x, x); end M;",
+    "model M Real x; equation x = f(x); end M;",
+    "model M Real x; input Real u = 1.0; end M;",
+    "model M Real x; parameter Real p; end M;",
+    "model M Real x; parameter Real p = 1.0; parameter Real q = p; end M;",
+];
+
+const PENDULUM_REPORT: &str =
+    "report M\nequations 5 unknowns 5\nequation 1 c 1 pairs vx order 0\nequation 2 c 1 pairs y order 1\nequation 3 c 0 pairs lam order 0\nequation 4 c 0 pairs vy order 1\nequation 5 c 2 pairs x order 0\nunknown x d 2\nunknown y d 2\nunknown vx d 1\nunknown vy d 1\nunknown lam d 0\nreason 1 from 3\nreason 2 from 5\nreason 5 from 1\nblock 1 2 3 4 5\ndummy der(vx) stage 1 equation 1\ndummy der(der(y)) stage 1 equation 2\ndummy der(der(x)) stage 1 equation 5\ndummy der(x) stage 2 equation 5\nstate y\nstate vy\nindex 3\nfreedom 2\n";
+
+const PENDULUM_REDUCED: &str =
+    "reduced M\n  der(x) = vx;\n  der(der(x)) = der(vx);\n  der(y) = vy;\n  der(der(y)) = der(vy);\n  der(vx) = -lam*x;\n  der(vy) = -lam*y - g;\n  x^2 + y^2 = L^2;\n  2*x*der(x) + 2*y*der(y) = 0;\n  (2*der(x)*der(x) + 2*x*der(der(x))) + (2*der(y)*der(y) + 2*y*der(der(y))) = 0;\nend M;\n";
+
+// An input decides an unknown whose derivative is used.
+const DRIVEN: &str = "model M input Real u; Real x; Real y; equation x = u; der(x) = y; end M;";
+
+const REPORTS: [Row; 2] = [
+    ("M", PENDULUM, None, Status::Done, PENDULUM_REPORT),
+    (
+        "M",
+        DRIVEN,
+        None,
+        Status::Done,
+        "report M\nequations 2 unknowns 2\nequation 1 c 1 pairs x order 0\nequation 2 c 0 pairs y order 0\nunknown x d 1\nunknown y d 0\nreason 1 from 2\nblock 1\nblock 2\ndummy der(x) stage 1 equation 1\nindex 2\nfreedom 0\n",
+    ),
+];
+
+const REDUCED: [Row; 2] = [
+    ("M", PENDULUM, None, Status::Done, PENDULUM_REDUCED),
+    (
+        "M",
+        DRIVEN,
+        None,
+        Status::Refused,
+        "m.mo:1:48: rule 43: derivative of an input\n",
+    ),
+];
+
+#[test]
+fn differentiates_what_has_to_be(rt: HostRuntime) -> Result<(), Fail> {
+    all_hold(&rt, rt.alloc(), &["--emit", "report"], &REPORTS)?;
+    Ok(all_hold(&rt, rt.alloc(), &["--emit", "reduced"], &REDUCED)?)
+}
+
+#[test]
+fn flattens_expressions_of_numbers(rt: HostRuntime) -> Result<(), Fail> {
+    Ok(all_hold(&rt, rt.alloc(), &ASK_FLAT, &IN_THE_FORM)?)
+}
+
+#[test]
+fn refuses_other_forms(rt: HostRuntime) -> Result<(), Fail> {
+    let alloc = rt.alloc();
+    for text in &OUTSIDE {
+        let row = (
+            "M",
+            *text,
+            None,
+            Status::Refused,
+            "m.mo:1:7: rule 34: outside the profile\n",
+        );
+        assert_eq!(rt; status_of(&rt, alloc, &ASK_FLAT, &row)?, Status::Refused);
+    }
+    Ok(())
 }
 
 // The status for the class M and that many files, of which `m.mo` has that text, where these reads and writes fail.
@@ -224,7 +369,7 @@ fn faulty(
     put(alloc, &mut held, "m.mo", text)?;
     let reads = List::from_vec(Vec::from_slice(alloc, reads)?);
     let writes = List::from_vec(Vec::from_slice(alloc, writes)?);
-    let words = words(alloc, "M", files)?;
+    let words = words(alloc, "M", &ASK_FLAT, files)?;
     let mut shelf = MemoryShelf::new(held, 4096, reads);
     let mut sink = MemorySink::new(alloc, 1000, 16, writes)?;
     Ok(run(alloc, words.as_slice(), &mut shelf, &mut sink))

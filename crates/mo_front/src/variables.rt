@@ -1,7 +1,7 @@
 //! The declared names of a model and their numbers.
-ghost use Rattle.std.specs.Prelude.{◌≡◌, ◌<◌, ◌^◌, ◌-◌, ◌++◌, [], ◌∷◌, length, IfOk, OnOk};
-ghost use Rattle.mo_front.specs.Flat.{number_of};
-ghost use Rattle.mo_front.specs.Form.{declared_by, declared_names};
+ghost use Rattle.std.specs.Prelude.{◌≡◌, ◌++◌, [], ◌∷◌, map, IfOk, OnOk};
+ghost use Rattle.mo_front.specs.Flat.{number_in};
+ghost use Rattle.mo_front.specs.Form.{components_of, declared_name, declared_names};
 ghost use Rattle.mo_front.specs.Known.{IsNumbered};
 ghost use Rattle.mo_front.specs.Names.{has_name, first_undeclared};
 
@@ -26,22 +26,21 @@ impl Variables {
         self.numbers.get(name).is_some()
     }
 
-    /// The number of a name; one more than their count, where it is not declared.
-    pub(crate) fn number(&self, name: &str) -> u32
-        requires few { length self.now.names < 2 ^ 32 - 1 }
+    /// The number of a declared name.
+    pub(crate) fn number(&self, name: &str) -> Option<u32>
         requires numbered { IsNumbered self.now }
-        ensures { result ≡ number_of self.now.names name.now }
+        ensures { result ≡ number_in self.now.names name.now }
     {
         match self.numbers.get(name) {
-            Some(number) => *number,
-            None => self.names.len() as u32 + 1,
+            Some(number) => Some(*number),
+            None => None,
         }
     }
 
     /// Adds a name that is declared. A name that is there already keeps its number.
     fn push(&mut self, alloc: Global, component: &Component) -> Result<(), NoMemory>
         requires numbered { IsNumbered self.old }
-        ensures names { OnOk result (self.new.names ≡ self.old.names ++ record { name = component.now.name; place = component.now.place } ∷ []) }
+        ensures names { OnOk result (self.new.names ≡ self.old.names ++ declared_name component.now ∷ []) }
         ensures numbered { OnOk result (IsNumbered self.new) }
     {
         if self.names.len() >= u32::MAX as usize - 1 {
@@ -61,7 +60,7 @@ impl Variables {
 
     fn push_item(&mut self, alloc: Global, item: &Item) -> Result<(), NoMemory>
         requires numbered { IsNumbered self.old }
-        ensures names { OnOk result (self.new.names ≡ self.old.names ++ declared_by item.now) }
+        ensures names { OnOk result (self.new.names ≡ self.old.names ++ map declared_name (components_of item.now)) }
         ensures numbered { OnOk result (IsNumbered self.new) }
     {
         match item {

@@ -1,25 +1,43 @@
 //! The words of the command line.
-ghost use Rattle.std.specs.Prelude.{◌≡◌, ◌++◌, ◌∷◌, [], true, false, List as Seq, ℕ, None, Some, IfOk, IfSome, IsErrOf, OnOk, option_map};
+ghost use Rattle.std.specs.Prelude.{◌≡◌, ◌≢◌, ◌++◌, ◌∷◌, [], true, false, List as Seq, ℕ, None, Some, IfOk, IfSome, IsErrOf, OnOk, map, option_map};
 ghost use Rattle.std.specs.List.{flat_map};
 ghost use Rattle.mo_syntax.specs.Lexeme.{lexemes};
 ghost use Rattle.std.specs.String.{string_bytes};
-ghost use Rattle.mo_front.specs.Words.{NamesClass, dotted_names, is_dot, is_end, is_ident, name_alone, name_before_dot, with_dots};
-ghost use Rattle.mo_front.specs.Run.{Names, words_of};
+ghost use Rattle.mo_front.specs.Words.{Asks, AsksFor, Names, NamesClass, command, dotted_names, is_dot, is_end, is_ident, name_alone, name_before_dot, with_dots};
+ghost use Rattle.mo_front.specs.Run.{words_of};
+ghost use Rattle.clap.specs.Words.{app_of, found_of, kind_of, rows_of};
 
+use clap::error::ErrorKind;
+use clap::{Arg, ArgAction, ArgMatches, Command, Error};
 use mo_lexer::tokens;
 use mo_syntax::{List, NoMemory, Path, Stop, Text, Token, TokenKind};
-use std::alloc::Global;
+use std::alloc::{AllocError, Global};
 
 /// The most files that the words may name.
 const MOST_FILES: usize = 64;
 
+/// What is to be written of a model.
+#[derive(Clone, Copy, Debug, PartialEq, Eq)]
+pub enum Emit {
+    /// Its flat text.
+    Flat,
+    /// The text of its reduced model.
+    Reduced,
+    /// The report on its structure.
+    Report,
+    /// All three.
+    All,
+}
+
 /// What the words ask for.
 #[derive(Drop)]
-pub(crate) struct Words<'a> {
+pub(crate) struct Job {
     /// The path of the class.
     pub class: Path,
+    /// What is to be written of it.
+    pub emit: Emit,
     /// From 1 to 64 names.
-    pub files: &'a [String],
+    pub files: Vec<String>,
 }
 
 /// Why the words ask for nothing.
@@ -30,26 +48,117 @@ pub(crate) enum WordsFault {
     NoMemory,
 }
 
-/// Reads the words: the name of a class, which is identifiers with dots between them, and from 1 to 64 files.
-pub(crate) fn read_words<'a>(alloc: Global, words: &'a [String]) -> Result<Words<'a>, WordsFault>
-    ensures names { IfOk result (λ w. Names (words_of words.now) w.class.0 (words_of w.files.now)) }
-    ensures usage { IsErrOf result WordsFault.Usage → (path files : Seq (Seq ℕ)) → Names (words_of words.now) path files → ⊥ }
+impl From<AllocError> for WordsFault {
+    ghost use Rattle.std.specs.Prelude.{◌≡◌};
+    ghost use Rattle.mo_front.specs.declared.words.WordsFault.TheVariants.{NoMemory as no_memory};
+
+    ghost from_gives = { λ _ fault. fault ≡ no_memory };
+
+    fn from(_refused: AllocError) -> WordsFault {
+        WordsFault::NoMemory
+    }
+}
+
+impl From<NoMemory> for WordsFault {
+    ghost use Rattle.std.specs.Prelude.{◌≡◌};
+    ghost use Rattle.mo_front.specs.declared.words.WordsFault.TheVariants.{NoMemory as no_memory};
+
+    ghost from_gives = { λ _ fault. fault ≡ no_memory };
+
+    fn from(_refused: NoMemory) -> WordsFault {
+        WordsFault::NoMemory
+    }
+}
+
+/// Reads the words of the command line, without the program's own name.
+pub(crate) fn read_words(alloc: Global, words: &[String]) -> Result<Job, WordsFault>
+    ensures names { IfOk result (λ job. Names (words_of words.now) job.class.0 job.emit (words_of job.files.items)) }
+    ensures usage { IsErrOf result WordsFault.Usage → (path files : Seq (Seq ℕ)) → (emit : Emit) → Names (words_of words.now) path emit files → ⊥ }
 {
-    let [class, ..] = words else {
+    match command(alloc)?.try_get_matches_from(words) {
+        Ok(matches) => asked(alloc, &matches),
+        Err(error) => Err(fault(&error)),
+    }
+}
+
+/// The command as `clap` reads it.
+fn command<'a>(alloc: Global) -> Result<Command<'a>, AllocError>
+    ensures { IfOk result (λ made. app_of made ≡ command) }
+{
+    let class = Arg::new(alloc, "class").long("class").required(true);
+    let emit = Arg::new(alloc, "emit").long("emit");
+    let file = Arg::new(alloc, "file")
+        .action(ArgAction::Append)
+        .required(true);
+    Command::new(alloc, "mofront")
+        .no_binary_name(true)
+        .disable_help_flag(true)
+        .arg(class)?
+        .arg(emit)?
+        .arg(file)
+}
+
+/// What an error of `clap` comes to.
+fn fault(error: &Error) -> WordsFault
+    ensures usage { result ≡ WordsFault.Usage → kind_of error.now ≢ ErrorKind.OutOfMemory }
+    ensures memory { result ≡ WordsFault.NoMemory → kind_of error.now ≡ ErrorKind.OutOfMemory }
+{
+    match error.kind() {
+        ErrorKind::OutOfMemory => WordsFault::NoMemory,
+        _ => WordsFault::Usage,
+    }
+}
+
+/// What the options and files ask for.
+fn asked(alloc: Global, matches: &ArgMatches<'_>) -> Result<Job, WordsFault>
+    ensures asks { IfOk result (λ job. Asks (rows_of (found_of matches.now)) job.class.0 job.emit (words_of job.files.items)) }
+    ensures usage { IsErrOf result WordsFault.Usage → (path files : Seq (Seq ℕ)) → (emit : Emit) → Asks (rows_of (found_of matches.now)) path emit files → ⊥ }
+{
+    let Some(word) = matches.get_str("class") else {
         return Err(WordsFault::Usage);
     };
-    let files = &words[1..];
-    if files.is_empty() {
+    let Some(class) = class_path(alloc, word)? else {
+        return Err(WordsFault::Usage);
+    };
+    let Some(emit) = emit_named(matches.get_str("emit")) else {
+        return Err(WordsFault::Usage);
+    };
+    let Some(files) = matches.get_raw("file") else {
+        return Err(WordsFault::Usage);
+    };
+    if files.is_empty() || files.len() > MOST_FILES {
         return Err(WordsFault::Usage);
     }
-    if files.len() > MOST_FILES {
-        return Err(WordsFault::Usage);
+    let files = copied(alloc, files)?;
+    Ok(Job { class, emit, files })
+}
+
+/// What the word of `--emit` asks for, None where it is no such word.
+fn emit_named(word: Option<&str>) -> Option<Emit>
+    ensures some { IfSome result (AsksFor (option_map (λ w. w.now) word.entry)) }
+    ensures none { result ≡ None → (emit : Emit) → AsksFor (option_map (λ w. w.now) word.entry) emit → ⊥ }
+{
+    let Some(word) = word else {
+        return Some(Emit::All);
+    };
+    match word {
+        "flat" => Some(Emit::Flat),
+        "reduced" => Some(Emit::Reduced),
+        "report" => Some(Emit::Report),
+        "all" => Some(Emit::All),
+        _ => None,
     }
-    match class_path(alloc, class.as_str()) {
-        Ok(Some(class)) => Ok(Words { class, files }),
-        Ok(None) => Err(WordsFault::Usage),
-        Err(_) => Err(WordsFault::NoMemory),
+}
+
+/// The texts as strings.
+fn copied(alloc: Global, texts: &[&str]) -> Result<Vec<String>, AllocError>
+    ensures { IfOk result (λ copies. words_of copies.items ≡ map (λ t. t.now) texts.now) }
+{
+    let mut copies = Vec::new(alloc);
+    for text in texts {
+        copies.push(String::from_str(alloc, text)?)?;
     }
+    Ok(copies)
 }
 
 /// The path of the class that the word names, None where it names none.

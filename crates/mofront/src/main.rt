@@ -20,7 +20,9 @@ fn main(rt: HostRuntime) -> ExitCode {
     let mut out = StdSink::new(io::writer(&rt));
     let status = run(rt.alloc(), words.as_slice(), &mut shelf, &mut out);
     if status == Status::Usage {
-        let _ = eprintln!(rt; "usage: mofront NAME FILE..");
+        let _ = eprintln!(rt;
+            "usage: mofront --class NAME [--emit flat|reduced|report|all] FILE..."
+        );
     }
     ExitCode::from(status.number())
 }

@@ -3,12 +3,12 @@ use Rattle.std.proofs.Common.{map, subst, Ok, Err}
 use Rattle.mo_syntax.specs.Lexeme.{lexemes}
 use Rattle.mo_lexer.specs.Lexing.{IfBroken}
 use Rattle.mo_front.specs.Files.{Trees}
-use Rattle.mo_front.proofs.Answering.{trees-text, trees-refusal, no-trees, no-tokens}
+use Rattle.mo_front.proofs.Answering.{trees-flat, trees-refusal, no-trees, no-tokens}
 use Rattle.mo_front.proofs.answer.of_texts.Goals as goal
 
-pub returns-in-Ok-all_trees-clause-text : goal.returns-in-Ok-all_trees-clause-text
-returns-in-Ok-all_trees-clause-text c =
-    trees-text _ _ _ _ _ c.in-Ok.ensures.tokens (subst (λ x. Trees (map lexemes x) (Ok c.in-Ok-all_trees.files)) c.as_slice.ensures c.in-Ok-all_trees.ensures.trees) c.of_trees.ensures.text
+pub returns-in-Ok-all_trees-clause-flat : goal.returns-in-Ok-all_trees-clause-flat
+returns-in-Ok-all_trees-clause-flat c =
+    trees-flat _ _ _ _ _ c.in-Ok.ensures.tokens (subst (λ x. Trees (map lexemes x) (Ok c.in-Ok-all_trees.files)) c.as_slice.ensures c.in-Ok-all_trees.ensures.trees) c.of_trees.ensures.flat
 
 pub returns-in-Ok-all_trees-clause-refused : goal.returns-in-Ok-all_trees-clause-refused
 returns-in-Ok-all_trees-clause-refused c =

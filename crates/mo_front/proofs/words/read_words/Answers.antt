@@ -1,12 +1,19 @@
--- Words of one form or the other.
+-- Words that `clap` reads, and words that it refuses.
 use Rattle.std.proofs.Common.{rules}
-use Rattle.mo_front.proofs.Dotting.{names-words, no-names}
+use Rattle.std.proofs.lemmas.Result.{IfOk-weaker}
+use Rattle.mo_front.proofs.Asking.{at-fault, named, not-named}
 use Rattle.mo_front.proofs.words.read_words.Goals as goal
 
-pub returns-in-Ok-Some-clause-names : goal.returns-in-Ok-Some-clause-names
-returns-in-Ok-Some-clause-names c =
-    names-words c.args.words.now c.class-item.result c.as_str.result.now c.in-Ok-Some.class.0 (search rules) (search rules) (rw c.in-Ok-Some.field-0-is at c.in-Ok-Some.ensures.found) (search rules) (search rules)
+pub returns-in-Ok-clause-names : goal.returns-in-Ok-clause-names
+returns-in-Ok-clause-names c =
+    IfOk-weaker c.asked.result _ _
+    (λ job asks. named _ _ _ _ _ _ c.in_ok-command.ensures c.in-Ok.ensures.kinds c.in-Ok.ensures.matches asks)
+    c.asked.ensures.asks
 
-pub returns-in-Ok-None-clause-usage : goal.returns-in-Ok-None-clause-usage
-returns-in-Ok-None-clause-usage c = λ same.
-    no-names c.args.words.now c.class-item.result c.as_str.result.now (search rules) (search rules) (c.in-Ok-None.ensures.none c.in-Ok-None.field-0-is)
+pub returns-in-Ok-clause-usage : goal.returns-in-Ok-clause-usage
+returns-in-Ok-clause-usage c = λ same path files emit.
+    not-named _ _ _ path files emit c.in_ok-command.ensures c.in-Ok.ensures.matches (c.asked.ensures.usage same path files emit)
+
+pub returns-in-Err-clause-usage : goal.returns-in-Err-clause-usage
+returns-in-Err-clause-usage c = λ same path files emit.
+    at-fault _ _ _ path files emit c.in_ok-command.ensures c.in-Err.ensures.kinds (c.fault.ensures.usage (search rules))

@@ -1,0 +1,158 @@
+-- What an assignment of all equations and the least offsets give.
+use Rattle.std.proofs.Common.{◌≡◌, ℕ, ◌-◌, ◌<◌, ◌≤◌, List, Vec, Some, length, get_or, refl, ap, ◌∙◌, subst, arith}
+use Rattle.std.specs.Global.{Global}
+use Rattle.std.proofs.lemmas.Grind.{get_or_default_zero}
+use Rattle.std.proofs.lemmas.List.{length-map}
+use Rattle.mo_flat.specs.declared.model.FlatModel.{FlatModel}
+use Rattle.mo_incidence.specs.declared.findings.Blocks.{Blocks}
+use Rattle.mo_incidence.specs.declared.findings.Deficit.{Deficit}
+use Rattle.mo_incidence.specs.declared.findings.Dummies.{Dummies}
+use Rattle.mo_incidence.specs.declared.findings.Offsets.{Offsets}
+use Rattle.mo_incidence.specs.declared.findings.Reason.{Reason}
+use Rattle.mo_incidence.specs.Signature.{Signature, equations, IsSound}
+use Rattle.mo_incidence.specs.Assignment.{Mentions, IsAssignment, CoversAll, ListsWhere, IsDeficit, IsUndetermined}
+use Rattle.mo_incidence.specs.Offsets.{IsTight, by_place, by_number}
+use Rattle.mo_incidence.specs.Model.{row_of, incidence_of}
+use Rattle.mo_incidence.proofs.Counting.{distinct-room}
+use Rattle.mo_pantelides.proofs.Tight.{tight-entry-of}
+use Rattle.mo_blocks.proofs.Dummying.{tight-low}
+use Rattle.mo_blocks.proofs.Owning.{tight-known}
+use Rattle.mo_report.specs.declared.report.Report.{Report}
+use Rattle.mo_report.specs.Right.{AreLeastOffsets, AreOrdersAt, HasSquareParts, HasNoSquareParts, IsRightFor, singular, underdetermined, square}
+use Rattle.mo_report.specs.Right.{IsRightReport}
+use Rattle.mo_front.specs.Structure.{order_by_offsets, IsReportOn, IsEmptyReport}
+
+mentions-known : (g : Signature) (i j : ℕ) → IsSound g → i < equations g → Mentions g i j → (0 < j) × (j ≤ g.unknowns)
+unfolding Mentions
+mentions-known g i j sound l mentions = rw mentions.2 at (sound.known i mentions.0 l mentions.1)
+
+-- where each equation has an unknown of its own, there are no more equations than unknowns
+pub few-equations : (g : Signature) (q : ℕ → ℕ) → IsSound g → IsAssignment g q → CoversAll g q → equations g ≤ g.unknowns
+few-equations g q sound assigns all =
+    let known = λ (i : ℕ) (l : i < equations g). mentions-known g i (q i) sound l (assigns.allowed i l (all i l)) in
+    distinct-room (λ i. q i - 1) (equations g) g.unknowns
+    (λ i l. let at = known i l in omega (arith, at.0, at.1))
+    (λ i k il kl same. let one = known i il in let other = known k kl in assigns.apart i k il kl (all i il) (omega (arith, one.0, other.0)))
+
+-- what is read of the offsets: the unknown j of the equation at place i, and their offsets x and y
+module _ (g : Signature) (offsets : Offsets) (i j : ℕ) (sound : IsSound g) (least : AreLeastOffsets g offsets) (l : i < equations g)
+    (j-is : j ≡ get_or offsets.pairs.items i j) where
+  pair-is : j ≡ by_place offsets.pairs.items i
+  pair-is =
+      let inside : i < length offsets.pairs.items = omega (arith, least.pairs_all) in
+      j-is ∙ get_or_default_zero offsets.pairs.items i j inside
+
+  pair-tight : IsTight g (by_place offsets.c.items) (by_number offsets.d.items) i (by_place offsets.pairs.items i)
+  pair-tight = least.tight.allowed i l (least.covers i l)
+
+  pub pair-known : (0 < j) × (j - 1 < length offsets.d.items)
+  pair-known =
+      let known : (0 < by_place offsets.pairs.items i) × (by_place offsets.pairs.items i ≤ g.unknowns) =
+      tight-known g (by_place offsets.c.items) (by_number offsets.d.items) i (by_place offsets.pairs.items i) sound l pair-tight in
+      let is : j ≡ by_place offsets.pairs.items i = pair-is in
+      let all : length offsets.d.items ≡ g.unknowns = least.unknowns_all in
+      (omega (arith, known.0), omega (arith, known.0, known.1))
+
+  module _ (x y : ℕ) (x-is : x ≡ get_or offsets.c.items i x) (y-is : y ≡ get_or offsets.d.items (j - 1) y) where
+    offset-is : x ≡ by_place offsets.c.items i
+    offset-is =
+        let inside : i < length offsets.c.items = omega (arith, least.equations_all) in
+        x-is ∙ get_or_default_zero offsets.c.items i x inside
+
+    highest-is : y ≡ by_number offsets.d.items (by_place offsets.pairs.items i)
+    highest-is = y-is ∙ get_or_default_zero offsets.d.items (j - 1) y pair-known.1 ∙ ap (by_number offsets.d.items) pair-is
+
+    pub order-low : x ≤ y
+    order-low =
+        let low : by_place offsets.c.items i ≤ by_number offsets.d.items (by_place offsets.pairs.items i) =
+        tight-low g (by_place offsets.c.items) (by_number offsets.d.items) i (by_place offsets.pairs.items i) pair-tight in
+        omega (arith, offset-is, highest-is)
+
+    pub order-is : y - x ≡ order_by_offsets offsets i
+    order-is = omega (arith, offset-is, highest-is)
+
+-- the differences of the offsets are the orders at the pairs
+pub orders-at : (g : Signature) (offsets : Offsets) (orders : List ℕ) → AreLeastOffsets g offsets → length orders ≡ equations g
+    → ((i : ℕ) → i < equations g → get_or orders i 0 ≡ order_by_offsets offsets i) → AreOrdersAt g offsets.pairs.items orders
+orders-at g offsets orders least all each = record {
+  all = all;
+  order = λ i l.
+      let entry = tight-entry-of g (by_place offsets.c.items) (by_number offsets.d.items) i (by_place offsets.pairs.items i)
+      (least.tight.allowed i l (least.covers i l)) in
+      let here = each i l in
+      (entry.0, entry.1, entry.2, omega (arith, entry.3));
+}
+
+-- where the parts of square systems are the same
+none-there : (e r : Report) → HasNoSquareParts e → r.reasons ≡ e.reasons → r.blocks ≡ e.blocks → r.dummies ≡ e.dummies → r.index ≡ e.index
+    → r.freedom ≡ e.freedom → HasNoSquareParts r
+none-there e r none reasons blocks dummies index freedom = record {
+  reasons = rw reasons none.reasons;
+  blocks = rw blocks none.blocks;
+  dummies = rw dummies none.dummies;
+  states = rw dummies none.states;
+  index = rw index none.index;
+  freedom = rw freedom none.freedom;
+}
+
+-- the report where some equation is left out
+pub singular-report : (m : FlatModel) (g : Signature) (e : Report) (deficit : Deficit) (k : ℕ) → IsEmptyReport m g e
+    → IsDeficit g deficit.equations.items deficit.unknowns.items k → 0 < k → IsReportOn m g (record e { deficit = Some deficit })
+singular-report m g e deficit k empty is some = record {
+  name = empty.name;
+  unknowns = empty.unknowns;
+  equations = empty.equations;
+  found = singular deficit k (omega arith) refl is empty.offsets empty.orders empty.loose
+      (none-there _ _ empty.square refl refl refl refl refl);
+}
+
+-- the report where there are fewer equations than unknowns
+pub underdetermined-report : (m : FlatModel) (g : Signature) (e : Report) (offsets : Offsets) (orders loose : Vec ℕ Global) → IsEmptyReport m g e
+    → equations g < g.unknowns → AreLeastOffsets g offsets → AreOrdersAt g offsets.pairs.items orders.items
+    → ListsWhere (IsUndetermined g) g.unknowns loose.items → IsReportOn m g (record e { orders = orders; offsets = Some offsets; loose = loose })
+underdetermined-report m g e offsets orders loose empty fewer least at lists = record {
+  name = empty.name;
+  unknowns = empty.unknowns;
+  equations = empty.equations;
+  found = underdetermined offsets fewer (record { no_deficit = empty.deficit; given = refl; least = least; orders = at }) lists
+      (none-there _ _ empty.square refl refl refl refl refl);
+}
+
+-- the report on a square system
+pub square-report : (m : FlatModel) (g : Signature) (e : Report) (offsets : Offsets) (orders : Vec ℕ Global) (reasons : Vec Reason Global)
+    (blocks : Blocks) (dummies : Dummies) (index freedom : ℕ) → IsEmptyReport m g e → equations g ≡ g.unknowns → AreLeastOffsets g offsets
+    → AreOrdersAt g offsets.pairs.items orders.items
+    → HasSquareParts g offsets (record e {
+      orders = orders;
+      offsets = Some offsets;
+      reasons = reasons;
+      blocks = blocks;
+      dummies = dummies;
+      index = index;
+      freedom = freedom;
+    })
+    → IsReportOn m g (record e {
+      orders = orders;
+      offsets = Some offsets;
+      reasons = reasons;
+      blocks = blocks;
+      dummies = dummies;
+      index = index;
+      freedom = freedom;
+    })
+square-report m g e offsets orders reasons blocks dummies index freedom empty is_square least at parts = record {
+  name = empty.name;
+  unknowns = empty.unknowns;
+  equations = empty.equations;
+  found = square offsets is_square (record { no_deficit = empty.deficit; given = refl; least = least; orders = at }) empty.loose parts;
+}
+
+-- the report on the incidence of a model is right for it
+pub right-report : (m : FlatModel) (g : Signature) (r : Report) → g ≡ incidence_of m → IsReportOn m g r → IsRightReport m r
+unfolding equations incidence_of
+right-report m g r is on = record {
+  name = on.name;
+  unknowns = on.unknowns;
+  equations = on.equations ∙ ap (λ (x : Signature). length x.rows) is ∙ length-map m.equations (row_of m.vars);
+  found = subst (λ x. IsRightFor x r) is on.found;
+}
