@@ -6,7 +6,10 @@
 - each path below crates/, docs/, examples/ or bench/ that is cited in backticks, or as a link, is there, apart from those
   with NAME and those that a build makes;
 - each block of text behind a line `<!-- examples/NAME -->` is that file;
-- the numbers and texts of the rules in docs/RULES.md are those of the definition, all of them, in order.
+- the numbers and texts of the rules in docs/RULES.md are those of the definition, all of them, in order;
+- the definitions that the program's contract stands on are those that the table of docs/PROVED.md lists.
+
+With --reading it prints these definitions instead, each behind those that it cites.
 """
 import re
 import sys
@@ -17,6 +20,9 @@ FUNCTION = re.compile(r"\s*(pub(?:\([^)]*\))? +)?(?:const +)?fn +(\w+)")
 CLAUSE = re.compile(r"\s*ensures\b\s*(\w*)\s*\{")
 CITED = re.compile(r"`([a-z][a-z_0-9]*): ([a-z][a-z_0-9]*(?:, [a-z][a-z_0-9]*)*)`")
 PATH = re.compile(r"`((?:crates|docs|examples|bench)/[\w./-]*)`|\]\(([\w./-]+\.\w+)\)")
+USE = re.compile(r"^use Rattle\.(\w+)\.specs\.(\w+)", re.M)
+LISTED = re.compile(r"^\| \d+ \| `crates/(\w+)/specs` \|(.*)\|$", re.M)
+ROOTS = (("mo_ports", "Counts"), ("mo_front", "Run"))
 FENCE = re.compile(r"^```.*?^```$", re.M | re.S)
 EXAMPLE = re.compile(r"^<!-- (examples/\S+) -->\n```\w*\n(.*?)^```$", re.M | re.S)
 
@@ -59,11 +65,34 @@ def faults_of_rules():
         yield "docs/RULES.md: the rules are not those of crates/mo_front/specs/Refusal.antt"
 
 
+def definitions(roots, seen):
+    """The definitions that these stand on, and these, each behind those that it cites."""
+    for crate, name in roots:
+        path = TOP / "crates" / crate / "specs" / (name + ".antt")
+        if (crate, name) not in seen and path.is_file():
+            seen.add((crate, name))
+            yield from definitions(USE.findall(path.read_text()), seen)
+            yield crate, name
+
+
+def faults_of_reading():
+    rows = LISTED.findall((TOP / "docs/PROVED.md").read_text())
+    listed = {(crate, name) for crate, files in rows for name in re.findall(r"\b[A-Z]\w*", files)}
+    cited = set(definitions(ROOTS, set()))
+    for said, some in ("does not list", cited - listed), ("lists", listed - cited):
+        for crate, name in sorted(some):
+            yield f"docs/PROVED.md {said} crates/{crate}/specs/{name}.antt"
+
+
 def main():
+    if sys.argv[1:] == ["--reading"]:
+        for crate, name in definitions(ROOTS, set()):
+            print(f"crates/{crate}/specs/{name}.antt")
+        return 0
     known = clauses()
     pages = [TOP / "README.md", *sorted(TOP.glob("docs/*.md")), *sorted(TOP.glob("bench/*.md"))]
     faults = [f"{page.relative_to(TOP)}: {fault}" for page in pages for fault in faults_of(page, known)]
-    faults += faults_of_rules()
+    faults += [*faults_of_rules(), *faults_of_reading()]
     for fault in faults:
         print(fault, file=sys.stderr)
     return 1 if faults else 0
