@@ -28,3 +28,9 @@ pub mod ImportForms
 pub mod FactorForms
 pub mod PrefixForms
 pub mod SectionForms
+pub mod Holding
+pub mod SoundSteps
+pub mod SoundExpressions
+pub mod SoundClasses
+pub mod SoundElements
+pub mod SoundTrees

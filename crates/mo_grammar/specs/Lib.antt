@@ -16,3 +16,4 @@ pub mod Tables
 pub mod Language
 pub mod Printed
 pub mod Classless
+pub mod Naming

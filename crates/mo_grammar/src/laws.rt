@@ -1,12 +1,15 @@
 //! The laws of the grammar, for every production of it. Each function does nothing: its contract is the law.
-ghost use Rattle.std.specs.Prelude.{◌≡◌, ℕ, List, [], ◌∷◌, ◌++◌, true};
+ghost use Rattle.std.specs.Prelude.{◌≡◌, ℕ, List, [], ◌∷◌, ◌++◌, true, IsTrue};
+ghost use Rattle.mo_syntax.specs.declared.class.FileTree.{FileTree};
+ghost use Rattle.mo_syntax.specs.SoundTree.{Naming, is_sound_file};
 ghost use Rattle.mo_grammar.specs.declared.fault.Fault.{Fault};
 ghost use Rattle.mo_grammar.specs.declared.fault.Fault.TheVariants.{Misplaced, Misnamed};
 ghost use Rattle.mo_grammar.specs.Lexeme.{Lexeme};
 ghost use Rattle.mo_grammar.specs.Grammar.{EndName, Limits, at_most, end_name_in};
 ghost use Rattle.mo_grammar.specs.Reading.{read, stuck, unfinished};
-ghost use Rattle.mo_grammar.specs.Symbols.{Symbol, ValueOf};
+ghost use Rattle.mo_grammar.specs.Symbols.{Symbol, ValueOf, Files};
 ghost use Rattle.mo_grammar.specs.Classless.{is_classless};
+ghost use Rattle.mo_grammar.specs.Naming.{IdentifiersPass};
 ghost use Rattle.mo_grammar.specs.Language.{Spells, Begins, IsLongestFront, IsImpossibleAfter, HasFaultAfter, EndsBeforeNames, reads};
 
 /// Tokens spell at most one tree of a production, whatever the limits are.
@@ -55,4 +58,10 @@ pub fn unfinished_front()
 /// What holds no class is read in the same way whatever the limit of classes and the name behind `end` are.
 pub fn classes_leave_alone()
     ensures { (x : Symbol) → is_classless x ≡ true → (constructs classes others : ℕ) (name other : EndName) (tokens : List Lexeme) → reads x (at_most constructs classes name) tokens ≡ reads x (at_most constructs others other) tokens }
+{}
+
+/// A file that tokens spell is sound, and each name in it is that of an identifier: it passes each test that the identifiers
+/// among the tokens pass.
+pub fn files_are_sound()
+    ensures { (is_name : Naming) (l : Limits) (tokens : List Lexeme) (file : FileTree) → Spells Files l tokens file → IdentifiersPass is_name tokens → IsTrue (is_sound_file is_name file) }
 {}

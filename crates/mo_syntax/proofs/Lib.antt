@@ -3,3 +3,4 @@ pub mod CountLemmas
 pub mod Found
 pub mod Outlines
 pub mod Searching
+pub mod SoundParts
