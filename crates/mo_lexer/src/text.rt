@@ -85,6 +85,3 @@ fn place_before(file: u32, text: &str, rest: &str) -> Place
     let byte = (text.len() - rest.len()) as u32;
     Place { file, byte }
 }
-
-#[cfg(test)]
-mod tests;

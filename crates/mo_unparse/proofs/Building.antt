@@ -20,7 +20,7 @@ use Rattle.mo_grammar.proofs.Checked.{in_rises}
 use Rattle.mo_grammar.proofs.Extending.{two_heights}
 use Rattle.mo_grammar.proofs.Complete.{some_first}
 use Rattle.mo_grammar.proofs.Tested.{passed}
-use Rattle.mo_unparse.specs.Pieces.{Piece, a_name, a_word, a_mark, a_whole, a_decimal, a_string, a_blank, a_line, deeper, shallower, nowhere, token_of, placeless_token, tokens_of_piece, tokens_of, IsToken, AreTokens}
+use Rattle.mo_pieces.specs.Pieces.{Piece, a_name, a_word, a_mark, a_whole, a_decimal, a_string, a_blank, a_line, deeper, shallower, nowhere, token_of, placeless_token, tokens_of_piece, tokens_of, IsToken, AreTokens}
 use Rattle.mo_unparse.proofs.Holding.{HoldsEach}
 
 -- The tokens of the pieces are spelled as the text of tokens wants it, and they spell the value by the form.

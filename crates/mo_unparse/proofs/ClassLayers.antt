@@ -24,14 +24,14 @@ use Rattle.mo_syntax.specs.declared.class.Item.TheVariants.{Import as imports, E
 use Rattle.mo_syntax.specs.declared.class.ModsOf.{ModsOf}
 use Rattle.mo_syntax.specs.declared.class.What.{What, What-F, fold-roll-What}
 use Rattle.mo_syntax.specs.declared.class.What.TheVariants.{Class, Component, rolls-Class, rolls-Component}
-use Rattle.mo_unparse.specs.declared.section.Section.TheVariants.{Behavior}
-use Rattle.mo_unparse.specs.Pieces.{Piece, a_name, a_word, a_mark, a_blank}
-use Rattle.mo_unparse.specs.Lines.{on_a_line}
-use Rattle.mo_unparse.specs.ShownExpressions.{a_comma, in_parentheses, pieces_of_reference, pieces_of_subscripts, spaced}
-use Rattle.mo_unparse.specs.ShownEquations.{pieces_of_equation, pieces_of_statement}
-use Rattle.mo_unparse.specs.ShownModifiers.{ShownGive, pieces_of_binding, argument_with, arguments_with, mods_with}
-use Rattle.mo_unparse.specs.ShownElements.{ShownElement, ShownItem, pieces_of_causal, type_of, value_of, component_with, pieces_of_flags, limit_with, extends_with, pieces_of_import, section_of}
-use Rattle.mo_unparse.specs.ShownClasses.{ShownBody, name_with, inside_of, short_with, enumeration_of, derivative_of, section_with, in_body, in_give, in_item, in_what, in_element, shown_body, shown_give, shown_item, pieces_of_what, shown_element, pieces_of_class, pieces_of_element}
+use Rattle.mo_pieces.specs.declared.section.Section.TheVariants.{Behavior}
+use Rattle.mo_pieces.specs.Pieces.{Piece, a_name, a_word, a_mark, a_blank}
+use Rattle.mo_pieces.specs.Lines.{on_a_line}
+use Rattle.mo_pieces.specs.ShownExpressions.{a_comma, in_parentheses, pieces_of_reference, pieces_of_subscripts, spaced}
+use Rattle.mo_pieces.specs.ShownEquations.{pieces_of_equation, pieces_of_statement}
+use Rattle.mo_pieces.specs.ShownModifiers.{ShownGive, pieces_of_binding, argument_with, arguments_with, mods_with}
+use Rattle.mo_pieces.specs.ShownElements.{ShownElement, ShownItem, pieces_of_causal, type_of, value_of, component_with, pieces_of_flags, limit_with, extends_with, pieces_of_import, section_of}
+use Rattle.mo_pieces.specs.ShownClasses.{ShownBody, name_with, inside_of, short_with, enumeration_of, derivative_of, section_with, in_body, in_give, in_item, in_what, in_element, shown_body, shown_give, shown_item, pieces_of_what, shown_element, pieces_of_class, pieces_of_element}
 use Rattle.mo_unparse.proofs.Rows.{in_row-map}
 
 -- ---- modifier lists are mapped argument by argument

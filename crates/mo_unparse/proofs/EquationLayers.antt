@@ -9,10 +9,10 @@ use Rattle.mo_syntax.specs.declared.equation.EquationKind.TheVariants.{If as if_
 use Rattle.mo_syntax.specs.declared.equation.StatementOf.{StatementOf}
 use Rattle.mo_syntax.specs.declared.equation.StatementKind.{StatementKind, fold_out-StatementKind}
 use Rattle.mo_syntax.specs.declared.equation.StatementKind.TheVariants.{If as if_statement, For as for_statement, While as while_statement, When as when_statement, outs-If as outs-if_statement, outs-For as outs-for_statement, outs-While as outs-while_statement, outs-When as outs-when_statement}
-use Rattle.mo_unparse.specs.Pieces.{Piece, a_word, a_blank}
-use Rattle.mo_unparse.specs.Lines.{block_of, end_of}
-use Rattle.mo_unparse.specs.ShownExpressions.{pieces_of_indices, pieces_of_expr}
-use Rattle.mo_unparse.specs.ShownEquations.{branch_of, branches_of, else_of, loop_of, while_of, in_equation, in_statement, pieces_of_equation, pieces_of_equation_kind, pieces_of_statement, pieces_of_statement_kind}
+use Rattle.mo_pieces.specs.Pieces.{Piece, a_word, a_blank}
+use Rattle.mo_pieces.specs.Lines.{block_of, end_of}
+use Rattle.mo_pieces.specs.ShownExpressions.{pieces_of_indices, pieces_of_expr}
+use Rattle.mo_pieces.specs.ShownEquations.{branch_of, branches_of, else_of, loop_of, while_of, in_equation, in_statement, pieces_of_equation, pieces_of_equation_kind, pieces_of_statement, pieces_of_statement_kind}
 use Rattle.mo_unparse.proofs.Listed.{block-map, branches-map, else-map}
 
 both : (a b c d e : List Piece) → a ≡ b → c ≡ d → a ++ (c ++ e) ≡ b ++ (d ++ e)

@@ -8,9 +8,9 @@ use Rattle.mo_syntax.specs.declared.expr.IndexOf.{IndexOf}
 use Rattle.mo_grammar.specs.Lexeme.{Lexeme}
 use Rattle.mo_grammar.specs.Grammar.{symbol}
 use Rattle.mo_grammar.specs.Symbols.{Symbol, ValueOf, Expressions, Simples, Logicals, Conjunctions, Negations, Relations, Sums, Products, Powers, Primaries, CallArguments, Arguments, MoreArguments, OneArgument, Indices, References, Subscripts, TypeSpecs, Names}
-use Rattle.mo_unparse.specs.Pieces.{Piece, a_name, a_mark, placeless_token}
+use Rattle.mo_pieces.specs.Pieces.{Piece, a_name, a_mark, placeless_token}
 use Rattle.mo_unparse.specs.Placeless.{placeless_arg, placeless_args, placeless_named, placeless_indices, placeless_options, placeless_reference}
-use Rattle.mo_unparse.specs.ShownExpressions.{shown_expr, pieces_of_arg, pieces_of_args, pieces_of_indices, pieces_of_reference, pieces_of_subscripts, given_pieces, named_pieces, iterators_pieces, joined_by}
+use Rattle.mo_pieces.specs.ShownExpressions.{shown_expr, pieces_of_arg, pieces_of_args, pieces_of_indices, pieces_of_reference, pieces_of_subscripts, given_pieces, named_pieces, iterators_pieces, joined_by}
 use Rattle.mo_unparse.proofs.Holding.{Fact}
 use Rattle.mo_unparse.proofs.Building.{IsPrinted}
 use Rattle.mo_unparse.proofs.PrintingLevels.{IsGiven}

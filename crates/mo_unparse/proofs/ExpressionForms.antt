@@ -18,10 +18,10 @@ use Rattle.mo_syntax.specs.declared.expr.Arg.{Arg, Arg-F, fold_out-Arg, map-Arg,
 use Rattle.mo_syntax.specs.declared.expr.Arg.TheVariants.{Value, Partial, outs-Value, outs-Partial}
 use Rattle.mo_syntax.specs.declared.expr.Node.{Node, Node-F, fold_out-Node, map-Node, out-Node}
 use Rattle.mo_syntax.specs.declared.expr.Node.TheVariants.{Whole, Decimal, Str, Truth, Ref, Sum, Product, Power, Relation, Not, All, Any, Range, If, Call, Tuple, Array, ArrayFor, Matrix, EndMark, outs-Whole, outs-Decimal, outs-Str, outs-Truth, outs-Ref, outs-Sum, outs-Product, outs-Power, outs-Relation, outs-Not, outs-All, outs-Any, outs-Range, outs-If, outs-Call, outs-Tuple, outs-Array, outs-ArrayFor, outs-Matrix, outs-EndMark}
-use Rattle.mo_unparse.specs.Pieces.{Piece, a_name, a_mark, a_word, a_blank, a_whole, a_decimal, a_string}
+use Rattle.mo_pieces.specs.Pieces.{Piece, a_name, a_mark, a_word, a_blank, a_whole, a_decimal, a_string}
 use Rattle.std.specs.Prelude.{if◌then◌else◌}
 use Rattle.std.specs.Fmt.{signed_decimal}
-use Rattle.mo_unparse.specs.ShownExpressions.{Shown, itself, show_arg, show_node, node_level, node_pieces, show_args, show_expr, shown_expr, shown_node, pieces_of_node, pieces_of_arg, pieces_of_args, pieces_of_expr, pieces_of_reference, pieces_of_outputs, callee_pieces, terms_pieces, factors_pieces, chain_pieces, operand, term_pieces, factor_pieces, step_pieces, branch_pieces, output_pieces, row_pieces, iterators_pieces, given_pieces, named_pieces, in_parentheses, in_braces, in_brackets, in_row, joined_by, a_comma, a_semicolon, spaced, commas, subscript_pieces, part_pieces, subscripts_pieces, index_pieces, power_mark, relation_mark, top_pieces}
+use Rattle.mo_pieces.specs.ShownExpressions.{Shown, itself, show_arg, show_node, node_level, node_pieces, show_args, show_expr, shown_expr, shown_node, pieces_of_node, pieces_of_arg, pieces_of_args, pieces_of_expr, pieces_of_reference, pieces_of_outputs, callee_pieces, terms_pieces, factors_pieces, chain_pieces, operand, term_pieces, factor_pieces, step_pieces, branch_pieces, output_pieces, row_pieces, iterators_pieces, given_pieces, named_pieces, in_parentheses, in_braces, in_brackets, in_row, joined_by, a_comma, a_semicolon, spaced, commas, subscript_pieces, part_pieces, subscripts_pieces, index_pieces, power_mark, relation_mark, top_pieces}
 use Rattle.mo_unparse.proofs.Rows.{in_row-map, map-same, commas-append}
 
 -- ---- lists of parts that became pieces

@@ -14,7 +14,7 @@ use Rattle.mo_grammar.specs.Productions.{rule}
 use Rattle.mo_grammar.specs.Language.{Spells}
 use Rattle.mo_grammar.proofs.Limits.{below_same, spelled_rises}
 use Rattle.mo_grammar.proofs.Checked.{in_rises}
-use Rattle.mo_unparse.specs.Pieces.{Piece, tokens_of}
+use Rattle.mo_pieces.specs.Pieces.{Piece, tokens_of}
 use Rattle.mo_unparse.proofs.Building.{IsPrinted, one_height}
 
 -- the name behind `within`, and the classes

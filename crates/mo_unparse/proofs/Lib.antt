@@ -9,7 +9,6 @@ pub mod Holding
 pub mod Building
 pub mod WordPieces
 pub mod FileEnds
-pub mod Growth
 pub mod NumberEnds
 pub mod TokenFits
 pub mod TextRead

@@ -2,10 +2,11 @@
 use Rattle.std.proofs.Common.{◌≡◌, ◌+◌, ◌<◌, ℕ, Bool, List, [], ◌∷◌, ◌++◌, map, take, get_or, length, eqb, refl, ap, ◌∙◌, append_assoc, Result, Ok, Err, OnOk}
 use Rattle.std.specs.Prelude.{flat_map, codes, if◌then◌else◌}
 use Rattle.mo_syntax.specs.declared.expr.Expr.{Expr}
-use Rattle.mo_unparse.specs.Pieces.{Piece, a_word, a_line, deeper, shallower}
-use Rattle.mo_unparse.specs.Lines.{on_a_line, lines_of, block_of}
-use Rattle.mo_unparse.proofs.Rows.{row_step, in_row-map, after_two}
-use Rattle.mo_unparse.specs.ShownEquations.{branch_of, branches_of, else_of}
+use Rattle.mo_pieces.specs.Pieces.{Piece, a_word, a_line, deeper, shallower}
+use Rattle.mo_pieces.specs.Lines.{on_a_line, lines_of, block_of}
+use Rattle.mo_unparse.proofs.Rows.{row_step, in_row-map}
+use Rattle.mo_pieces.proofs.Written.{after_two}
+use Rattle.mo_pieces.specs.ShownEquations.{branch_of, branches_of, else_of}
 
 -- ---- mapped parts
 
@@ -39,14 +40,3 @@ branch_turn {A = A} shown word other begin branches i branch parts first old bef
     row_step (λ first branch. (if first then [] else a_line ∷ []) ++ branch_of (if first then word else other) shown branch) branches i branch first old before after l is f b
     (a ∙ ap (λ t. t ++ branch_of begin shown (branch.0, parts)) s ∙ append_assoc before _ _ ∙
     ap (λ t. before ++ ((if first then [] else a_line ∷ []) ++ t)) (ap (λ u. branch_of u shown (branch.0, parts)) w ∙ ap (λ q. branch_of (if first then word else other) shown (branch.0, q)) p))
-
--- two, three and four parts behind one another, where the last is written if there is memory
-pub two_written : {E : Type 0} (r : Result (Unit {0}) E) (old m new a b : List Piece) → m ≡ old ++ a → OnOk r (new ≡ m ++ b) → OnOk r (new ≡ old ++ (a ++ b))
-two_written (Ok u) old m new a b p q = after_two old m new a b p q
-two_written (Err e) old m new a b p q = tt
-
-pub three_written : {E : Type 0} (r : Result (Unit {0}) E) (old m n new a b c : List Piece) → m ≡ old ++ a → n ≡ m ++ b → OnOk r (new ≡ n ++ c) → OnOk r (new ≡ old ++ (a ++ (b ++ c)))
-three_written r old m n new a b c p q s = two_written r old m new a (b ++ c) p (two_written r m n new b c q s)
-
-pub four_written : {E : Type 0} (r : Result (Unit {0}) E) (old m n o new a b c d : List Piece) → m ≡ old ++ a → n ≡ m ++ b → o ≡ n ++ c → OnOk r (new ≡ o ++ d) → OnOk r (new ≡ old ++ (a ++ (b ++ (c ++ d))))
-four_written r old m n o new a b c d p q s t = two_written r old m new a (b ++ (c ++ d)) p (three_written r m n o new b c d q s t)

@@ -21,7 +21,7 @@ use Rattle.mo_grammar.specs.Lexeme.{Lexeme, code_of}
 use Rattle.mo_grammar.specs.Productions.{rule}
 use Rattle.mo_grammar.specs.Symbols.{Symbol, ValueOf, Expressions, Simples, Logicals, Conjunctions, Negations, Relations, Sums, Products, Powers, Primaries, References}
 use Rattle.mo_grammar.specs.Trees.{InBraces, all_tree, any_tree, array_tree, call_tree, expr_at, is_minus, not_tree, outputs_tree, power_tree, product_tree, range_tree, reference_tree, relation_tree, sum_tree, term_of, terms_tree}
-use Rattle.mo_unparse.specs.Pieces.{AreTokens, IsToken}
+use Rattle.mo_pieces.specs.Pieces.{AreTokens, IsToken}
 use Rattle.mo_unparse.proofs.Holding.{Fact, HoldsBy, spelled_holds}
 use Rattle.mo_unparse.proofs.Inverting.{HoldsOption, between_holds, optional_holds, separated_holds}
 

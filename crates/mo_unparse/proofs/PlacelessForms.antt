@@ -24,7 +24,7 @@ use Rattle.mo_syntax.specs.declared.equation.StatementOf.{StatementOf}
 use Rattle.mo_syntax.specs.declared.equation.StatementKind.{StatementKind, fold_out-StatementKind}
 use Rattle.mo_syntax.specs.declared.equation.StatementKind.TheVariants.{Assign, Call as call_statement, Outputs, Break, Return, If as if_statement, For as for_statement, While as while_statement, When as when_statement, outs-Assign, outs-Call as outs-call_statement, outs-Outputs, outs-Break, outs-Return, outs-If as outs-if_statement, outs-For as outs-for_statement, outs-While as outs-while_statement, outs-When as outs-when_statement}
 use Rattle.mo_grammar.specs.Trees.{expr_at, args_of}
-use Rattle.mo_unparse.specs.Pieces.{nowhere}
+use Rattle.mo_pieces.specs.Pieces.{nowhere}
 use Rattle.mo_unparse.specs.Placeless.{node_nowhere, arg_nowhere, args_nowhere, expr_nowhere, part_nowhere, placeless_expr, placeless_node, placeless_arg, placeless_args, placeless_option, placeless_options, placeless_part, placeless_reference, placeless_callee, placeless_term, placeless_factor, placeless_branch, placeless_index, placeless_indices, placeless_named, equation_kind_nowhere, placeless_equation_kind, placeless_equations, placeless_equation_branch, statement_kind_nowhere, placeless_statement_kind, placeless_statements, placeless_statement_branch}
 
 pub map_same : {A B : Type 0} (f g : A → B) → ((a : A) → f a ≡ g a) → (xs : List A) → map f xs ≡ map g xs

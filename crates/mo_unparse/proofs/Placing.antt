@@ -6,7 +6,7 @@ use Rattle.mo_syntax.specs.declared.place.Place.{Place}
 use Rattle.mo_grammar.specs.Lexeme.{Lexeme, code_of}
 use Rattle.mo_grammar.specs.Grammar.{Opening, EndName, any_name, this_name, Limits, end_name_in, suits, renamed, Grammar, empty, token, seq, either, either2, many, made, placed, nested, end_name, under, unless, has, identifiers, first_passes, Spelling, SpelledBy, SpelledEach, SpelledOr}
 use Rattle.mo_grammar.specs.Forms.{optional, flag, behind, before, between, separated}
-use Rattle.mo_unparse.specs.Pieces.{nowhere, placeless_token}
+use Rattle.mo_pieces.specs.Pieces.{nowhere, placeless_token}
 use Rattle.mo_unparse.proofs.PlacelessForms.{both_same}
 
 abbrev pub placeless_tokens : List Lexeme → List Lexeme

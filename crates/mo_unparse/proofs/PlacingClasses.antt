@@ -32,7 +32,7 @@ use Rattle.mo_grammar.specs.Trees.{or_nothing}
 use Rattle.mo_grammar.specs.ClassTrees.{Mods, mods_or_none, mods_of, text_of, path_of, Binding, Declares, Limit, limit_of, argument_element, Argued, argument_of, modifies, replaces, redeclares, redeclares_replaceable, Equation, name_called, is_call, call_of, equality, connection, equation_loop, Branched, when_tree, BranchedElse, if_equation_tree, Statement, Behind, reference_statement, outputs_statement, if_statement_tree, statement_loop, while_tree, when_statement_tree, prefix_of, Declared, component_of, declares_component, Components, whats_of_components, Placed, elements_of, extends_items, place_of_names, renamed_import, Imported, import_of, imported, Kinded, operator_or, class_named, class_tree, declares_class, Inside, appended_items, items_before, equations_section, algorithm_section, long_body, extending_body, short_body, listed_enumeration, der_body, within_of, file_tree, way_of}
 use Rattle.mo_grammar.specs.Symbols.{Symbol, ValueOf, Form, Expressions, Simples, CallArguments, Indices, References, Subscripts, TypeSpecs, Names, ClassMods, ModArguments, EquationItems, ForEquations, WhenEquations, ElseEquations, IfEquations, StatementItems, ImportNames, ElementItems, Compositions, Sections, SectionEquations, ClassDefinitions}
 use Rattle.mo_grammar.specs.Classes.{strings, annotation_part, comment, commented, class_mod, modification, declaration, prefix, component1, constraint, class_prefixes, literals, enumeration, short_class, short_spec, argument_declares, replaceable_arg, argument, for_equations, for_eq, when_equations, when_eq, else_equations, if_equations, if_eq, connect_eq, equality_or_call, equation_item, statements, statement_branch, if_st, for_st, while_st, when_st, statement_kind, statement, import_names, import_clause, component, declares, element, elements, class_end, annotated_end, external_arguments, external_call, external_end, section, initial_section, other_section, sections, section_equations, composition, long_spec, extends_spec, der_spec, equals_spec, class_spec, class_def, file}
-use Rattle.mo_unparse.specs.Pieces.{nowhere, placeless_token}
+use Rattle.mo_pieces.specs.Pieces.{nowhere, placeless_token}
 use Rattle.mo_unparse.specs.Placeless.{placeless_expr, placeless_args, placeless_option, placeless_options, placeless_reference, placeless_indices, placeless_equation_kind, placeless_equation, placeless_equations, placeless_statement_kind, placeless_statement, placeless_statements, placeless_statement_branch}
 use Rattle.mo_unparse.specs.PlacelessClasses.{placeless, placeless_import, placeless_body, placeless_give, placeless_item, placeless_what, placeless_element, placeless_argument, placeless_mods, placeless_limit, placeless_component, placeless_class, placeless_within, placeless_file, placeless_branched, placeless_branched_else, placeless_imported, placeless_inside}
 use Rattle.mo_unparse.proofs.PlacelessForms.{map_twice, both_same, at_Equal, at_if_equation, at_for_equation, at_when_equation, at_Connect, at_call_equation, at_Assign, at_call_statement, at_Outputs, at_Break, at_Return, at_if_statement, at_for_statement, at_while_statement, at_when_statement}

@@ -23,7 +23,7 @@ use Rattle.mo_grammar.specs.Forms.{optional, behind}
 use Rattle.mo_grammar.specs.Trees.{expr_at, Given, Following, InBraces, plain_part, or_nothing, part_of, reference_of, name_reference, reference_tree, callee_of, call_tree, index_of, args_of, args_or_none, named_argument, named_arguments, given_more, args_given, following_more, args_from, partial_argument, branch_of, if_tree, range_tree, any_tree, all_tree, not_tree, relation_of, relation_tree, is_minus, term_of, terms_tree, sum_tree, factor_of, product_tree, power_tree, outputs_tree, matrix_tree, array_tree}
 use Rattle.mo_grammar.specs.Symbols.{Symbol, ValueOf, Form, Expressions, Simples, Logicals, Conjunctions, Negations, Relations, Sums, Products, Powers, Primaries, CallArguments, Arguments, MoreArguments, OneArgument, Indices, References, Subscripts, TypeSpecs, Names}
 use Rattle.mo_grammar.specs.Expressions.{name, type_spec, part, reference, subscript, subscripts, index, indices, named, named_list, function_argument, arg, more_arguments, args, call_args, outputs, exprs, array_args, literal, word_call, output_list, matrix, array, primary, factor, term, add, arith, relation, neg, conj, logical, simple, further_branch, if_expression, expr}
-use Rattle.mo_unparse.specs.Pieces.{nowhere, placeless_token}
+use Rattle.mo_pieces.specs.Pieces.{nowhere, placeless_token}
 use Rattle.mo_unparse.specs.Placeless.{placeless_expr, placeless_node, placeless_arg, placeless_args, placeless_option, placeless_options, placeless_part, placeless_reference, placeless_callee, placeless_term, placeless_factor, placeless_branch, placeless_index, placeless_indices, placeless_named}
 use Rattle.mo_unparse.specs.PlacelessClasses.{placeless, placeless_given}
 use Rattle.mo_unparse.proofs.PlacelessForms.{map_twice, at_node, at_args_of, at_Whole, at_Decimal, at_Str, at_Truth, at_Ref, at_Sum, at_Product, at_Power, at_Relation, at_Not, at_All, at_Any, at_Range, at_If, at_Call, at_Tuple, at_Array, at_ArrayFor, at_Matrix, at_EndMark, at_Value, at_Partial}

@@ -6,7 +6,7 @@ use Rattle.mo_grammar.specs.Grammar.{Limits, Spelling, symbol, SpelledIn}
 use Rattle.mo_grammar.specs.Symbols.{Symbol, ValueOf, Expressions, Simples, Logicals, Conjunctions, Negations, Relations, Sums, Products, Powers, Primaries, CallArguments, Arguments, MoreArguments, OneArgument, Indices, References, Subscripts, TypeSpecs, Names, ClassMods, ModArguments, EquationItems, ForEquations, WhenEquations, ElseEquations, IfEquations, StatementItems, ImportNames, ElementItems, Compositions, Sections, SectionEquations, ClassDefinitions, Files}
 use Rattle.mo_grammar.specs.Productions.{rule}
 use Rattle.mo_grammar.specs.Language.{Spells}
-use Rattle.mo_unparse.specs.Pieces.{Piece, placeless_token, tokens_of}
+use Rattle.mo_pieces.specs.Pieces.{Piece, placeless_token, tokens_of}
 use Rattle.mo_unparse.proofs.Building.{IsPrinted}
 use Rattle.mo_unparse.specs.PlacelessClasses.{placeless}
 use Rattle.mo_unparse.proofs.Placing.{Places}

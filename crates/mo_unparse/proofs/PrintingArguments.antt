@@ -15,9 +15,9 @@ use Rattle.mo_grammar.specs.Symbols.{Form, Expressions, CallArguments, Arguments
 use Rattle.mo_grammar.specs.Productions.{rule}
 use Rattle.mo_grammar.specs.Expressions.{named, named_list, function_argument, arg, more_arguments, args, call_args}
 use Rattle.mo_grammar.specs.Trees.{Given, or_nothing, args_of, args_or_none, given_named, given_or_none, given_more, args_given, following_iters, following_more, args_from, partial_argument}
-use Rattle.mo_unparse.specs.Pieces.{Piece, a_mark, a_word, IsToken}
+use Rattle.mo_pieces.specs.Pieces.{Piece, a_mark, a_word, IsToken}
 use Rattle.mo_unparse.specs.Placeless.{placeless_expr, placeless_arg, placeless_named, placeless_indices, placeless_reference}
-use Rattle.mo_unparse.specs.ShownExpressions.{shown_expr, pieces_of_arg, pieces_of_args, named_pieces, given_pieces, iterators_pieces, a_comma, spaced, commas, in_parentheses}
+use Rattle.mo_pieces.specs.ShownExpressions.{shown_expr, pieces_of_arg, pieces_of_args, named_pieces, given_pieces, iterators_pieces, a_comma, spaced, commas, in_parentheses}
 use Rattle.mo_unparse.proofs.PlacelessForms as placeless
 use Rattle.mo_unparse.proofs.ExpressionForms as forms
 use Rattle.mo_unparse.proofs.Holding.{HoldsBy}

@@ -15,9 +15,9 @@ use Rattle.mo_grammar.specs.Codes.{ident, dot}
 use Rattle.mo_grammar.specs.Lexeme.{Lexeme, code_of}
 use Rattle.mo_grammar.specs.ClassTrees.{name_called, name_called_by}
 use Rattle.mo_grammar.specs.Trees.{expr_at}
-use Rattle.mo_unparse.specs.Pieces.{Piece, a_mark, nowhere, tokens_of}
+use Rattle.mo_pieces.specs.Pieces.{Piece, a_mark, nowhere, tokens_of}
 use Rattle.mo_unparse.specs.Placeless.{placeless_expr, placeless_args, placeless_part, placeless_reference}
-use Rattle.mo_unparse.specs.ShownExpressions.{Shown, operand, show_arg, show_node, show_args, show_expr, shown_expr, shown_node, pieces_of_args, pieces_of_reference, pieces_of_simple, joined_by, part_pieces, top_pieces}
+use Rattle.mo_pieces.specs.ShownExpressions.{Shown, operand, show_arg, show_node, show_args, show_expr, shown_expr, shown_node, pieces_of_args, pieces_of_reference, pieces_of_simple, joined_by, part_pieces, top_pieces}
 use Rattle.mo_unparse.proofs.NamedCalls.{Filled}
 use Rattle.mo_unparse.proofs.WordPieces.{dot_is}
 use Rattle.mo_unparse.proofs.ExpressionForms as forms

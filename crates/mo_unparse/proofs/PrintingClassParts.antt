@@ -14,12 +14,12 @@ use Rattle.mo_grammar.specs.Forms.{optional}
 use Rattle.mo_grammar.specs.Trees.{or_nothing}
 use Rattle.mo_grammar.specs.ClassTrees.{Mods, mods_or_none, path_of, text_of}
 use Rattle.mo_grammar.specs.Symbols.{Symbol, ValueOf, ClassDefinitions, ClassMods, ModArguments, Subscripts, TypeSpecs}
-use Rattle.mo_unparse.specs.Pieces.{a_mark, IsToken}
+use Rattle.mo_pieces.specs.Pieces.{a_mark, IsToken}
 use Rattle.mo_unparse.specs.Placeless.{placeless_options, placeless_reference}
 use Rattle.mo_unparse.specs.PlacelessClasses.{placeless_argument, placeless_class, placeless_mods}
-use Rattle.mo_unparse.specs.ShownExpressions.{pieces_of_reference, pieces_of_subscripts}
-use Rattle.mo_unparse.specs.ShownModifiers.{arguments_with, pieces_of_name, pieces_of_path}
-use Rattle.mo_unparse.specs.ShownClasses.{pieces_of_argument, pieces_of_class, pieces_of_mods, shown_give}
+use Rattle.mo_pieces.specs.ShownExpressions.{pieces_of_reference, pieces_of_subscripts}
+use Rattle.mo_pieces.specs.ShownModifiers.{arguments_with, pieces_of_name, pieces_of_path}
+use Rattle.mo_pieces.specs.ShownClasses.{pieces_of_argument, pieces_of_class, pieces_of_mods, shown_give}
 use Rattle.mo_unparse.proofs.Holding.{Fact, HoldsBy}
 use Rattle.mo_unparse.proofs.Building.{IsPrinted, by_absent, by_pieces, by_present}
 use Rattle.mo_unparse.proofs.Inverting.{HoldsOption, optional_holds}

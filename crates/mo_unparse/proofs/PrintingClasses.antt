@@ -11,10 +11,10 @@ use Rattle.mo_grammar.specs.ClassTrees.{Inside, mods_or_none, text_of}
 use Rattle.mo_grammar.specs.Symbols.{Symbol, ValueOf, Form, Compositions, ClassDefinitions}
 use Rattle.mo_grammar.specs.Classes.{strings, long_spec, extends_spec, equals_spec, class_spec, der_spec, enumeration, short_class}
 use Rattle.mo_grammar.specs.Productions.{rule}
-use Rattle.mo_unparse.specs.Pieces.{IsToken, placeless_token}
-use Rattle.mo_unparse.specs.Lines.{word_if}
+use Rattle.mo_pieces.specs.Pieces.{IsToken, placeless_token}
+use Rattle.mo_pieces.specs.Lines.{word_if}
 use Rattle.mo_unparse.specs.PlacelessClasses.{placeless_body, placeless_item}
-use Rattle.mo_unparse.specs.ShownClasses.{shown_body}
+use Rattle.mo_pieces.specs.ShownClasses.{shown_body}
 use Rattle.mo_unparse.proofs.ClassLayers as layers
 use Rattle.mo_unparse.proofs.PlacelessClassForms as placeless_forms
 use Rattle.mo_unparse.proofs.Holding.{Fact, HoldsBy}

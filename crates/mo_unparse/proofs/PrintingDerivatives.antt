@@ -12,11 +12,11 @@ use Rattle.mo_grammar.specs.Forms.{behind, between, separated}
 use Rattle.mo_grammar.specs.ClassTrees.{text_of}
 use Rattle.mo_grammar.specs.Symbols.{Symbol, ValueOf, Form, TypeSpecs}
 use Rattle.mo_grammar.specs.Classes.{der_spec}
-use Rattle.mo_unparse.specs.Pieces.{a_word, IsToken, placeless_token}
+use Rattle.mo_pieces.specs.Pieces.{a_word, IsToken, placeless_token}
 use Rattle.mo_unparse.specs.Placeless.{placeless_reference}
 use Rattle.mo_unparse.specs.PlacelessClasses.{placeless_body}
-use Rattle.mo_unparse.specs.ShownExpressions.{a_comma, commas, in_parentheses, pieces_of_reference}
-use Rattle.mo_unparse.specs.ShownModifiers.{pieces_of_name}
+use Rattle.mo_pieces.specs.ShownExpressions.{a_comma, commas, in_parentheses, pieces_of_reference}
+use Rattle.mo_pieces.specs.ShownModifiers.{pieces_of_name}
 use Rattle.mo_unparse.proofs.ClassLayers as layers
 use Rattle.mo_unparse.proofs.PlacelessClassForms as placeless_forms
 use Rattle.mo_unparse.proofs.PlacelessForms.{map_twice}

@@ -23,14 +23,14 @@ use Rattle.mo_grammar.specs.ClassTrees.{Components, Declared, Imported, Limit, M
 use Rattle.mo_grammar.specs.Symbols.{Symbol, ValueOf, Form, ClassDefinitions, ClassMods, ElementItems, Expressions, ImportNames, Subscripts, TypeSpecs}
 use Rattle.mo_grammar.specs.Classes.{annotation_part, commented, component, components, constraint, declaration, declares, import_clause, prefix}
 use Rattle.mo_grammar.specs.Productions.{rule}
-use Rattle.mo_unparse.specs.Pieces.{Piece, a_name, a_word, a_blank, placeless_token, IsToken}
-use Rattle.mo_unparse.specs.Lines.{on_a_line, word_if}
+use Rattle.mo_pieces.specs.Pieces.{Piece, a_name, a_word, a_blank, placeless_token, IsToken}
+use Rattle.mo_pieces.specs.Lines.{on_a_line, word_if}
 use Rattle.mo_unparse.specs.Placeless.{placeless_option, placeless_reference}
 use Rattle.mo_unparse.specs.PlacelessClasses.{placeless_component, placeless_extends, placeless_item, placeless_limit, placeless_what}
-use Rattle.mo_unparse.specs.ShownExpressions.{pieces_of_reference, pieces_of_subscripts}
-use Rattle.mo_unparse.specs.ShownModifiers.{pieces_of_binding}
-use Rattle.mo_unparse.specs.ShownElements.{limit_with, pieces_of_condition, pieces_of_prefix, section_of}
-use Rattle.mo_unparse.specs.ShownClasses.{pieces_of_element, pieces_of_mods, pieces_of_what, shown_give, shown_item}
+use Rattle.mo_pieces.specs.ShownExpressions.{pieces_of_reference, pieces_of_subscripts}
+use Rattle.mo_pieces.specs.ShownModifiers.{pieces_of_binding}
+use Rattle.mo_pieces.specs.ShownElements.{limit_with, pieces_of_condition, pieces_of_prefix, section_of}
+use Rattle.mo_pieces.specs.ShownClasses.{pieces_of_element, pieces_of_mods, pieces_of_what, shown_give, shown_item}
 use Rattle.mo_unparse.proofs.ClassLayers as layers
 use Rattle.mo_unparse.proofs.PlacelessClassForms as placeless_forms
 use Rattle.mo_unparse.proofs.Holding.{Fact, HoldsBy, HoldsEach, each_follows}

@@ -17,11 +17,11 @@ use Rattle.mo_grammar.specs.Productions.{rule}
 use Rattle.mo_grammar.specs.Symbols.{ElseEquations, EquationItems, Expressions, ForEquations, Form, IfEquations, Indices, References, Simples, Symbol, ValueOf, WhenEquations}
 use Rattle.mo_grammar.specs.Trees.{expr_at}
 use Rattle.mo_grammar.proofs.Codes.{and_true, both}
-use Rattle.mo_unparse.specs.Lines.{end_of, lines_of, on_a_line}
-use Rattle.mo_unparse.specs.Pieces.{IsToken, Piece, a_line, a_mark, a_word, tokens_of}
+use Rattle.mo_pieces.specs.Lines.{end_of, lines_of, on_a_line}
+use Rattle.mo_pieces.specs.Pieces.{IsToken, Piece, a_line, a_mark, a_word, tokens_of}
 use Rattle.mo_unparse.specs.Placeless.{placeless_args, placeless_equation, placeless_equation_branch, placeless_equation_kind, placeless_equations, placeless_expr, placeless_reference}
-use Rattle.mo_unparse.specs.ShownEquations.{branch_of, connection_of, else_of, in_equation, pieces_of_equation, pieces_of_equation_kind}
-use Rattle.mo_unparse.specs.ShownExpressions.{pieces_of_args, pieces_of_expr, pieces_of_reference, pieces_of_simple, spaced}
+use Rattle.mo_pieces.specs.ShownEquations.{branch_of, connection_of, else_of, in_equation, pieces_of_equation, pieces_of_equation_kind}
+use Rattle.mo_pieces.specs.ShownExpressions.{pieces_of_args, pieces_of_expr, pieces_of_reference, pieces_of_simple, spaced}
 use Rattle.mo_unparse.proofs.Building.{IsPrinted, IsPieceOf, after_blank, after_line, by_before, by_behind, by_between, by_kept, by_left, by_left2, by_left_out, by_made, by_nested, by_one, by_pieces, by_placed, by_right, by_right2, by_rule, by_seq, by_value}
 use Rattle.mo_unparse.proofs.EquationLayers as layers
 use Rattle.mo_unparse.proofs.Holding.{Fact, HoldsBy}

@@ -6,9 +6,9 @@ use Rattle.mo_grammar.specs.Grammar.{Limits, renamed, Grammar, empty, token, seq
 use Rattle.mo_grammar.specs.Symbols.{Symbol, ValueOf, Expressions, Simples, Logicals, Conjunctions, Negations, Relations, Sums, Products, Powers, Primaries, CallArguments, Arguments, MoreArguments, OneArgument, Indices, References, Subscripts, TypeSpecs, Names, ClassMods, ModArguments, EquationItems, ForEquations, WhenEquations, ElseEquations, IfEquations, StatementItems, ImportNames, ElementItems, Compositions, Sections, SectionEquations, ClassDefinitions, Files}
 use Rattle.mo_grammar.specs.Productions.{rule}
 use Rattle.mo_grammar.specs.Language.{Spells}
-use Rattle.mo_unparse.specs.Pieces.{IsToken, AreTokens}
+use Rattle.mo_pieces.specs.Pieces.{IsToken, AreTokens}
 use Rattle.mo_unparse.specs.Placeless.{placeless_expr}
-use Rattle.mo_unparse.specs.ShownExpressions.{pieces_of_expr, pieces_of_simple}
+use Rattle.mo_pieces.specs.ShownExpressions.{pieces_of_expr, pieces_of_simple}
 use Rattle.mo_unparse.proofs.Holding.{Fact, HoldsBy, HoldsOr, spelled_holds}
 use Rattle.mo_unparse.proofs.Building.{IsPrinted}
 use Rattle.mo_unparse.proofs.PrintingLevels.{expression_printed, operand_printed}

@@ -6,10 +6,10 @@ use Rattle.mo_grammar.specs.Grammar.{Limits, many}
 use Rattle.mo_grammar.specs.Forms.{behind, before, separated}
 use Rattle.mo_grammar.specs.Symbols.{Form}
 use Rattle.mo_grammar.specs.Classes.{comment, commented}
-use Rattle.mo_unparse.specs.Pieces.{Piece, a_word, a_blank, a_line, deeper, shallower, tokens_of}
-use Rattle.mo_unparse.specs.Lines.{on_a_line, lines_of, block_of}
-use Rattle.mo_unparse.specs.ShownExpressions.{joined_by, pieces_of_expr}
-use Rattle.mo_unparse.specs.ShownEquations.{branch_of, branches_of}
+use Rattle.mo_pieces.specs.Pieces.{Piece, a_word, a_blank, a_line, deeper, shallower, tokens_of}
+use Rattle.mo_pieces.specs.Lines.{on_a_line, lines_of, block_of}
+use Rattle.mo_pieces.specs.ShownExpressions.{joined_by, pieces_of_expr}
+use Rattle.mo_pieces.specs.ShownEquations.{branch_of, branches_of}
 use Rattle.mo_unparse.proofs.Holding.{HoldsEach, each_follows}
 use Rattle.mo_unparse.proofs.Building.{IsPrinted, IsPieceOf, tokens_joined, after_line, after_deeper, before_shallower, by_absent, by_before, by_each, by_empty, by_made, by_pieces, by_right, by_separated, by_seq, by_tokens}
 use Rattle.mo_unparse.proofs.WordPieces.{semicolon_is, end_word_is}

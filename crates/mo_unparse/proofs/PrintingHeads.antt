@@ -16,10 +16,10 @@ use Rattle.mo_grammar.specs.Symbols.{Symbol, ValueOf, Form}
 use Rattle.mo_grammar.specs.ClassTrees.{Kinded, expandable_kind, is_code, kinded, one_word_kind, operator_or, prefix_of, pure_kind, vary_of, vary_or_free, way_of, way_or_neither}
 use Rattle.mo_grammar.specs.Classes.{class_prefixes, prefix}
 use Rattle.mo_grammar.proofs.Codes.{one_of}
-use Rattle.mo_unparse.specs.Pieces.{Piece, a_word, a_blank, IsToken}
-use Rattle.mo_unparse.specs.Lines.{word_if}
-use Rattle.mo_unparse.specs.ShownElements.{pieces_of_causal, pieces_of_prefix, pieces_of_vary}
-use Rattle.mo_unparse.specs.ShownClasses.{pieces_of_purity, word_of_kind}
+use Rattle.mo_pieces.specs.Pieces.{Piece, a_word, a_blank, IsToken}
+use Rattle.mo_pieces.specs.Lines.{word_if}
+use Rattle.mo_pieces.specs.ShownElements.{pieces_of_causal, pieces_of_prefix, pieces_of_vary}
+use Rattle.mo_pieces.specs.ShownClasses.{pieces_of_purity, word_of_kind}
 use Rattle.mo_unparse.proofs.Holding.{Fact, HoldsEach, HoldsBy}
 use Rattle.mo_unparse.proofs.Building.{IsPrinted, IsPieceOf, after_blank, before_blank, by_absent, by_behind, by_flag, by_left, by_made, by_no_flag, by_one, by_piece, by_pieces, by_present, by_right, by_seq}
 use Rattle.mo_unparse.proofs.WordPieces.{block_word_is, class_word_is, connector_word_is, constant_word_is, discrete_word_is, expandable_word_is, flow_word_is, function_word_is, impure_word_is, input_word_is, model_word_is, operator_word_is, output_word_is, package_word_is, parameter_word_is, partial_word_is, pure_word_is, record_word_is, stream_word_is, type_word_is}

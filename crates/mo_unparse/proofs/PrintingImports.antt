@@ -12,11 +12,11 @@ use Rattle.mo_grammar.specs.Language.{Spells}
 use Rattle.mo_grammar.specs.Lexeme.{Lexeme}
 use Rattle.mo_grammar.specs.Productions.{rule}
 use Rattle.mo_grammar.specs.Symbols.{Form, ImportNames, Names, Symbol, ValueOf}
-use Rattle.mo_unparse.specs.Pieces.{IsToken, Piece, a_mark, a_name, nowhere, placeless_token, tokens_of}
+use Rattle.mo_pieces.specs.Pieces.{IsToken, Piece, a_mark, a_name, nowhere, placeless_token, tokens_of}
 use Rattle.mo_unparse.specs.PlacelessClasses.{placeless_import}
-use Rattle.mo_unparse.specs.ShownElements.{in_import, pieces_of_import}
-use Rattle.mo_unparse.specs.ShownExpressions.{a_comma, commas, in_braces, spaced}
-use Rattle.mo_unparse.specs.ShownModifiers.{pieces_of_name, pieces_of_path}
+use Rattle.mo_pieces.specs.ShownElements.{in_import, pieces_of_import}
+use Rattle.mo_pieces.specs.ShownExpressions.{a_comma, commas, in_braces, spaced}
+use Rattle.mo_pieces.specs.ShownModifiers.{pieces_of_name, pieces_of_path}
 use Rattle.mo_unparse.proofs.Building.{IsPrinted, after_blank, by_absent, by_behind, by_between, by_left, by_left2, by_made, by_name, by_one, by_pieces, by_present, by_right, by_right2, by_rule, by_seq}
 use Rattle.mo_unparse.proofs.ExpressionForms.{joined-map}
 use Rattle.mo_unparse.proofs.Holding.{Fact, HoldsBy, each_follows}

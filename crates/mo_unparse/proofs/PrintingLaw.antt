@@ -7,7 +7,7 @@ use Rattle.mo_grammar.specs.Grammar.{Limits}
 use Rattle.mo_grammar.specs.Language.{Spells, whole_limits}
 use Rattle.mo_grammar.specs.Productions.{rule}
 use Rattle.mo_grammar.specs.Symbols.{Symbol, ValueOf, ClassMods, ModArguments, EquationItems, ForEquations, WhenEquations, ElseEquations, IfEquations, StatementItems, ImportNames, ElementItems, Compositions, Sections, SectionEquations, ClassDefinitions}
-use Rattle.mo_unparse.specs.Pieces.{IsToken, AreTokens}
+use Rattle.mo_pieces.specs.Pieces.{IsToken, AreTokens}
 use Rattle.mo_unparse.proofs.ClassFacts.{ClassFact, classes, equations, expressions, modifiers, sections, types, weaker}
 use Rattle.mo_unparse.proofs.Holding.{HoldsBy, spelled_holds}
 use Rattle.mo_unparse.proofs.PrintingClassParts.{ClassPrinted}

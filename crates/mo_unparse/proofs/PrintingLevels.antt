@@ -11,9 +11,9 @@ use Rattle.mo_grammar.specs.Symbols.{Form, Expressions, Simples, Logicals, Conju
 use Rattle.mo_grammar.specs.Productions.{rule}
 use Rattle.mo_grammar.specs.Trees.{expr_at}
 use Rattle.mo_grammar.proofs.Limits.{Below, name_same}
-use Rattle.mo_unparse.specs.Pieces.{Piece, nowhere}
+use Rattle.mo_pieces.specs.Pieces.{Piece, nowhere}
 use Rattle.mo_unparse.specs.Placeless.{placeless_expr, placeless_node}
-use Rattle.mo_unparse.specs.ShownExpressions.{Shown, show_arg, show_node, show_args, show_expr, shown_expr, shown_node, pieces_of_expr, pieces_of_node, operand, in_parentheses}
+use Rattle.mo_pieces.specs.ShownExpressions.{Shown, show_arg, show_node, show_args, show_expr, shown_expr, shown_node, pieces_of_expr, pieces_of_node, operand, in_parentheses}
 use Rattle.mo_unparse.proofs.PlacelessForms.{at_place}
 use Rattle.mo_unparse.proofs.Building.{IsPrinted, by_pieces, by_value, by_left, by_right, by_made, by_placed, by_seq, by_none, by_between, by_separated, by_rule, by_present, by_absent, by_no_flag, more_limits}
 use Rattle.mo_unparse.proofs.WordPieces.{open_paren_is, close_paren_is}

@@ -4,8 +4,8 @@ use Rattle.mo_grammar.specs.Lexeme.{Lexeme}
 use Rattle.mo_grammar.specs.Grammar.{a_construct, Limits, left_inside, has, seq, token}
 use Rattle.mo_grammar.specs.Forms.{optional, behind, before, between, separated}
 use Rattle.mo_grammar.specs.Symbols.{Symbol, ValueOf, Form}
-use Rattle.mo_unparse.specs.Pieces.{Piece, a_mark, a_word, nowhere, tokens_of, tokens_of_piece, IsToken}
-use Rattle.mo_unparse.specs.ShownExpressions.{joined_by}
+use Rattle.mo_pieces.specs.Pieces.{Piece, a_mark, a_word, nowhere, tokens_of, tokens_of_piece, IsToken}
+use Rattle.mo_pieces.specs.ShownExpressions.{joined_by}
 use Rattle.mo_unparse.proofs.Holding.{Fact, HoldsBy, HoldsEach}
 use Rattle.mo_unparse.proofs.Building.{IsPrinted, IsPieceOf, by_tokens, by_pieces, by_piece, by_seq, by_each, by_behind, by_separated, tokens_joined, by_present}
 

@@ -22,14 +22,14 @@ use Rattle.mo_grammar.specs.ClassTrees.{Argued, Binding, Declared, Declares, Lim
 use Rattle.mo_grammar.specs.Symbols.{Symbol, ValueOf, Form, ClassMods, Expressions, ModArguments, Names, TypeSpecs}
 use Rattle.mo_grammar.specs.Classes.{argument_declares, class_prefixes, component1, constraint, declaration, modification, replaceable_arg, short_spec, strings}
 use Rattle.mo_grammar.specs.Productions.{rule}
-use Rattle.mo_unparse.specs.Pieces.{Piece, a_name, a_word, a_blank, nowhere, placeless_token, IsToken}
-use Rattle.mo_unparse.specs.Lines.{word_if}
+use Rattle.mo_pieces.specs.Pieces.{Piece, a_name, a_word, a_blank, nowhere, placeless_token, IsToken}
+use Rattle.mo_pieces.specs.Lines.{word_if}
 use Rattle.mo_unparse.specs.Placeless.{placeless_expr, placeless_option, placeless_options, placeless_reference}
 use Rattle.mo_unparse.specs.PlacelessClasses.{placeless_argument, placeless_component, placeless_give, placeless_limit, placeless_mods, placeless_what}
-use Rattle.mo_unparse.specs.ShownExpressions.{a_comma, pieces_of_reference, pieces_of_subscripts}
-use Rattle.mo_unparse.specs.ShownModifiers.{arguments_with, pieces_of_binding, pieces_of_path}
-use Rattle.mo_unparse.specs.ShownElements.{limit_with, pieces_of_prefix}
-use Rattle.mo_unparse.specs.ShownClasses.{head_of, pieces_of_argument, pieces_of_element, pieces_of_mods, pieces_of_what, shown_body, shown_give}
+use Rattle.mo_pieces.specs.ShownExpressions.{a_comma, pieces_of_reference, pieces_of_subscripts}
+use Rattle.mo_pieces.specs.ShownModifiers.{arguments_with, pieces_of_binding, pieces_of_path}
+use Rattle.mo_pieces.specs.ShownElements.{limit_with, pieces_of_prefix}
+use Rattle.mo_pieces.specs.ShownClasses.{head_of, pieces_of_argument, pieces_of_element, pieces_of_mods, pieces_of_what, shown_body, shown_give}
 use Rattle.mo_unparse.proofs.ClassLayers as layers
 use Rattle.mo_unparse.proofs.PlacelessClassForms as placeless_forms
 use Rattle.mo_unparse.proofs.PlacelessForms.{both_same, map_twice}

@@ -17,9 +17,9 @@ use Rattle.mo_grammar.specs.Symbols.{Form, Expressions, Simples, Logicals, Conju
 use Rattle.mo_grammar.specs.Productions.{rule}
 use Rattle.mo_grammar.specs.Expressions.{expr, further_branch, simple, logical, conj, neg, relation, arith as arith_form, further_term, term, further_factor, factor}
 use Rattle.mo_grammar.specs.Trees.{expr_at, power_tree, first_factor, product_tree, is_minus, term_of, first_term, terms_tree, sum_tree, relation_of, relation_tree, not_tree, all_tree, any_tree, range_tree, branch_of, if_tree}
-use Rattle.mo_unparse.specs.Pieces.{Piece, a_mark, a_word, a_blank, nowhere, IsToken}
+use Rattle.mo_pieces.specs.Pieces.{Piece, a_mark, a_word, a_blank, nowhere, IsToken}
 use Rattle.mo_unparse.specs.Placeless.{placeless_expr, placeless_term, placeless_factor, placeless_branch}
-use Rattle.mo_unparse.specs.ShownExpressions.{shown_expr, pieces_of_expr, operand, spaced, relation_mark, sign_mark, term_pieces, factor_pieces, branch_pieces}
+use Rattle.mo_pieces.specs.ShownExpressions.{shown_expr, pieces_of_expr, operand, spaced, relation_mark, sign_mark, term_pieces, factor_pieces, branch_pieces}
 use Rattle.mo_unparse.proofs.PlacelessForms as placeless
 use Rattle.mo_unparse.proofs.ExpressionForms as forms
 use Rattle.mo_unparse.proofs.Holding.{HoldsBy, HoldsEach}

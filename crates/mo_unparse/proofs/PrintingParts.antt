@@ -8,10 +8,10 @@ use Rattle.mo_syntax.specs.declared.expr.ReferenceOf.{ReferenceOf}
 use Rattle.mo_grammar.specs.Lexeme.{Lexeme}
 use Rattle.mo_grammar.specs.Grammar.{Limits, symbol}
 use Rattle.mo_grammar.specs.Symbols.{Symbol, ValueOf, Expressions, Simples, CallArguments, Indices, References, Names}
-use Rattle.mo_unparse.specs.Pieces.{Piece, a_name, a_mark}
+use Rattle.mo_pieces.specs.Pieces.{Piece, a_name, a_mark}
 use Rattle.mo_unparse.specs.Placeless.{placeless_expr, placeless_args, placeless_indices, placeless_reference}
-use Rattle.mo_unparse.specs.ShownExpressions.{joined_by, pieces_of_args, pieces_of_expr, pieces_of_indices, pieces_of_reference, pieces_of_simple}
-use Rattle.mo_unparse.specs.Pieces.{placeless_token}
+use Rattle.mo_pieces.specs.ShownExpressions.{joined_by, pieces_of_args, pieces_of_expr, pieces_of_indices, pieces_of_reference, pieces_of_simple}
+use Rattle.mo_pieces.specs.Pieces.{placeless_token}
 use Rattle.mo_unparse.proofs.Holding.{Fact}
 use Rattle.mo_unparse.proofs.Building.{IsPrinted}
 

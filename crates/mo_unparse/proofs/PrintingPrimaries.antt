@@ -20,9 +20,9 @@ use Rattle.mo_grammar.specs.Symbols.{Form, Expressions, Primaries, References, C
 use Rattle.mo_grammar.specs.Productions.{rule}
 use Rattle.mo_grammar.specs.Expressions.{primary, literal, outputs, exprs, array_args}
 use Rattle.mo_grammar.specs.Trees.{InBraces, expr_at, digits_after, callee_of, reference_tree, outputs_tree, matrix_tree, array_tree, braces_iters, braces_more}
-use Rattle.mo_unparse.specs.Pieces.{a_word, a_whole, nowhere, IsToken}
+use Rattle.mo_pieces.specs.Pieces.{a_word, a_whole, nowhere, IsToken}
 use Rattle.mo_unparse.specs.Placeless.{placeless_expr, placeless_args, placeless_option, placeless_options, placeless_reference, placeless_callee, placeless_indices}
-use Rattle.mo_unparse.specs.ShownExpressions.{shown_expr, pieces_of_expr, pieces_of_args, pieces_of_reference, pieces_of_outputs, callee_pieces, output_pieces, row_pieces, a_comma, a_semicolon, spaced}
+use Rattle.mo_pieces.specs.ShownExpressions.{shown_expr, pieces_of_expr, pieces_of_args, pieces_of_reference, pieces_of_outputs, callee_pieces, output_pieces, row_pieces, a_comma, a_semicolon, spaced}
 use Rattle.mo_unparse.proofs.PlacelessForms as placeless
 use Rattle.mo_unparse.proofs.ExpressionForms as forms
 use Rattle.mo_unparse.proofs.Holding.{HoldsBy, HoldsEach}

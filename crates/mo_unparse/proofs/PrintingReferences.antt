@@ -14,9 +14,9 @@ use Rattle.mo_grammar.specs.Symbols.{Expressions, Subscripts, References, TypeSp
 use Rattle.mo_grammar.specs.Productions.{rule}
 use Rattle.mo_grammar.specs.Expressions.{name, type_spec, part, reference, subscript, subscripts, index, indices}
 use Rattle.mo_grammar.specs.Trees.{plain_part, part_of, or_nothing, name_reference}
-use Rattle.mo_unparse.specs.Pieces.{a_name, a_mark, a_word, IsToken, placeless_token}
+use Rattle.mo_pieces.specs.Pieces.{a_name, a_mark, a_word, IsToken, placeless_token}
 use Rattle.mo_unparse.specs.Placeless.{placeless_option, placeless_options, placeless_part, placeless_reference, placeless_index, placeless_indices}
-use Rattle.mo_unparse.specs.ShownExpressions.{shown_expr, pieces_of_reference, pieces_of_subscripts, pieces_of_indices, part_pieces, top_pieces, subscript_pieces, range_pieces, index_pieces, iterators_pieces, a_comma, spaced, joined_by, in_brackets}
+use Rattle.mo_pieces.specs.ShownExpressions.{shown_expr, pieces_of_reference, pieces_of_subscripts, pieces_of_indices, part_pieces, top_pieces, subscript_pieces, range_pieces, index_pieces, iterators_pieces, a_comma, spaced, joined_by, in_brackets}
 use Rattle.mo_unparse.proofs.PlacelessForms.{map_twice}
 use Rattle.mo_unparse.proofs.ExpressionForms.{joined-map}
 use Rattle.mo_unparse.proofs.Holding.{HoldsBy}

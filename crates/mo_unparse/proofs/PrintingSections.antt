@@ -11,15 +11,15 @@ use Rattle.mo_grammar.specs.ClassTrees.{Equation, Statement, Inside, items_befor
 use Rattle.mo_grammar.specs.Symbols.{Symbol, ValueOf, Form, ClassMods, EquationItems, StatementItems, ElementItems, Compositions, Sections, SectionEquations}
 use Rattle.mo_grammar.specs.Classes.{annotation_part, elements, statements, class_end, annotated_end, external_call, external_end, section, initial_section, other_section, sections, section_equations}
 use Rattle.mo_grammar.specs.Productions.{rule}
-use Rattle.mo_unparse.specs.declared.section.Section.{Section}
-use Rattle.mo_unparse.specs.declared.section.Section.TheVariants.{Public, Protected, Behavior}
-use Rattle.mo_unparse.specs.Pieces.{Piece, a_name, a_word, a_blank, a_line, deeper, shallower, tokens_of, IsToken}
+use Rattle.mo_pieces.specs.declared.section.Section.{Section}
+use Rattle.mo_pieces.specs.declared.section.Section.TheVariants.{Public, Protected, Behavior}
+use Rattle.mo_pieces.specs.Pieces.{Piece, a_name, a_word, a_blank, a_line, deeper, shallower, tokens_of, IsToken}
 use Rattle.mo_unparse.specs.Placeless.{placeless_equations, placeless_statement, placeless_statements}
 use Rattle.mo_unparse.specs.PlacelessClasses.{placeless_item, placeless_inside}
-use Rattle.mo_unparse.specs.Lines.{head_line, lines_of, on_a_line, word_if}
-use Rattle.mo_unparse.specs.ShownEquations.{pieces_of_equation, pieces_of_statement}
-use Rattle.mo_unparse.specs.ShownElements.{ShownItem, section_of, section_behind, head_between, items_from}
-use Rattle.mo_unparse.specs.ShownClasses.{end_with, inside_of, section_with, shown_item}
+use Rattle.mo_pieces.specs.Lines.{head_line, lines_of, on_a_line, word_if}
+use Rattle.mo_pieces.specs.ShownEquations.{pieces_of_equation, pieces_of_statement}
+use Rattle.mo_pieces.specs.ShownElements.{ShownItem, section_of, section_behind, head_between, items_from}
+use Rattle.mo_pieces.specs.ShownClasses.{end_with, inside_of, section_with, shown_item}
 use Rattle.mo_unparse.proofs.ClassLayers as layers
 use Rattle.mo_unparse.proofs.PlacelessClassForms as placeless_forms
 use Rattle.mo_unparse.proofs.Holding.{Fact, HoldsBy, HoldsEach, each_follows}

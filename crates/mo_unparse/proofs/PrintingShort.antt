@@ -10,14 +10,14 @@ use Rattle.mo_grammar.specs.Trees.{or_nothing}
 use Rattle.mo_grammar.specs.ClassTrees.{listed_enumeration, mods_or_none, open_enumeration, short_body, text_of, way_or_neither}
 use Rattle.mo_grammar.specs.Symbols.{Symbol, ValueOf, Form, ClassMods}
 use Rattle.mo_grammar.specs.Classes.{commented, enumeration, literals, short_class, short_spec}
-use Rattle.mo_unparse.specs.Pieces.{Piece, a_name, a_word, a_mark, IsToken}
+use Rattle.mo_pieces.specs.Pieces.{Piece, a_name, a_word, a_mark, IsToken}
 use Rattle.mo_unparse.specs.Placeless.{placeless_reference}
 use Rattle.mo_unparse.specs.PlacelessClasses.{placeless_body}
-use Rattle.mo_unparse.specs.Pieces.{placeless_token}
-use Rattle.mo_unparse.specs.ShownExpressions.{a_comma, in_parentheses, pieces_of_reference, pieces_of_subscripts, spaced}
-use Rattle.mo_unparse.specs.ShownModifiers.{pieces_of_name}
-use Rattle.mo_unparse.specs.ShownElements.{pieces_of_causal}
-use Rattle.mo_unparse.specs.ShownClasses.{pieces_of_literals, pieces_of_mods, shown_body}
+use Rattle.mo_pieces.specs.Pieces.{placeless_token}
+use Rattle.mo_pieces.specs.ShownExpressions.{a_comma, in_parentheses, pieces_of_reference, pieces_of_subscripts, spaced}
+use Rattle.mo_pieces.specs.ShownModifiers.{pieces_of_name}
+use Rattle.mo_pieces.specs.ShownElements.{pieces_of_causal}
+use Rattle.mo_pieces.specs.ShownClasses.{pieces_of_literals, pieces_of_mods, shown_body}
 use Rattle.mo_unparse.proofs.ClassLayers as layers
 use Rattle.mo_unparse.proofs.PlacelessClassForms as placeless_forms
 use Rattle.mo_unparse.proofs.PlacelessForms.{both_same}

@@ -15,11 +15,11 @@ use Rattle.mo_grammar.specs.Symbols.{Symbol, ValueOf, Form, Expressions, CallArg
 use Rattle.mo_grammar.specs.Expressions.{outputs}
 use Rattle.mo_grammar.specs.Classes.{statements, statement_branch, if_st, for_st, while_st, when_st, statement_kind}
 use Rattle.mo_grammar.specs.Productions.{rule}
-use Rattle.mo_unparse.specs.Pieces.{Piece, a_word, a_mark, a_blank, a_line, IsToken}
+use Rattle.mo_pieces.specs.Pieces.{Piece, a_word, a_mark, a_blank, a_line, IsToken}
 use Rattle.mo_unparse.specs.Placeless.{placeless_option, placeless_options, placeless_statement, placeless_statements, placeless_statement_branch, placeless_statement_kind}
-use Rattle.mo_unparse.specs.Lines.{block_of, end_of}
-use Rattle.mo_unparse.specs.ShownExpressions.{spaced, in_parentheses, a_comma, output_pieces, shown_expr, pieces_of_args, pieces_of_expr, pieces_of_outputs, pieces_of_reference}
-use Rattle.mo_unparse.specs.ShownEquations.{branch_of, else_of, in_statement, pieces_of_statement, pieces_of_statement_kind}
+use Rattle.mo_pieces.specs.Lines.{block_of, end_of}
+use Rattle.mo_pieces.specs.ShownExpressions.{spaced, in_parentheses, a_comma, output_pieces, shown_expr, pieces_of_args, pieces_of_expr, pieces_of_outputs, pieces_of_reference}
+use Rattle.mo_pieces.specs.ShownEquations.{branch_of, else_of, in_statement, pieces_of_statement, pieces_of_statement_kind}
 use Rattle.mo_unparse.proofs.EquationLayers as layers
 use Rattle.mo_unparse.proofs.PlacelessForms as placeless_forms
 use Rattle.mo_unparse.proofs.Holding.{Fact, HoldsBy, each_follows}

@@ -4,11 +4,11 @@ use Rattle.std.specs.Prelude.{Result, Ok, Err, IfOk}
 use Rattle.mo_syntax.specs.declared.expr.Expr.{Expr}
 use Rattle.mo_grammar.specs.Language.{limits_inside}
 use Rattle.mo_grammar.specs.Symbols.{Expressions}
-use Rattle.mo_unparse.specs.Pieces.{Piece}
+use Rattle.mo_pieces.specs.Pieces.{Piece}
 use Rattle.mo_unparse.specs.Placeless.{placeless_expr}
 use Rattle.mo_unparse.specs.ReadAgain.{IsReadAgain}
-use Rattle.mo_unparse.specs.ShownExpressions.{pieces_of_expr}
-use Rattle.mo_unparse.specs.Text.{text_of}
+use Rattle.mo_pieces.specs.ShownExpressions.{pieces_of_expr}
+use Rattle.mo_pieces.specs.Text.{text_of}
 use Rattle.mo_unparse.proofs.PlacingLaw.{printed_again}
 use Rattle.mo_unparse.proofs.PrintingExpressions.{whole_expression}
 use Rattle.mo_unparse.proofs.TextRead.{text_is_read}

@@ -6,13 +6,15 @@ use Rattle.mo_syntax.specs.declared.class.Body.{Body}
 use Rattle.mo_syntax.specs.declared.class.ClassDefOf.{ClassDefOf}
 use Rattle.mo_lexer.specs.Lexing.{end_of}
 use Rattle.mo_grammar.specs.Lexeme.{Lexeme}
-use Rattle.mo_grammar.specs.Grammar.{Limits, symbol}
+use Rattle.mo_grammar.specs.Grammar.{Limits, at_most, this_name, symbol}
 use Rattle.mo_grammar.specs.Language.{Spells, whole_limits}
+use Rattle.mo_grammar.specs.Productions.{rule}
 use Rattle.mo_grammar.specs.Symbols.{ClassDefinitions, Files}
-use Rattle.mo_unparse.specs.Pieces.{Piece, a_mark, placeless_token, tokens_of, AreTokens}
+use Rattle.mo_grammar.proofs.Checked.{in_rises}
+use Rattle.mo_pieces.specs.Pieces.{Piece, a_mark, placeless_token, tokens_of, AreTokens}
 use Rattle.mo_unparse.specs.PlacelessClasses.{placeless_class}
-use Rattle.mo_unparse.specs.ShownClasses.{pieces_of_class}
-use Rattle.mo_unparse.specs.Text.{text_of}
+use Rattle.mo_pieces.specs.ShownClasses.{pieces_of_class}
+use Rattle.mo_pieces.specs.Text.{text_of}
 use Rattle.mo_unparse.specs.ReadAgain.{HoldsClass, IsReadAsFile}
 use Rattle.mo_unparse.proofs.Building.{IsPrinted, by_absent, by_before, by_made, by_more, by_no_flag, by_none, by_pieces, by_seq}
 use Rattle.mo_unparse.proofs.FileEnds.{file_parts, file_of, file_printed}
@@ -44,6 +46,7 @@ file_read class file p =
     record { tokens = lexed.0 ++ last ∷ []; tree = again.0; lexed = lexed.1; spelled = again.1; same = again.2 }
 
 pub class_read : (class : ClassDefOf Body) → PiecesSpell class → IsReadAsFile (text_of (pieces_of_class class)) class
-class_read class printed file outer tokens all spelled =
-    let p = printed tokens (class_renamed outer [] 128 32 tokens class spelled) all in
+class_read class printed file constructs classes outer tokens few fewer all spelled =
+    let wide : Spells ClassDefinitions (at_most 128 32 (this_name outer)) tokens class = (spelled.0, in_rises rule spelled.0 ClassDefinitions (at_most constructs classes (this_name outer)) (at_most 128 32 (this_name outer)) tokens class (few, fewer, refl) spelled.1) in
+    let p = printed tokens (class_renamed outer [] 128 32 tokens class wide) all in
     subst (λ text. HoldsClass text file class) (text_before_semicolon (pieces_of_class class)) (file_read class file (in_file class p))

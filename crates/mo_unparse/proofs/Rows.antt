@@ -3,8 +3,8 @@ use Rattle.std.proofs.Common.{◌≡◌, ℕ, suc, ◌+◌, ◌<◌, Bool, true,
 use Rattle.std.specs.Prelude.{flat_map, if◌then◌else◌}
 use Rattle.std.proofs.lemmas.Grind.{common_steps, flat_map-append}
 use Rattle.std.proofs.lemmas.List.{take_more, append-nil}
-use Rattle.mo_unparse.specs.Pieces.{Piece}
-use Rattle.mo_unparse.specs.ShownExpressions.{in_row, commas, a_comma}
+use Rattle.mo_pieces.specs.Pieces.{Piece}
+use Rattle.mo_pieces.specs.ShownExpressions.{in_row, commas, a_comma}
 
 -- one more part of a row
 in_row-push : {A : Type 0} (part : Bool → A → List Piece) (ys : List A) (y : A) → in_row part (ys ++ y ∷ []) ≡ in_row part ys ++ part (eqb (length ys) 0) y
@@ -31,9 +31,6 @@ row_step part xs i x first old before after l is f b a =
 -- after a first part the next is not the first
 pub not_first : (i : ℕ) → false ≡ eqb (i + 1) 0
 not_first i = grind (arith, common_steps)
-
-pub after_two : (before m after a b : List Piece) → m ≡ before ++ a → after ≡ m ++ b → after ≡ before ++ (a ++ b)
-after_two before m after a b h k = grind (arith, common_steps)
 
 -- a name between two others
 pub after_name : (before m n after a c : List Piece) (name : Piece) → m ≡ before ++ a → n ≡ m ++ name ∷ [] → after ≡ n ++ c → after ≡ before ++ (a ++ name ∷ c)

@@ -4,10 +4,10 @@ use mathlib.Core.Bool.{false≢true}
 use Rattle.std.specs.Prelude.{codes}
 use Rattle.std.specs.List.{list_all}
 use Rattle.mo_tables.specs.Words.{code_in, operators}
-use Rattle.mo_unparse.specs.declared.text.Ending.{Ending}
-use Rattle.mo_unparse.specs.declared.text.Ending.TheVariants.{Closed, Word, Number, Mark}
-use Rattle.mo_unparse.specs.Pieces.{Piece, a_mark}
-use Rattle.mo_unparse.specs.Text.{joins, spaced, ending_after, depth_after, piece_text, text_from, text_of}
+use Rattle.mo_pieces.specs.declared.text.Ending.{Ending}
+use Rattle.mo_pieces.specs.declared.text.Ending.TheVariants.{Closed, Word, Number, Mark}
+use Rattle.mo_pieces.specs.Pieces.{Piece, a_mark}
+use Rattle.mo_pieces.specs.Text.{joins, spaced, ending_after, depth_after, piece_text, text_from, text_of}
 use Rattle.mo_lexer.proofs.Shapes.{among}
 use Rattle.mo_unparse.proofs.TokenFits.{mark_apart}
 

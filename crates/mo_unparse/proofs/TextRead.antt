@@ -12,10 +12,10 @@ use Rattle.mo_tables.specs.Words.{code_in, operators}
 use Rattle.mo_lexer.specs.Bytes.{is_blank, is_letter, is_digit, is_word_byte}
 use Rattle.mo_lexer.specs.Spelling.{Spells, IsWithinLimit, blank}
 use Rattle.mo_lexer.specs.Lexing.{Fits, Reads, stops, skips, takes, place_before, after_mark, end_of, Lexes}
-use Rattle.mo_unparse.specs.declared.text.Ending.{Ending}
-use Rattle.mo_unparse.specs.declared.text.Ending.TheVariants.{Closed, Word, Number, Mark}
-use Rattle.mo_unparse.specs.Pieces.{Piece, a_name, a_word, a_mark, a_whole, a_decimal, a_string, a_blank, a_line, deeper, shallower, nowhere, placeless_token, tokens_of, IsToken, AreTokens}
-use Rattle.mo_unparse.specs.Text.{joins, spaced, name_ending, mark_ending, depth_after, text_from, text_of}
+use Rattle.mo_pieces.specs.declared.text.Ending.{Ending}
+use Rattle.mo_pieces.specs.declared.text.Ending.TheVariants.{Closed, Word, Number, Mark}
+use Rattle.mo_pieces.specs.Pieces.{Piece, a_name, a_word, a_mark, a_whole, a_decimal, a_string, a_blank, a_line, deeper, shallower, nowhere, placeless_token, tokens_of, IsToken, AreTokens}
+use Rattle.mo_pieces.specs.Text.{joins, spaced, name_ending, mark_ending, depth_after, text_from, text_of}
 use Rattle.mo_lexer.proofs.Fronts.{both_hold, first_passes, first_is}
 use Rattle.mo_lexer.proofs.Shapes.{is_mark_text, operator_is_mark, mark_first, mark_second, NumberFirst, digit, point, decimal_first}
 use Rattle.mo_unparse.proofs.TokenFits.{IsApart, mark_apart, some_of_decimal, blank_fits, name_fits, keyword_fits, mark_fits, whole_number_fits, decimal_number_fits, quoted_string_fits}

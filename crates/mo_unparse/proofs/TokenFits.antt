@@ -8,9 +8,9 @@ use Rattle.mo_lexer.specs.Bytes.{is_blank, is_letter, is_digit, is_word_byte, is
 use Rattle.mo_syntax.specs.declared.token.TokenKind.TheVariants.{Ident, Keyword, Operator}
 use Rattle.mo_lexer.specs.Spelling.{is_word, AreContents, nothing, plain, escape, IsQuoted, IsString, IsWhole, IsDecimal, pointed, unpointed, Spells, IsComment, line, block}
 use Rattle.mo_lexer.specs.Lexing.{IsPiece, opens_block, Fits}
-use Rattle.mo_unparse.specs.declared.text.Ending.{Ending}
-use Rattle.mo_unparse.specs.declared.text.Ending.TheVariants.{Word, Number, Mark}
-use Rattle.mo_unparse.specs.Text.{joins, name_ending, mark_ending}
+use Rattle.mo_pieces.specs.declared.text.Ending.{Ending}
+use Rattle.mo_pieces.specs.declared.text.Ending.TheVariants.{Word, Number, Mark}
+use Rattle.mo_pieces.specs.Text.{joins, name_ending, mark_ending}
 use Rattle.mo_lexer.proofs.Fronts.{both_hold, first_passes, all_back, first_is, tail_is}
 use Rattle.mo_lexer.proofs.Shapes.{is_mark_text, operator_is_mark, mark_first, mark_second, digit_is_no_mark, Class, Blanks, Letters, Digits, SingleQuotes, DoubleQuotes, Marks, class, class_letter, class_digit, class_mark, IsNumber, whole, decimal, IsMarked, operator, number, remark, ShapeAt, shape_as, NumberFirst, digit, point, decimal_first}
 use Rattle.mo_unparse.proofs.NumberEnds.{number_goes_on}

@@ -5,7 +5,7 @@ use Rattle.mo_syntax.specs.declared.token.TokenKind.TheVariants.{Keyword, Operat
 use Rattle.mo_tables.specs.Words.{code_in, keywords, operators}
 use Rattle.mo_lexer.specs.Spelling.{is_word}
 use Rattle.mo_grammar.specs.Codes.{word_code, operator_code, open_paren, close_paren, times, plus, comma, minus, dot, dot_times, dot_plus, dot_minus, dot_divides, dot_power, divides, colon, assigns, semicolon, less, less_equal, not_equal, equals, equal_equal, greater, greater_equal, open_bracket, close_bracket, power, open_brace, close_brace, algorithm_word, and_word, annotation_word, block_word, break_word, class_word, connect_word, connector_word, constant_word, constrainedby_word, der_word, discrete_word, each_word, else_word, elseif_word, elsewhen_word, encapsulated_word, end_word, enumeration_word, equation_word, expandable_word, extends_word, external_word, false_word, final_word, flow_word, for_word, function_word, if_word, import_word, impure_word, in_word, initial_word, inner_word, input_word, loop_word, model_word, not_word, operator_word, or_word, outer_word, output_word, package_word, parameter_word, partial_word, protected_word, public_word, pure_word, record_word, redeclare_word, replaceable_word, return_word, stream_word, then_word, true_word, type_word, when_word, while_word, within_word}
-use Rattle.mo_unparse.specs.Pieces.{a_word, a_mark, nowhere, token_of}
+use Rattle.mo_pieces.specs.Pieces.{a_word, a_mark, nowhere, token_of}
 use Rattle.mo_unparse.proofs.Building.{IsPieceOf}
 
 word_is : (text : List ℕ) (number : ℕ) → is_word text ≡ true → code_in keywords text ≡ Some number → IsPieceOf (a_word text) (word_code number)

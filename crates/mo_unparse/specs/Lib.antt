@@ -1,12 +1,3 @@
 pub mod PlacelessClasses
 pub mod Placeless
-pub mod Pieces
-pub mod Gathered
-pub mod ShownExpressions
-pub mod Text
-pub mod Lines
-pub mod ShownEquations
-pub mod ShownModifiers
-pub mod ShownElements
-pub mod ShownClasses
 pub mod ReadAgain

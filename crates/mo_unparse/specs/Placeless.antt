@@ -22,7 +22,7 @@ use Rattle.mo_syntax.specs.declared.equation.EquationKind.TheVariants.{Equal, If
 use Rattle.mo_syntax.specs.declared.equation.StatementOf.{StatementOf}
 use Rattle.mo_syntax.specs.declared.equation.StatementKind.{StatementKind, StatementKind-F, fold-StatementKind}
 use Rattle.mo_syntax.specs.declared.equation.StatementKind.TheVariants.{Assign, Call as call_statement, Outputs, Break, Return, If as if_statement, For as for_statement, While as while_statement, When as when_statement}
-use Rattle.mo_unparse.specs.Pieces.{nowhere}
+use Rattle.mo_pieces.specs.Pieces.{nowhere}
 
 -- ---- a step of each kind
 

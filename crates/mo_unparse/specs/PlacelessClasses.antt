@@ -26,7 +26,7 @@ use Rattle.mo_syntax.specs.declared.class.FileTree.{FileTree}
 use Rattle.mo_grammar.specs.Symbols.{Symbol, ValueOf, Expressions, Simples, Logicals, Conjunctions, Negations, Relations, Sums, Products, Powers, Primaries, CallArguments, Arguments, MoreArguments, OneArgument, Indices, References, Subscripts, TypeSpecs, Names, ClassMods, ModArguments, EquationItems, ForEquations, WhenEquations, ElseEquations, IfEquations, StatementItems, ImportNames, ElementItems, Compositions, Sections, SectionEquations, ClassDefinitions, Files}
 use Rattle.mo_grammar.specs.Trees.{Given}
 use Rattle.mo_grammar.specs.ClassTrees.{Branched, BranchedElse, Imported, Inside}
-use Rattle.mo_unparse.specs.Pieces.{nowhere, placeless_token}
+use Rattle.mo_pieces.specs.Pieces.{nowhere, placeless_token}
 use Rattle.mo_unparse.specs.Placeless.{placeless_expr, placeless_arg, placeless_args, placeless_option, placeless_options, placeless_reference, placeless_indices, placeless_named, placeless_equation, placeless_equations, placeless_equation_branch, placeless_statement, placeless_statements}
 
 -- ---- forms that hold parts of a tree, with their own places set; what they hold is left alone

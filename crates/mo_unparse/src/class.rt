@@ -2,36 +2,35 @@
 //!
 //! One function for each kind of part and of list, all in one cycle.
 ghost use Rattle.std.specs.Prelude.{◌≡◌, ◌++◌, codes, map, IfOk, OnOk};
-ghost use Rattle.mo_unparse.specs.Pieces.{a_word};
-ghost use Rattle.mo_unparse.specs.Gathered.{gathered};
-ghost use Rattle.mo_unparse.specs.Text.{text_of as text_of_pieces};
+ghost use Rattle.mo_pieces.specs.Pieces.{a_word};
+ghost use Rattle.mo_pieces.specs.Gathered.{gathered};
+ghost use Rattle.mo_pieces.specs.Text.{text_of as text_of_pieces};
 ghost use Rattle.mo_unparse.specs.ReadAgain.{IsReadAsFile};
-ghost use Rattle.mo_unparse.specs.Lines.{on_a_line, word_if};
-ghost use Rattle.mo_unparse.specs.ShownExpressions.{commas, pieces_of_reference, spaced};
-ghost use Rattle.mo_unparse.specs.ShownModifiers.{pieces_of_path};
-ghost use Rattle.mo_unparse.specs.ShownElements.{component_with, extends_with};
-ghost use Rattle.mo_unparse.specs.ShownClasses.{inside_of, name_with, pieces_of_argument, pieces_of_class, pieces_of_element, pieces_of_items, pieces_of_mods, pieces_of_what, short_with, shown_body, shown_give, shown_item};
+ghost use Rattle.mo_pieces.specs.Lines.{on_a_line, word_if};
+ghost use Rattle.mo_pieces.specs.ShownExpressions.{commas, pieces_of_reference, spaced};
+ghost use Rattle.mo_pieces.specs.ShownModifiers.{pieces_of_path};
+ghost use Rattle.mo_pieces.specs.ShownElements.{component_with, extends_with};
+ghost use Rattle.mo_pieces.specs.ShownClasses.{inside_of, name_with, pieces_of_argument, pieces_of_class, pieces_of_element, pieces_of_items, pieces_of_mods, pieces_of_what, short_with, shown_body, shown_give, shown_item};
 
-use crate::class_head::{write_class_end, write_head_words};
 use crate::element::{
     write_argument_flags, write_binding, write_causal, write_flags, write_path, write_type,
     write_value,
 };
 use crate::expression::{write_reference, write_subscripts};
 use crate::item::{wanted_by, write_algorithm_section, write_equation_section, write_import_line};
-use crate::layout::{separate, spaced_mark, spaced_word};
-use crate::piece::Pieces;
-use crate::section::{Section, behind_item, write_head_between};
 use crate::simple_body::{write_derivative, write_enumeration};
-use crate::text::text_of;
+use mo_pieces::{
+    Pieces, Section, behind_item, separate, spaced_mark, spaced_word, text_of, write_class_end,
+    write_head_between, write_head_words,
+};
 use mo_syntax::{
     Argument, Body, Causal, ClassDef, Component, Element, Expr, Extends, Give, Item, Mods,
     NoMemory, Path, Reference, Text, What,
 };
 use std::alloc::Global;
 
-/// The source text of a class, without the semicolon behind it. Where tokens of a text spell the class, this text with a
-/// semicolon is read again as a file of that class, places aside. `NoMemory` is the only other answer.
+/// The source text of a class, without the semicolon behind it. Where tokens of a text spell the class, in a file or inside other
+/// classes, this text with a semicolon is read again as a file of that class, places aside. `NoMemory` is the only other answer.
 pub fn class_text(alloc: Global, c: &ClassDef) -> Result<Text, NoMemory>
     ensures text { IfOk result (λ t. t ≡ text_of_pieces (pieces_of_class c.now)) }
     ensures read { IfOk result (λ t. IsReadAsFile t c.now) }

@@ -1,15 +1,13 @@
 //! The parts of elements that hold no class.
 ghost use Rattle.std.specs.Prelude.{◌≡◌, ◌++◌, codes, OnOk};
-ghost use Rattle.mo_unparse.specs.Gathered.{gathered};
-ghost use Rattle.mo_unparse.specs.Lines.{word_if};
-ghost use Rattle.mo_unparse.specs.ShownExpressions.{commas};
-ghost use Rattle.mo_unparse.specs.ShownModifiers.{pieces_of_binding, pieces_of_name, pieces_of_path};
-ghost use Rattle.mo_unparse.specs.ShownElements.{in_import, pieces_of_causal, pieces_of_condition, pieces_of_flags, pieces_of_import, pieces_of_prefix, pieces_of_vary, type_of, value_of};
+ghost use Rattle.mo_pieces.specs.Gathered.{gathered};
+ghost use Rattle.mo_pieces.specs.Lines.{word_if};
+ghost use Rattle.mo_pieces.specs.ShownExpressions.{commas};
+ghost use Rattle.mo_pieces.specs.ShownModifiers.{pieces_of_binding, pieces_of_name, pieces_of_path};
+ghost use Rattle.mo_pieces.specs.ShownElements.{in_import, pieces_of_causal, pieces_of_condition, pieces_of_flags, pieces_of_import, pieces_of_prefix, pieces_of_vary, type_of, value_of};
 
 use crate::expression::{write_expr, write_reference, write_subscripts};
-use crate::layout::{dot_between, separate, spaced_mark, spaced_word};
-use crate::lines::word_where;
-use crate::piece::Pieces;
+use mo_pieces::{Pieces, dot_between, separate, spaced_mark, spaced_word, word_where};
 use mo_syntax::{
     Causal, Component, ElementFlags, Expr, Import, NoMemory, Path, Prefix, Text, Vary,
 };

@@ -1,15 +1,13 @@
 //! Equations in pieces.
 ghost use Rattle.std.specs.Prelude.{◌≡◌, ◌++◌, codes, OnOk};
-ghost use Rattle.mo_unparse.specs.Pieces.{a_mark};
-ghost use Rattle.mo_unparse.specs.Gathered.{gathered};
-ghost use Rattle.mo_unparse.specs.Lines.{block_of, end_of, lines_of};
-ghost use Rattle.mo_unparse.specs.ShownExpressions.{pieces_of_args, pieces_of_expr, pieces_of_indices, pieces_of_reference, pieces_of_simple, spaced};
-ghost use Rattle.mo_unparse.specs.ShownEquations.{branch_of, branches_of, connection_of, else_of, loop_of, pieces_of_equation, pieces_of_equation_kind};
+ghost use Rattle.mo_pieces.specs.Pieces.{a_mark};
+ghost use Rattle.mo_pieces.specs.Gathered.{gathered};
+ghost use Rattle.mo_pieces.specs.Lines.{block_of, end_of, lines_of};
+ghost use Rattle.mo_pieces.specs.ShownExpressions.{pieces_of_args, pieces_of_expr, pieces_of_indices, pieces_of_reference, pieces_of_simple, spaced};
+ghost use Rattle.mo_pieces.specs.ShownEquations.{branch_of, branches_of, connection_of, else_of, loop_of, pieces_of_equation, pieces_of_equation_kind};
 
 use crate::expression::{write_args, write_expr, write_indices, write_operand, write_reference};
-use crate::layout::{separate, spaced_mark};
-use crate::lines::{line_between, word_of, write_end};
-use crate::piece::Pieces;
+use mo_pieces::{Pieces, line_between, separate, spaced_mark, word_of, write_end};
 use mo_syntax::{Args, Equation, EquationKind, Expr, Index, List, NoMemory, Reference};
 
 /// Writes an equality.

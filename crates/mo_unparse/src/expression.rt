@@ -2,18 +2,17 @@
 //!
 //! One function for each kind of part and of list, all in one cycle.
 ghost use Rattle.std.specs.Prelude.{◌≡◌, [], ◌∷◌, ◌++◌, codes, IfOk, OnOk};
-ghost use Rattle.mo_unparse.specs.Pieces.{a_mark, a_word, a_blank};
-ghost use Rattle.mo_unparse.specs.Gathered.{gathered};
-ghost use Rattle.mo_unparse.specs.Text.{text_of as text_of_pieces};
+ghost use Rattle.mo_pieces.specs.Pieces.{a_mark, a_word, a_blank};
+ghost use Rattle.mo_pieces.specs.Gathered.{gathered};
+ghost use Rattle.mo_pieces.specs.Text.{text_of as text_of_pieces};
 ghost use Rattle.mo_unparse.specs.ReadAgain.{IsReadAgain};
-ghost use Rattle.mo_unparse.specs.ShownExpressions.{a_semicolon, branch_pieces, callee_pieces, chain_pieces, commas, factors_pieces, in_braces, in_brackets, in_parentheses, in_row, iterators_pieces, joined_by, named_pieces, operand, output_pieces, part_pieces, pieces_of_arg, pieces_of_args, pieces_of_expr, pieces_of_indices, pieces_of_node, pieces_of_outputs, pieces_of_reference, pieces_of_subscripts, power_mark, range_pieces, relation_mark, row_pieces, shown_expr, shown_node, spaced, step_pieces, subscript_pieces, terms_pieces};
+ghost use Rattle.mo_pieces.specs.ShownExpressions.{a_semicolon, branch_pieces, callee_pieces, chain_pieces, commas, factors_pieces, in_braces, in_brackets, in_parentheses, in_row, iterators_pieces, joined_by, named_pieces, operand, output_pieces, part_pieces, pieces_of_arg, pieces_of_args, pieces_of_expr, pieces_of_indices, pieces_of_node, pieces_of_outputs, pieces_of_reference, pieces_of_subscripts, power_mark, range_pieces, relation_mark, row_pieces, shown_expr, spaced, step_pieces, subscript_pieces, terms_pieces};
 
-use crate::layout::{
-    comma_between, dot_between, dot_where, mark_of_relation, separate, separate_rows, spaced_mark,
-    spaced_word, word_between, write_branch_word, write_power_mark, write_sign, write_times,
+use mo_pieces::{
+    Pieces, comma_between, dot_between, dot_where, level, mark_of_relation, separate,
+    separate_rows, spaced_mark, spaced_word, text_of, word_between, write_branch_word,
+    write_power_mark, write_sign, write_times,
 };
-use crate::piece::Pieces;
-use crate::text::text_of;
 use mo_syntax::{
     Arg, Args, Branch, Callee, Expr, Factor, Index, List, NoMemory, Node, Part, Reference, RelOp,
     Term, Text,
@@ -29,27 +28,6 @@ pub fn expr_text(alloc: Global, e: &Expr) -> Result<Text, NoMemory>
     let mut pieces = Pieces::new(alloc);
     write_expr(&mut pieces, e)?;
     text_of(alloc, &pieces)
-}
-
-/// The level of an expression: how tightly it binds, from 0 to 9.
-fn level(node: &Node) -> u8
-    ensures { result ≡ (shown_node node.now).level }
-{
-    match node {
-        Node::Whole(value) => { if *value < 0 { 6 } else { 9 } }
-        Node::If(_, _) => 0,
-        Node::Range(_, _, _) => 1,
-        Node::Any(_) => 2,
-        Node::All(_) => 3,
-        Node::Not(_) => 4,
-        Node::Relation(_, _, _) => 5,
-        Node::Sum(_) => 6,
-        Node::Product(_) => 7,
-        Node::Power(_, _, _) => 8,
-        Node::Decimal(_) | Node::Str(_) | Node::Truth(_) | Node::Ref(_) | Node::Call(_, _) => 9,
-        Node::Tuple(_) | Node::Array(_) | Node::ArrayFor(_, _) | Node::Matrix(_) => 9,
-        Node::EndMark => 9,
-    }
 }
 
 /// Writes an expression without parentheses around it.

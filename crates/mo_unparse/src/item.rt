@@ -1,18 +1,16 @@
 //! The items of a class that hold no class and no modifier, and the sections that items stand in.
 ghost use Rattle.std.specs.Prelude.{◌≡◌, [], ◌∷◌, ◌++◌, codes, OnOk};
-ghost use Rattle.mo_unparse.specs.Pieces.{a_word};
-ghost use Rattle.mo_unparse.specs.Gathered.{gathered};
-ghost use Rattle.mo_unparse.specs.Lines.{head_line, on_a_line, word_if};
-ghost use Rattle.mo_unparse.specs.ShownEquations.{pieces_of_equation, pieces_of_statement};
-ghost use Rattle.mo_unparse.specs.ShownElements.{pieces_of_import};
-ghost use Rattle.mo_unparse.specs.ShownClasses.{section_with, shown_item};
+ghost use Rattle.mo_pieces.specs.Pieces.{a_word};
+ghost use Rattle.mo_pieces.specs.Gathered.{gathered};
+ghost use Rattle.mo_pieces.specs.Lines.{head_line, on_a_line, word_if};
+ghost use Rattle.mo_pieces.specs.ShownEquations.{pieces_of_equation, pieces_of_statement};
+ghost use Rattle.mo_pieces.specs.ShownElements.{pieces_of_import};
+ghost use Rattle.mo_pieces.specs.ShownClasses.{section_with, shown_item};
 
 use crate::element::write_import;
 use crate::equation::write_equations;
-use crate::lines::word_where;
-use crate::piece::Pieces;
-use crate::section::{Section, section_of};
 use crate::statement::write_statements;
+use mo_pieces::{Pieces, Section, section_of, word_where};
 use mo_syntax::{Equation, Import, Item, NoMemory, Statement};
 
 /// Writes an import clause on a line of its own.

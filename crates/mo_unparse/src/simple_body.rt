@@ -1,13 +1,12 @@
 //! The bodies of classes that hold no class and no modifier.
 ghost use Rattle.std.specs.Prelude.{◌≡◌, ◌++◌, OnOk};
-ghost use Rattle.mo_unparse.specs.Gathered.{gathered};
-ghost use Rattle.mo_unparse.specs.ShownExpressions.{in_parentheses};
-ghost use Rattle.mo_unparse.specs.ShownClasses.{derivative_of, enumeration_of, pieces_of_literals};
+ghost use Rattle.mo_pieces.specs.Gathered.{gathered};
+ghost use Rattle.mo_pieces.specs.ShownExpressions.{in_parentheses};
+ghost use Rattle.mo_pieces.specs.ShownClasses.{derivative_of, enumeration_of, pieces_of_literals};
 
 use crate::element::write_names;
 use crate::expression::write_reference;
-use crate::layout::{separate, spaced_mark};
-use crate::piece::Pieces;
+use mo_pieces::{Pieces, separate, spaced_mark};
 use mo_syntax::{List, NoMemory, Reference, Text};
 
 /// Writes the literals of an enumeration.

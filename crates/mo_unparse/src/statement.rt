@@ -1,16 +1,14 @@
 //! Statements in pieces.
 ghost use Rattle.std.specs.Prelude.{◌≡◌, ◌++◌, codes, OnOk};
-ghost use Rattle.mo_unparse.specs.Pieces.{a_mark};
-ghost use Rattle.mo_unparse.specs.Gathered.{gathered};
-ghost use Rattle.mo_unparse.specs.Lines.{block_of, end_of, lines_of};
-ghost use Rattle.mo_unparse.specs.ShownExpressions.{in_parentheses, pieces_of_args, pieces_of_expr, pieces_of_indices, pieces_of_outputs, pieces_of_reference, spaced};
-ghost use Rattle.mo_unparse.specs.ShownEquations.{branch_of, branches_of, else_of, loop_of, pieces_of_statement, pieces_of_statement_kind, while_of};
+ghost use Rattle.mo_pieces.specs.Pieces.{a_mark};
+ghost use Rattle.mo_pieces.specs.Gathered.{gathered};
+ghost use Rattle.mo_pieces.specs.Lines.{block_of, end_of, lines_of};
+ghost use Rattle.mo_pieces.specs.ShownExpressions.{in_parentheses, pieces_of_args, pieces_of_expr, pieces_of_indices, pieces_of_outputs, pieces_of_reference, spaced};
+ghost use Rattle.mo_pieces.specs.ShownEquations.{branch_of, branches_of, else_of, loop_of, pieces_of_statement, pieces_of_statement_kind, while_of};
 
 use crate::equation::write_call_of;
 use crate::expression::{write_expr, write_indices, write_outputs, write_reference};
-use crate::layout::spaced_mark;
-use crate::lines::{line_between, word_of, write_end};
-use crate::piece::Pieces;
+use mo_pieces::{Pieces, line_between, spaced_mark, word_of, write_end};
 use mo_syntax::{Args, Expr, Index, List, NoMemory, Reference, Statement, StatementKind};
 
 /// Writes an assignment.

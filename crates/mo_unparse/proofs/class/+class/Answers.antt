@@ -1,14 +1,15 @@
 -- What is written in each turn.
 use Rattle.std.proofs.Common.{Bool, List, [], ◌++◌}
 use Rattle.std.specs.Prelude.{codes, if◌then◌else◌}
-use Rattle.mo_unparse.specs.Pieces.{Piece}
-use Rattle.mo_unparse.specs.Lines.{word_if}
-use Rattle.mo_unparse.specs.ShownModifiers.{pieces_of_path}
-use Rattle.mo_unparse.specs.Gathered.{gathered}
-use Rattle.mo_unparse.specs.ShownExpressions.{a_comma}
-use Rattle.mo_unparse.specs.ShownClasses.{pieces_of_argument}
-use Rattle.mo_unparse.proofs.Rows.{after_two, row_step, not_first}
-use Rattle.mo_unparse.proofs.Listed.{two_written, three_written, four_written}
+use Rattle.mo_pieces.specs.Pieces.{Piece}
+use Rattle.mo_pieces.specs.Lines.{word_if}
+use Rattle.mo_pieces.specs.ShownModifiers.{pieces_of_path}
+use Rattle.mo_pieces.specs.Gathered.{gathered}
+use Rattle.mo_pieces.specs.ShownExpressions.{a_comma}
+use Rattle.mo_pieces.specs.ShownClasses.{pieces_of_argument}
+use Rattle.mo_unparse.proofs.Rows.{row_step, not_first}
+use Rattle.mo_pieces.proofs.Written.{after_two}
+use Rattle.mo_pieces.proofs.Written.{two_written, three_written, four_written}
 use Rattle.mo_unparse.proofs.ClassLayers.{at_Modify, at_Redeclare, at_Replaceable, at_Long, at_Element}
 use Rattle.mo_unparse.proofs.class.+class.Goals as goal
 

@@ -1,9 +1,9 @@
 -- What is written so far, and how deep each function goes.
 use Rattle.std.proofs.Common.{◌≡◌, ◌++◌, ◌+◌, ◌*◌, map, take, drop, eqb}
-use Rattle.mo_unparse.specs.Gathered.{gathered}
-use Rattle.mo_unparse.specs.ShownExpressions.{commas}
-use Rattle.mo_unparse.specs.ShownElements.{items_from}
-use Rattle.mo_unparse.specs.ShownClasses.{pieces_of_argument, pieces_of_items, shown_item}
+use Rattle.mo_pieces.specs.Gathered.{gathered}
+use Rattle.mo_pieces.specs.ShownExpressions.{commas}
+use Rattle.mo_pieces.specs.ShownElements.{items_from}
+use Rattle.mo_pieces.specs.ShownClasses.{pieces_of_argument, pieces_of_items, shown_item}
 use Rattle.mo_unparse.proofs.class.+class.Given as goal
 
 -- what is left to write

@@ -1,8 +1,8 @@
 -- The text is that of the pieces of the class, which is read again.
 use Rattle.std.proofs.Common.{ap, ◌∙◌, ◌++◌}
-use Rattle.mo_unparse.specs.Gathered.{gathered}
+use Rattle.mo_pieces.specs.Gathered.{gathered}
 use Rattle.mo_unparse.specs.ReadAgain.{IsReadAsFile}
-use Rattle.mo_unparse.specs.ShownClasses.{pieces_of_class}
+use Rattle.mo_pieces.specs.ShownClasses.{pieces_of_class}
 use Rattle.mo_unparse.proofs.PrintingLaw.{pieces_spell}
 use Rattle.mo_unparse.proofs.ReadingAgain.{text_answered}
 use Rattle.mo_unparse.proofs.ReadingClasses.{class_read}

@@ -1,10 +1,10 @@
 -- What is written so far.
 use Rattle.std.proofs.Common.{◌≡◌, ◌++◌, [], ◌∷◌, take, eqb}
 use Rattle.std.specs.Prelude.{codes}
-use Rattle.mo_unparse.specs.Pieces.{a_mark}
-use Rattle.mo_unparse.specs.Gathered.{gathered}
-use Rattle.mo_unparse.specs.ShownExpressions.{joined_by}
-use Rattle.mo_unparse.specs.ShownModifiers.{pieces_of_name}
+use Rattle.mo_pieces.specs.Pieces.{a_mark}
+use Rattle.mo_pieces.specs.Gathered.{gathered}
+use Rattle.mo_pieces.specs.ShownExpressions.{joined_by}
+use Rattle.mo_pieces.specs.ShownModifiers.{pieces_of_name}
 use Rattle.mo_unparse.proofs.element.write_path.Given as goal
 
 abbrev pub invariant-loop-name : goal.invariant-loop-name

@@ -1,8 +1,8 @@
 -- What is written so far, and how deep each function goes.
 use Rattle.std.proofs.Common.{◌≡◌, ◌++◌, ◌+◌, ◌*◌, max, take, eqb}
-use Rattle.mo_unparse.specs.Gathered.{gathered}
-use Rattle.mo_unparse.specs.Lines.{lines_of}
-use Rattle.mo_unparse.specs.ShownEquations.{branches_of, pieces_of_equation}
+use Rattle.mo_pieces.specs.Gathered.{gathered}
+use Rattle.mo_pieces.specs.Lines.{lines_of}
+use Rattle.mo_pieces.specs.ShownEquations.{branches_of, pieces_of_equation}
 use Rattle.mo_unparse.proofs.Depths.{depth_of_equations, depth_under_equations}
 use Rattle.mo_unparse.proofs.equation.+equations.Given as goal
 

@@ -1,9 +1,10 @@
 use Rattle.std.proofs.Common.{[], ◌∷◌, ◌++◌, codes}
 use Rattle.std.specs.Prelude.{if◌then◌else◌}
-use Rattle.mo_unparse.specs.Pieces.{a_mark, a_name, a_word}
-use Rattle.mo_unparse.specs.Gathered.{gathered}
-use Rattle.mo_unparse.specs.ShownExpressions.{a_comma, a_semicolon, branch_pieces, branch_word, factor_pieces, index_pieces, named_pieces, operand, output_pieces, part_pieces, pieces_of_arg, pieces_of_expr, row_pieces, shown_expr, spaced, subscript_pieces, term_pieces}
-use Rattle.mo_unparse.proofs.Rows.{row_step, not_first, after_two, after_name, after_four, after_named}
+use Rattle.mo_pieces.specs.Pieces.{a_mark, a_name, a_word}
+use Rattle.mo_pieces.specs.Gathered.{gathered}
+use Rattle.mo_pieces.specs.ShownExpressions.{a_comma, a_semicolon, branch_pieces, branch_word, factor_pieces, index_pieces, named_pieces, operand, output_pieces, part_pieces, pieces_of_arg, pieces_of_expr, row_pieces, shown_expr, spaced, subscript_pieces, term_pieces}
+use Rattle.mo_unparse.proofs.Rows.{row_step, not_first, after_name, after_four, after_named}
+use Rattle.mo_pieces.proofs.Written.{after_two}
 use Rattle.mo_unparse.proofs.ExpressionForms.{args_written, partial_written, array_for_written}
 use Rattle.mo_unparse.proofs.expression.+expression.Goals as goal
 

@@ -2,9 +2,9 @@
 use Rattle.std.proofs.Common.{◌≡◌, [], ◌∷◌, ◌++◌, codes, ◌+◌, ◌*◌, max, take, eqb}
 use Rattle.mo_syntax.specs.declared.expr.Expr.{size-Expr}
 use Rattle.mo_syntax.specs.declared.expr.Args.{size-Args}
-use Rattle.mo_unparse.specs.Pieces.{a_mark}
-use Rattle.mo_unparse.specs.Gathered.{gathered}
-use Rattle.mo_unparse.specs.ShownExpressions.{a_semicolon, branch_pieces, chain_pieces, commas, factors_pieces, in_row, joined_by, named_pieces, part_pieces, pieces_of_arg, pieces_of_indices, pieces_of_outputs, row_pieces, shown_expr, subscript_pieces, terms_pieces}
+use Rattle.mo_pieces.specs.Pieces.{a_mark}
+use Rattle.mo_pieces.specs.Gathered.{gathered}
+use Rattle.mo_pieces.specs.ShownExpressions.{a_semicolon, branch_pieces, chain_pieces, commas, factors_pieces, in_row, joined_by, named_pieces, part_pieces, pieces_of_arg, pieces_of_indices, pieces_of_outputs, row_pieces, shown_expr, subscript_pieces, terms_pieces}
 use Rattle.mo_unparse.proofs.expression.+expression.Given as goal
 
 abbrev pub invariant-write_branches-loop-branch : goal.invariant-write_branches-loop-branch

@@ -1,7 +1,7 @@
 use Rattle.std.proofs.Common.{ap, ◌∙◌, ◌++◌}
-use Rattle.mo_unparse.specs.Gathered.{gathered}
+use Rattle.mo_pieces.specs.Gathered.{gathered}
 use Rattle.mo_unparse.specs.ReadAgain.{IsReadAgain}
-use Rattle.mo_unparse.specs.ShownExpressions.{pieces_of_expr}
+use Rattle.mo_pieces.specs.ShownExpressions.{pieces_of_expr}
 use Rattle.mo_unparse.proofs.ReadingAgain.{expression_again, text_answered}
 use Rattle.mo_unparse.proofs.expression.expr_text.Goals as goal
 

@@ -1,5 +1,5 @@
 -- The parts behind one another.
-use Rattle.mo_unparse.proofs.Listed.{four_written}
+use Rattle.mo_pieces.proofs.Written.{four_written}
 use Rattle.mo_unparse.proofs.simple_body.write_enumeration.Goals as goal
 
 pub returns : goal.returns

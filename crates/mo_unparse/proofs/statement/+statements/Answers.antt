@@ -1,7 +1,7 @@
 -- What is written in each turn, and that each call goes deeper.
 use Rattle.std.proofs.Common.{arith}
-use Rattle.mo_unparse.specs.Gathered.{gathered}
-use Rattle.mo_unparse.specs.ShownEquations.{pieces_of_statement}
+use Rattle.mo_pieces.specs.Gathered.{gathered}
+use Rattle.mo_pieces.specs.ShownEquations.{pieces_of_statement}
 use Rattle.mo_unparse.proofs.Depths.{statements_below}
 use Rattle.mo_unparse.proofs.Rows.{not_first}
 use Rattle.mo_unparse.proofs.Listed.{branch_turn}

@@ -1,0 +1,9 @@
+pub mod Pieces
+pub mod Gathered
+pub mod Text
+pub mod Lines
+pub mod ShownExpressions
+pub mod ShownEquations
+pub mod ShownModifiers
+pub mod ShownElements
+pub mod ShownClasses
