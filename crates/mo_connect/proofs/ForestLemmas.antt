@@ -2,7 +2,7 @@
 use Rattle.std.proofs.Common.{◌≡◌, ◌≢◌, ℕ, ◌+◌, ◌<◌, ◌≤◌, inl, inr, List, length, get_or, set, refl, sym, ap, ◌∙◌, arith, get_or-set_other, get_or-set_same}
 use Rattle.std.proofs.lemmas.List.{length-set}
 use Rattle.std.proofs.lemmas.Bool.Decides.{eqb_tells}
-use Rattle.mo_connect.specs.Forest.{IsForest, Climbs, IsConstant, Shortens, IsLinked, Unites, IsFlatBelow}
+use Rattle.mo_connect.specs.steps.Forest.{IsForest, Climbs, IsConstant, Shortens, IsLinked, Unites, IsFlatBelow}
 
 pub shortens-none : (p : List ℕ) → IsForest p → Shortens p p
 shortens-none p forest = record { size = refl; forest = forest; climbs = λ i less. Climbs.up less; constant = λ f constant. constant }

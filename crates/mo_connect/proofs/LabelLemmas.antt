@@ -4,9 +4,9 @@ use Rattle.std.proofs.lemmas.List.{get_or_default}
 use Rattle.std.proofs.Math.Seq.{take-append_seam}
 use Rattle.mo_connect.specs.declared.joins.Face.{Face}
 use Rattle.mo_connect.specs.declared.joins.Join.{Join}
-use Rattle.mo_connect.specs.Joins.{IsAt}
-use Rattle.mo_connect.specs.Forest.{Climbs, Shortens, IsLinked, Unites, IsFlatBelow}
-use Rattle.mo_connect.specs.Labels.{bit, number_in, IsChained, AreLabels, AreUnited}
+use Rattle.mo_connect.specs.Joins.{IsAt, bit}
+use Rattle.mo_connect.specs.steps.Forest.{Climbs, Shortens, IsLinked, Unites, IsFlatBelow}
+use Rattle.mo_connect.specs.steps.Labels.{number_in, IsChained, AreLabels, AreUnited}
 use Rattle.mo_connect.proofs.AlikeLemmas.{one-more}
 use Rattle.mo_connect.proofs.JoinLemmas.{is-at}
 

@@ -3,12 +3,12 @@ use Rattle.std.proofs.Common.{◌≡◌, ◌≢◌, ℕ, zero, suc, ◌+◌, ◌
 use Rattle.std.proofs.lemmas.Bool.Decides.{eqb_tells, leb_tells}
 use Rattle.std.proofs.Math.ListN.{get_or-append}
 use Rattle.std.proofs.Math.Seq.{get_or-append_seam, get_or-append_right}
-use Rattle.mo_connect.specs.Forest.{IsForest, IsFlatBelow}
-use Rattle.mo_connect.specs.Joins.{IsAt}
+use Rattle.mo_connect.specs.steps.Forest.{IsForest, IsFlatBelow}
+use Rattle.mo_connect.specs.Joins.{IsAt, number_of}
 use Rattle.mo_connect.proofs.JoinLemmas.{is-at-same}
 use Rattle.std.specs.Prelude.{Contains}
-use Rattle.mo_connect.specs.Labels.{number_of, face_at}
-use Rattle.mo_connect.specs.Gathering.{labelled}
+use Rattle.mo_connect.specs.steps.Labels.{face_at}
+use Rattle.mo_connect.specs.steps.Gathering.{labelled}
 
 pub number-at : (n : ℕ) → number_of (face_at n) ≡ n
 number-at n = elim (eqb_tells (n % 2) 1) [

@@ -5,4 +5,6 @@ pub mod LabelLemmas
 pub mod LabelledLemmas
 pub mod SetLemmas
 pub mod SetTheorem
+pub mod OneList
+pub mod SoundSets
 pub mod TableLemmas

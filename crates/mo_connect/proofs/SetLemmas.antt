@@ -6,7 +6,7 @@ use Rattle.std.proofs.Math.ListN.{get_or-append}
 use Rattle.mo_flat.specs.declared.connect.FaceSet.{FaceSet}
 use Rattle.mo_connect.specs.declared.declared.Declared.{Declared}
 use Rattle.mo_connect.specs.Joins.{IsAt}
-use Rattle.mo_connect.specs.Gathering.{labelled, set_with, set_from, sets_below}
+use Rattle.mo_connect.specs.steps.Gathering.{labelled, set_with, set_from, sets_below}
 use Rattle.mo_connect.proofs.LabelledLemmas.{at-append}
 
 -- one set, or none

@@ -8,9 +8,9 @@ use Rattle.mo_flat.specs.declared.connect.Connects.{Connects}
 use Rattle.mo_flat.specs.declared.connect.FaceSet.{FaceSet}
 use Rattle.mo_connect.specs.declared.joins.Join.{Join}
 use Rattle.mo_connect.specs.declared.declared.Declared.{Declared}
-use Rattle.mo_connect.specs.Joins.{Lists, Gains, IsAt, IsBefore, JoinsConnectAt}
-use Rattle.mo_connect.specs.Labels.{number_of, number_in, face_at, IsChained, AreBelow, AreFlowsBelow, AreLabels}
-use Rattle.mo_connect.specs.Gathering.{AreGathered, IsTold, IsKnown, IsListed, IsTable, labelled, set_with, set_from, sets_below}
+use Rattle.mo_connect.specs.Joins.{Lists, Gains, IsAt, IsBefore, JoinsConnectAt, number_of}
+use Rattle.mo_connect.specs.steps.Labels.{number_in, face_at, IsChained, AreBelow, AreFlowsBelow, AreLabels}
+use Rattle.mo_connect.specs.steps.Gathering.{AreGathered, IsTold, IsKnown, IsListed, IsTable, labelled, set_with, set_from, sets_below}
 use Rattle.mo_connect.specs.Sets.{seen, IsJoined, IsFlowLeaf, IsDeclared, IsLoneFlow, IsConnectionSet, IsInSome, AreConnectionSets}
 use Rattle.mo_connect.proofs.JoinLemmas.{is-at-same}
 use Rattle.mo_connect.proofs.LabelLemmas.{number-below}

@@ -7,8 +7,8 @@ use Rattle.std.proofs.Math.Seq.{get_or-append_right, take-append_seam}
 use Rattle.mo_syntax.specs.declared.place.Place.{Place}
 use Rattle.mo_connect.specs.declared.joins.Join.{Join}
 use Rattle.mo_connect.specs.declared.declared.Declared.{Declared}
-use Rattle.mo_connect.specs.Labels.{AreBelow, AreFlowsBelow}
-use Rattle.mo_connect.specs.Gathering.{told_by_face, told_by_flow, IsTold, IsKnown, IsListed, IsTable}
+use Rattle.mo_connect.specs.steps.Labels.{AreBelow, AreFlowsBelow}
+use Rattle.mo_connect.specs.steps.Gathering.{told_by_face, told_by_flow, IsTold, IsKnown, IsListed, IsTable}
 use Rattle.mo_connect.proofs.AlikeLemmas.{one-more}
 use Rattle.mo_connect.proofs.JoinLemmas.{is-at}
 

@@ -1,10 +1,14 @@
 -- The equations of connection sets (Modelica Language Specification 3.5, section 9.2).
-use Rattle.std.specs.Prelude.{ℕ, pos, Bool, List, [], ◌∷◌, map, if◌then◌else◌}
+use Rattle.std.specs.Prelude.{ℕ, pos, Bool, List, [], ◌∷◌, map, if◌then◌else◌, All, IsTrue}
+use Rattle.std.specs.Option.{option_map}
 use Rattle.mo_syntax.specs.declared.place.Place.{Place}
 use Rattle.mo_flat.specs.declared.connect.FaceSet.{FaceSet}
 use Rattle.mo_flat.specs.declared.expr.FlatExpr.{FlatExpr}
 use Rattle.mo_flat.specs.declared.expr.FlatExpr as flat
 use Rattle.mo_flat.specs.declared.model.FlatEquation.{FlatEquation}
+use Rattle.mo_flat.specs.declared.model.FlatVar.{FlatVar}
+use Rattle.mo_flat.specs.Roles.{variable_at}
+use Rattle.mo_flat.specs.Sound.{flat_kind, is_numeric}
 
 abbrev pub variable_of : ℕ × Bool → FlatExpr
 variable_of member = flat.Var member.0 0
@@ -34,3 +38,10 @@ equations_of set = of_members set.members
     of_members : List (ℕ × Bool) → List FlatEquation
     of_members [] = []
     of_members (first ∷ more) = if set.flow then flow_equation set.place first more ∷ [] else potential_equations set.place first more
+
+-- the number is that of a variable whose values are numbers
+abbrev pub IsNumericVariable : List FlatVar → ℕ → Type 0
+IsNumericVariable vars n = IsTrue (is_numeric (option_map (λ v. flat_kind v.kind) (variable_at vars n)))
+
+abbrev pub HasNumericMembers : List FlatVar → FaceSet → Type 0
+HasNumericMembers vars set = All (λ member. IsNumericVariable vars member.0) set.members

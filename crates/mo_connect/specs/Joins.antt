@@ -1,10 +1,11 @@
 -- Which faces a connect joins. A face is a leaf of a connector with its side, inside or outside (Modelica Language
 -- Specification 3.5, section 9.1.2).
-use Rattle.std.specs.Prelude.{◌≡◌, ℕ, ◌<◌, Bool, true, false, List, ◌++◌, length, slice_index_or, Contains, All}
+use Rattle.std.specs.Prelude.{◌≡◌, ℕ, ◌+◌, ◌*◌, ◌<◌, Bool, true, false, List, ◌++◌, length, slice_index_or, Contains, All}
 use Rattle.mo_flat.specs.declared.connect.Connect.{Connect}
 use Rattle.mo_flat.specs.declared.connect.EndLeaf.{EndLeaf}
 use Rattle.mo_flat.specs.declared.connect.Side.{Side}
 use Rattle.mo_flat.specs.declared.connect.Side.TheVariants.{Outside}
+pub use Rattle.mo_flat.specs.SoundConnects.{IsAt, AreDistinct}
 use Rattle.mo_connect.specs.declared.joins.Face.{Face}
 use Rattle.mo_connect.specs.declared.joins.Join.{Join}
 
@@ -14,6 +15,14 @@ is_outside _ = false
 
 abbrev pub face_of : Side → EndLeaf → Face
 face_of side leaf = record { variable = leaf.variable; outside = is_outside side; flow = leaf.flow; place = leaf.place }
+
+abbrev pub bit : Bool → ℕ
+bit true = 1
+bit false = 0
+
+-- two numbers for each variable, that of the inside face first
+abbrev pub number_of : ℕ × Bool → ℕ
+number_of face = 2 * face.0 + bit face.1
 
 -- the list has exactly the values with P
 pub record Lists {X : Type 0} (made : List X) (P : X → Type 0) : Type 0 where
@@ -26,15 +35,7 @@ pub record Gains {X : Type 0} (old new : List X) (P : X → Type 0) : Type 0 whe
   pub is : new ≡ old ++ more
   pub lists : Lists more P
 
--- the element of a list at place k
-pub record IsAt {X : Type 0} (xs : List X) (k : ℕ) (x : X) : Type 0 where
-  pub within : k < length xs
-  pub is : slice_index_or xs k x ≡ x
-
--- no two leaves have the same name below the connector
-abbrev pub AreDistinct : List EndLeaf → Type 0
-AreDistinct leaves = (j k : ℕ) (a b : EndLeaf) → IsAt leaves j a → IsAt leaves k b → a.below ≡ b.below → j ≡ k
-
+-- no two leaves of a right connector have the same name below it
 abbrev pub HasDistinctLeaves : Connect → Type 0
 HasDistinctLeaves c = All AreDistinct c.right.elements
 

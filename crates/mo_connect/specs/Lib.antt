@@ -1,7 +1,5 @@
 pub mod Alike
 pub mod Equations
-pub mod Forest
-pub mod Gathering
 pub mod Joins
-pub mod Labels
 pub mod Sets
+pub mod steps

@@ -1,17 +1,18 @@
 -- The connection sets of a class (Modelica Language Specification 3.5, section 9.2). A face is the number of a leaf's variable,
 -- with true where its connector is outside.
-use Rattle.std.specs.Prelude.{◌≡◌, ◌≢◌, ◌⊎◌, ℕ, ◌<◌, Bool, true, false, List, [], ◌∷◌, length, Contains}
+use Rattle.std.specs.Prelude.{◌≡◌, ◌≢◌, ◌⊎◌, ℕ, ◌<◌, Bool, true, false, List, [], ◌∷◌, length, Contains, All}
 use Rattle.mo_syntax.specs.declared.place.Place.{Place}
 use Rattle.mo_syntax.specs.declared.place.Stop.{Stop}
 use Rattle.mo_syntax.specs.declared.place.Stop.TheVariants.{Broken, NoMemory}
 use Rattle.mo_flat.specs.declared.connect.Connect.{Connect}
 use Rattle.mo_flat.specs.declared.connect.Connects.{Connects}
+use Rattle.mo_flat.specs.declared.connect.EndLeaf.{EndLeaf}
 use Rattle.mo_flat.specs.declared.connect.FaceSet.{FaceSet}
+use Rattle.mo_flat.specs.SoundConnects.{IsLeafIn}
 use Rattle.mo_connect.specs.declared.joins.Face.{Face}
 use Rattle.mo_connect.specs.declared.joins.Join.{Join}
 use Rattle.mo_connect.specs.Alike.{IsFirstBroken}
-use Rattle.mo_connect.specs.Joins.{IsAt, JoinsConnectAt}
-use Rattle.mo_connect.specs.Labels.{number_of}
+use Rattle.mo_connect.specs.Joins.{IsAt, JoinsConnectAt, number_of}
 
 abbrev pub seen : Face → ℕ × Bool
 seen face = (face.variable, face.outside)
@@ -63,6 +64,15 @@ pub record AreConnectionSets (c : Connects) (sets : List FaceSet) : Type 0 where
   pub ordered : (j k : ℕ) (s t : FaceSet) (a b : ℕ × Bool) → IsAt sets j s → IsAt sets k t → j < k → IsAt s.members 0 a → IsAt t.members 0 b → number_of a < number_of b
   pub joined : (a b : ℕ × Bool) → IsJoined c a b → a ≢ b → IsInSome sets a
   pub flows : (variable : ℕ) → IsFlowLeaf c variable → IsInSome sets (variable, false)
+
+-- the variable is that of a leaf of some end, or of a listed flow leaf
+pub data IsOfLeaf (c : Connects) (variable : ℕ) : Type 0 where
+  leaf : (l : EndLeaf) → IsLeafIn c l → l.variable ≡ variable → IsOfLeaf c variable
+  flow : IsFlowLeaf c variable → IsOfLeaf c variable
+
+-- each member of a set is the face of a leaf
+abbrev pub HasLeaves : Connects → FaceSet → Type 0
+HasLeaves c set = All (λ member. IsOfLeaf c member.0) set.members
 
 abbrev pub IsFirstStop : List Connect → Stop → Type 0
 IsFirstStop connects (Broken b) = IsFirstBroken connects b

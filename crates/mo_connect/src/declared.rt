@@ -1,7 +1,7 @@
 //! What is declared of the variables of faces.
 ghost use Rattle.std.specs.Prelude.{◌≡◌, ℕ, ◌<◌, length, Some, None, slice_set, slice_index_or, IfOk};
-ghost use Rattle.mo_connect.specs.Labels.{AreBelow, AreFlowsBelow};
-ghost use Rattle.mo_connect.specs.Gathering.{told_by_face, told_by_flow, IsTable};
+ghost use Rattle.mo_connect.specs.steps.Labels.{AreBelow, AreFlowsBelow};
+ghost use Rattle.mo_connect.specs.steps.Gathering.{told_by_face, told_by_flow, IsTable};
 
 use crate::joins::{Face, Join};
 use mo_syntax::{NoMemory, Place};

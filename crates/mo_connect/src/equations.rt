@@ -1,15 +1,24 @@
 //! The equations of connection sets.
-ghost use Rattle.std.specs.Prelude.{◌≡◌, ◌∷◌, [], ◌++◌, map, flat_map, IfOk, OnOk};
-ghost use Rattle.mo_connect.specs.Equations.{variable_of, term_of, equality_with, sum_of, flow_equation, potential_equations, equations_of};
+ghost use Rattle.std.specs.Prelude.{◌≡◌, ◌∷◌, [], ◌++◌, List, map, flat_map, All, IfOk, OnOk};
+ghost use Rattle.mo_flat.specs.declared.model.FlatVar.{FlatVar};
+ghost use Rattle.mo_flat.specs.Sound.{IsSoundEquation};
+ghost use Rattle.mo_connect.specs.Equations.{variable_of, term_of, equality_with, sum_of, flow_equation, potential_equations, equations_of, HasNumericMembers};
 
 use mo_flat::{FaceSet, FlatEquation, FlatExpr};
 use mo_syntax::{List, NoMemory, Place};
 use std::alloc::Global;
 
 /// The equations of connection sets, set by set. The members of a potential set `a1, a2, ..` are equal, as `a1 = ak` for
-/// each later one; those of a flow set add up to 0, where an outside member counts with minus. `NoMemory` is the only other
-/// answer.
+/// each later one; those of a flow set add up to 0, where an outside member counts with minus. They are sound where the
+/// members are variables whose values are numbers. `NoMemory` is the only other answer.
 pub fn set_equations(alloc: Global, sets: &[FaceSet]) -> Result<List<FlatEquation>, NoMemory>
+    ensures equations { IfOk result (λ made. made ≡ flat_map equations_of sets.now) }
+    ensures sound { (vars : List FlatVar) → All (HasNumericMembers vars) sets.now → IfOk result (λ made. All (IsSoundEquation vars) made) }
+{
+    gathered(alloc, sets)
+}
+
+fn gathered(alloc: Global, sets: &[FaceSet]) -> Result<List<FlatEquation>, NoMemory>
     ensures { IfOk result (λ made. made ≡ flat_map equations_of sets.now) }
 {
     let mut made = List::new(alloc);

@@ -1,8 +1,8 @@
 //! Gathers the faces of each label into sets.
 ghost use Rattle.std.specs.Prelude.{◌≡◌, ℕ, ◌+◌, ◌*◌, ◌/◌, ◌<◌, ◌≤◌, ◌^◌, [], ◌∷◌, ◌++◌, Option, length, slice_index_or, IfOk, OnOk};
-ghost use Rattle.mo_connect.specs.Forest.{IsForest};
-ghost use Rattle.mo_connect.specs.Labels.{face_at};
-ghost use Rattle.mo_connect.specs.Gathering.{labelled, set_with, set_from, sets_below};
+ghost use Rattle.mo_connect.specs.steps.Forest.{IsForest};
+ghost use Rattle.mo_connect.specs.steps.Labels.{face_at};
+ghost use Rattle.mo_connect.specs.steps.Gathering.{labelled, set_with, set_from, sets_below};
 
 use crate::declared::Declared;
 use mo_flat::FaceSet;

@@ -1,9 +1,11 @@
 //! The connection sets of a class.
-ghost use Rattle.std.specs.Prelude.{◌≡◌, All, IfOk, IfErr};
+ghost use Rattle.std.specs.Prelude.{◌≡◌, List, All, IfOk, IfErr};
+ghost use Rattle.mo_flat.specs.declared.connect.FaceSet.{FaceSet as Set};
+ghost use Rattle.mo_flat.specs.SoundConnects.{IsSoundConnects};
 ghost use Rattle.mo_connect.specs.Alike.{IsConnectable};
-ghost use Rattle.mo_connect.specs.Gathering.{AreGathered};
+ghost use Rattle.mo_connect.specs.steps.Gathering.{AreGathered};
 ghost use Rattle.mo_connect.specs.Joins.{HasDistinctLeaves};
-ghost use Rattle.mo_connect.specs.Sets.{AreConnectionSets, IsFirstStop};
+ghost use Rattle.mo_connect.specs.Sets.{AreConnectionSets, HasLeaves, IsFirstStop};
 
 use crate::declared::table;
 use crate::gather::gather;
@@ -15,11 +17,14 @@ use mo_syntax::{List, NoMemory, Place, Stop};
 use std::alloc::Global;
 
 /// The connection sets of connects and flow leaves, in the order of their first members. A set is a class of two or more
-/// faces that chains of connects link, or the inside face of a listed flow leaf alone. That is told where
-/// the leaves of each right connector have different names below it. Else the first rule that the connects break, 31, 37 or 38, or `NoMemory`.
+/// faces that chains of connects link, or the inside face of a listed flow leaf alone. That is told where the leaves of each
+/// right connector have different names below it; then each member is the face of a leaf. Sound connects have no other list
+/// of sets. Else the first rule that the connects break, 31, 37 or 38, or `NoMemory`.
 pub fn sets(alloc: Global, c: &Connects) -> Result<List<FaceSet>, Stop>
     ensures connectable { IfOk result (λ _. All IsConnectable c.now.list) }
     ensures sets { IfOk result (λ sets. All HasDistinctLeaves c.now.list → AreConnectionSets c.now sets) }
+    ensures only { IsSoundConnects c.now → (others : List Set) → AreConnectionSets c.now others → IfOk result (λ sets. sets ≡ others) }
+    ensures members { IfOk result (λ sets. All HasDistinctLeaves c.now.list → All (HasLeaves c.now) sets) }
     ensures broken { IfErr result (λ stop. IsFirstStop c.now.list stop) }
 {
     match check(c.list.as_slice()) {
@@ -33,7 +38,9 @@ pub fn sets(alloc: Global, c: &Connects) -> Result<List<FaceSet>, Stop>
 
 fn joined_sets(alloc: Global, c: &Connects) -> Result<List<FaceSet>, NoMemory>
     requires { All IsConnectable c.now.list }
-    ensures { IfOk result (λ sets. All HasDistinctLeaves c.now.list → AreConnectionSets c.now sets) }
+    ensures sets { IfOk result (λ sets. All HasDistinctLeaves c.now.list → AreConnectionSets c.now sets) }
+    ensures only { IsSoundConnects c.now → (others : List Set) → AreConnectionSets c.now others → IfOk result (λ sets. sets ≡ others) }
+    ensures members { IfOk result (λ sets. All HasDistinctLeaves c.now.list → All (HasLeaves c.now) sets) }
 {
     let mut made = List::new(alloc);
     push_connects(&mut made, c.list.as_slice())?;

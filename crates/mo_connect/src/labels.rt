@@ -1,6 +1,6 @@
 //! Labels of faces: joined faces have one label.
 ghost use Rattle.std.specs.Prelude.{◌≡◌, ℕ, ◌+◌, ◌*◌, ◌<◌, ◌≤◌, ◌^◌, length, slice_index, IfOk};
-ghost use Rattle.mo_connect.specs.Labels.{number_in, AreBelow, AreFlowsBelow, AreLabels, AreUnited};
+ghost use Rattle.mo_connect.specs.steps.Labels.{number_in, AreBelow, AreFlowsBelow, AreLabels, AreUnited};
 
 use crate::forest::{flatten, unite};
 use crate::joins::{Face, Join};

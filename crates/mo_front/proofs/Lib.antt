@@ -2,7 +2,6 @@ pub mod Columns
 pub mod NameLemmas
 pub mod FlatLemmas
 pub mod FormLemmas
-pub mod SoundForms
 pub mod SoundNames
 pub mod Soundness
 pub mod SoundModel

@@ -28,7 +28,7 @@ use Rattle.mo_flat.specs.Sound.{FlatKind, IsSoundBelow, IsSoundEquation, IsSound
 use Rattle.mo_front.specs.declared.model.NameAt.{NameAt}
 use Rattle.mo_front.specs.Flat.{flat_equation, flat_expr, flat_of, flat_sides, flat_variable, is_too_large, is_unknown}
 use Rattle.mo_front.specs.Form.{are_items, component_in, components_at, components_in, components_of, declared_name, declared_names, declares_scalar, equations_at, equations_in, equations_of, is_bound_right, is_equality, is_equation, is_item, is_item_form, is_number, is_plain_model, items_of, role_of}
-use Rattle.mo_front.proofs.SoundForms.{IsGood, Each}
+use Rattle.mo_flat.proofs.SoundForms.{IsGood, Each}
 use Rattle.mo_front.proofs.SoundNames.{numbered}
 use Rattle.mo_front.proofs.Soundness.{Numbers, and-left, and-right, false-is-true, sound}
 

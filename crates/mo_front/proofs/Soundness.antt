@@ -23,7 +23,7 @@ use Rattle.mo_front.specs.declared.model.NameAt.{NameAt}
 use Rattle.mo_front.specs.Flat.{flat_node, flat_argument_of, flat_arguments_of, flat_expr_of, flat_expr, flat_below, flat_argument, flat_arguments, flat_reference, flat_call, flat_derivative, flat_variable_or_time, number_of}
 use Rattle.mo_front.specs.Form.{Fits, node_fits, arguments_fit, argument_fits, expr_fits, is_number, is_number_below, is_number_argument, are_numbers, begins_multiplied, call_fits, is_empty, is_name, name_in, taken, with_left, arity, arity_in, of_one, of_two, is_code_among}
 use Rattle.mo_front.specs.Names.{has_name}
-use Rattle.mo_front.proofs.SoundForms.{IsGood, Each, good-Whole, good-Decimal, good-Time, good-Var, good-Der, good-Sum, good-Product, good-Power, good-Call}
+use Rattle.mo_flat.proofs.SoundForms.{IsGood, Each, good-Whole, good-Decimal, good-Time, good-Var, good-Der, good-Sum, good-Product, good-Power, good-Call}
 
 pub false-is-true : {A : Type 0} → false ≡ true → A
 false-is-true eq = absurd (no eq)

@@ -1,8 +1,9 @@
 -- What tokens spell is sound, and each name in it is that of an identifier: by induction over all productions.
-use Rattle.std.proofs.Common.{◌≡◌, ℕ, true, false, List, [], ◌∷◌, inl, inr, IsTrue, refl, eqb-true, arith}
+use Rattle.std.proofs.Common.{◌≡◌, ℕ, true, false, List, [], ◌∷◌, inl, inr, Result, IsTrue, refl, eqb-true, arith}
 use Rattle.std.specs.List.{All}
 use Rattle.std.proofs.lemmas.List.Elements.{All-cons, All-head, All-nil, All-tail}
-use Rattle.std.specs.Prelude.{◌==◌}
+use Rattle.std.specs.Prelude.{◌==◌, IfOk}
+use Rattle.std.proofs.lemmas.Result.{IfOk-weaker}
 use Rattle.mo_syntax.specs.declared.class.FileTree.{FileTree}
 use Rattle.mo_syntax.specs.declared.token.TokenKind.{TokenKind}
 use Rattle.mo_syntax.specs.declared.token.TokenKind.TheVariants.{Ident, Keyword, Operator, Whole, Decimal, Str, End}
@@ -87,3 +88,8 @@ all_sound is_name x l tokens a s h = spelled_holds rule (SoundFact is_name) (Nam
 -- a file
 pub file_sound : (is_name : Naming) (l : Limits) (tokens : List Lexeme) (file : FileTree) → Spells Files l tokens file → IdentifiersPass is_name tokens → IsTrue (is_sound_file is_name file)
 file_sound is_name l tokens file s h = all_sound is_name Files l tokens file s h
+
+-- where a file is found
+pub found_sound : {E : Type 0} (is_name : Naming) (l : Limits) (tokens : List Lexeme) (found : Result FileTree E) → IfOk found (λ file. Spells Files l tokens file) → IdentifiersPass is_name tokens → IfOk found (λ file. IsTrue (is_sound_file is_name file))
+found_sound is_name l tokens found s h =
+    IfOk-weaker found (λ file. Spells Files l tokens file) (λ file. IsTrue (is_sound_file is_name file)) (λ file spelled. file_sound is_name l tokens file spelled h) s

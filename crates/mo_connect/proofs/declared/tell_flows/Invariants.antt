@@ -1,5 +1,5 @@
 use Rattle.std.proofs.Common.{length}
-use Rattle.mo_connect.specs.Gathering.{IsTable}
+use Rattle.mo_connect.specs.steps.Gathering.{IsTable}
 use Rattle.mo_connect.proofs.declared.tell_flows.Given as goal
 
 abbrev pub invariant-loop-flow : goal.invariant-loop-flow

@@ -1,4 +1,4 @@
-use Rattle.mo_connect.specs.Forest.{Shortens, IsFlatBelow}
+use Rattle.mo_connect.specs.steps.Forest.{Shortens, IsFlatBelow}
 use Rattle.mo_connect.proofs.forest.flatten.Given as goal
 
 abbrev pub invariant-loop-i : goal.invariant-loop-i

@@ -1,5 +1,5 @@
 use Rattle.std.proofs.Common.{◌≤◌, ◌<◌, length, get_or, refl, arith}
-use Rattle.mo_connect.specs.Forest.{Climbs}
+use Rattle.mo_connect.specs.steps.Forest.{Climbs}
 use Rattle.mo_connect.proofs.ForestLemmas.{shortens-none, shortens-twice, shortens-at, climbs-through, same-higher}
 use Rattle.mo_connect.proofs.forest.root.Goals as goal
 

@@ -1,5 +1,5 @@
 use Rattle.std.proofs.Common.{◌≡◌, ℕ, ◌≤◌}
-use Rattle.mo_connect.specs.Forest.{Climbs, IsConstant, Shortens}
+use Rattle.mo_connect.specs.steps.Forest.{Climbs, IsConstant, Shortens}
 use Rattle.mo_connect.proofs.forest.root.Given as goal
 
 abbrev pub invariant-climb : goal.invariant-climb

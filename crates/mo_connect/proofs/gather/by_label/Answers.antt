@@ -1,5 +1,5 @@
 use Rattle.std.proofs.Common.{◌<◌, [], ◌∷◌, ◌++◌, length, get_or, ap, ◌∙◌, arith}
-use Rattle.mo_connect.specs.Labels.{face_at}
+use Rattle.mo_connect.specs.steps.Labels.{face_at}
 use Rattle.std.proofs.lemmas.List.{length-set, get_or_default}
 use Rattle.mo_connect.proofs.LabelledLemmas.{labelled-more}
 use Rattle.mo_connect.proofs.gather.by_label.Goals as goal

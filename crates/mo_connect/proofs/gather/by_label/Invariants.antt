@@ -1,5 +1,5 @@
 use Rattle.std.proofs.Common.{◌≡◌, ℕ, [], length, get_or}
-use Rattle.mo_connect.specs.Gathering.{labelled}
+use Rattle.mo_connect.specs.steps.Gathering.{labelled}
 use Rattle.mo_connect.proofs.gather.by_label.Given as goal
 
 abbrev pub invariant-loop-n : goal.invariant-loop-n

@@ -1,4 +1,4 @@
-use Rattle.mo_connect.specs.Labels.{AreUnited}
+use Rattle.mo_connect.specs.steps.Labels.{AreUnited}
 use Rattle.mo_connect.proofs.labels.unite_all.Given as goal
 
 abbrev pub invariant-loop-join : goal.invariant-loop-join

@@ -7,7 +7,7 @@ use Rattle.mo_connect.specs.declared.joins.Face.{Face}
 use Rattle.mo_connect.specs.declared.joins.Join.{Join}
 use Rattle.mo_connect.specs.declared.declared.Declared.{Declared}
 use Rattle.mo_connect.specs.Joins.{IsAt}
-use Rattle.mo_connect.specs.Labels.{face_at, AreBelow, AreFlowsBelow, AreLabels}
+use Rattle.mo_connect.specs.steps.Labels.{face_at, AreBelow, AreFlowsBelow, AreLabels}
 
 abbrev pub told_by_face : Face → Declared
 told_by_face face = record { flow = face.flow; place = face.place; listed = false }

@@ -1,19 +1,11 @@
 -- Labels of faces: each face has a number, and joined faces have one label, the least of their numbers.
-use Rattle.std.specs.Prelude.{◌≡◌, ℕ, ◌+◌, ◌*◌, ◌/◌, ◌%◌, ◌==◌, ◌<◌, Bool, true, false, List, length, slice_index_or}
+use Rattle.std.specs.Prelude.{◌≡◌, ℕ, ◌/◌, ◌%◌, ◌==◌, ◌<◌, Bool, List, length, slice_index_or}
 use Rattle.std.proofs.Common.{get_or}
 use Rattle.mo_syntax.specs.declared.place.Place.{Place}
 use Rattle.mo_connect.specs.declared.joins.Face.{Face}
 use Rattle.mo_connect.specs.declared.joins.Join.{Join}
-use Rattle.mo_connect.specs.Joins.{IsAt}
-use Rattle.mo_connect.specs.Forest.{IsForest, IsConstant, IsFlatBelow}
-
-abbrev pub bit : Bool → ℕ
-bit true = 1
-bit false = 0
-
--- two numbers for each variable, that of the inside face first
-abbrev pub number_of : ℕ × Bool → ℕ
-number_of face = 2 * face.0 + bit face.1
+use Rattle.mo_connect.specs.Joins.{IsAt, number_of}
+use Rattle.mo_connect.specs.steps.Forest.{IsForest, IsConstant, IsFlatBelow}
 
 abbrev pub face_at : ℕ → ℕ × Bool
 face_at n = (n / 2, n % 2 == 1)
