@@ -1,4 +1,5 @@
 pub mod Counting
+pub mod Good
 pub mod Names
 pub mod Printing
 pub mod Reading
