@@ -3,3 +3,4 @@ pub mod Rows
 pub mod Leastness
 pub mod Following
 pub mod BlockLists
+pub mod Halving

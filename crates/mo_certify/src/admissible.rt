@@ -5,6 +5,7 @@ ghost use Rattle.mo_incidence.specs.Signature.{equations, row_len, unknown_at, o
 ghost use Rattle.mo_incidence.specs.Offsets.{Fits, IsTight, IsAdmissible, by_place, by_number};
 ghost use Rattle.mo_certify.specs.Offsets.{AreOffsets};
 
+use crate::entries::find_entry;
 use crate::marks::mark_all;
 use mo_incidence::{Incidence, Offsets};
 use mo_syntax::NoMemory;
@@ -42,13 +43,13 @@ pub(crate) fn row_is_tight(inc: &Incidence, row: u32, offset: u32, d: &[u32], un
     ensures yes { result ≡ true → (k : ℕ) × (k < row_len inc.now (row - 1)) × (unknown_at inc.now (row - 1) k ≡ unknown) × (slice_index d.now (unknown_at inc.now (row - 1) k - 1) ≡ offset + order_at inc.now (row - 1) k) }
     ensures no { result ≡ false → (k : ℕ) → k < row_len inc.now (row - 1) → unknown_at inc.now (row - 1) k ≡ unknown → slice_index d.now (unknown_at inc.now (row - 1) k - 1) ≡ offset + order_at inc.now (row - 1) k → ⊥ }
 {
-    for k in 0..inc.row_len(row) {
-        let entry = inc.entry(row, k);
-        if meets(entry, unknown, offset, d[entry.0 as usize - 1]) {
-            return true;
+    match find_entry(inc, row, unknown) {
+        None => false,
+        Some(k) => {
+            let entry = inc.entry(row, k);
+            meets(entry, unknown, offset, d[entry.0 as usize - 1])
         }
     }
-    false
 }
 
 /// Whether all rows fit, and each is tight at its unknown.

@@ -9,6 +9,7 @@
 mod admissible;
 mod block_lists;
 mod deficiency;
+mod entries;
 mod least;
 mod marks;
 

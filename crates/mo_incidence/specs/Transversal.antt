@@ -12,8 +12,6 @@ pub record Precedes (m : ℕ) (q r : ℕ → ℕ) : Type 0 where
   pub same : (i : ℕ) → i < place → q i ≡ r i
   pub less : q place < r place
 
--- t assigns all equations by tight entries, and no such assignment precedes it
-pub record IsLeastTransversal (g : Signature) (c d t : ℕ → ℕ) : Type 0 where
-  pub tight : Assigns (IsTight g c d) (equations g) t
-  pub covers : CoversAll g t
-  pub least : (q : ℕ → ℕ) → Assigns (IsTight g c d) (equations g) q → CoversAll g q → Precedes (equations g) q t → ⊥
+-- no assignment of all equations by tight entries precedes t
+pub record IsLeastSequence (g : Signature) (c d t : ℕ → ℕ) : Type 0 where
+  pub none : (q : ℕ → ℕ) → Assigns (IsTight g c d) (equations g) q → CoversAll g q → Precedes (equations g) q t → ⊥

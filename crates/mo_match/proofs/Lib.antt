@@ -11,3 +11,4 @@ pub mod Written
 pub mod Loose
 pub mod Threading
 pub mod SpreadLemmas
+pub mod Bounding

@@ -1,7 +1,7 @@
 -- Handing unknowns on along the search's tree.
-use Rattle.std.proofs.Common.{◌≡◌, ◌≢◌, ℕ, suc, ◌+◌, ◌<◌, ◌≤◌, inl, inr, List, length, get_or, set, refl, sym, ◌∙◌, arith, length-set, get_or-set_other, get_or-set_same}
+use Rattle.std.proofs.Common.{◌≡◌, ◌≢◌, ℕ, suc, ◌+◌, ◌<◌, ◌≤◌, ◌⊎◌, inl, inr, List, length, get_or, set, refl, sym, ap, ◌∙◌, arith, length-set, get_or-set_other, get_or-set_same}
 use Rattle.std.proofs.lemmas.Bool.Decides.{eqb_tells}
-use Rattle.mo_match.specs.Searching.{IsMatching, IsTree}
+use Rattle.mo_match.specs.Searching.{IsMatching, IsTree, IsHandedTo}
 
 -- the equation in the queue at `place` is to have `unknown` next, which no equation has; for all others the lists match
 pub record IsMoving (E : ℕ → ℕ → Type 0) (m n : ℕ) (pairs owner queue : List ℕ) (place unknown : ℕ) : Type 0 where
@@ -114,6 +114,11 @@ module _ (E : ℕ → ℕ → Type 0) (m n : ℕ) (p owner queue : List ℕ) (pl
         ];
       }
 
+-- where the unknown that is handed on comes from: it is the free one, or that of the equation from which the walk came
+abbrev pub Comes : (p0 queue parent : List ℕ) → (tail place0 free place unknown : ℕ) → Type 0
+Comes p0 queue parent tail place0 free place unknown = ((place0 ≡ place) × (unknown ≡ free))
+    ⊎ ((t : ℕ) × (place < t) × (t < tail) × (get_or parent t 0 ≡ place) × (unknown ≡ get_or p0 (get_or queue t 0) 0))
+
 -- where the walk back along the tree stands: it started from the pairs p0
 pub record IsWalkingBack (E : ℕ → ℕ → Type 0) (m n : ℕ) (p0 p owner queue : List ℕ) (base tail place unknown : ℕ) : Type 0 where
   pub moving : IsMoving E m n p owner queue place unknown
@@ -149,6 +154,31 @@ module _ (E : ℕ → ℕ → Type 0) (m n : ℕ) (p0 p owner queue parent mark 
         absurd ((tree.rooted place past walk.within.1).0 (sym walk-here ∙ none))
   ]
 
+  walk-ends : get_or p (get_or queue place 0) 0 ≡ 0 → place ≡ base
+  walk-ends none = elim (eqb_tells base place) [
+    | inl e ↦ sym e.1
+    | inr e ↦
+        let past : base < place = omega (arith, e.1, walk.within) in
+        absurd ((tree.rooted place past walk.within.1).0 (sym walk-here ∙ none))
+  ]
+
+  pub walk-handed : (place0 free : ℕ) → get_or p (get_or queue place 0) 0 ≡ 0 → Comes p0 queue parent tail place0 free place u
+      → IsHandedTo p0 queue parent base tail place0 free (get_or (set p (get_or queue place 0) u) (get_or queue base 0) 0)
+  walk-handed place0 free none comes =
+      let at = walk-ends none in
+      let given : get_or (set p (get_or queue place 0) u) (get_or queue base 0) 0 ≡ u =
+      rw (← at) (p-here E m n p owner queue place u walk.moving (get_or queue place 0) refl walk-in) in
+      elim comes [
+        | inl e ↦ inl (e.0 ∙ at, given ∙ e.1)
+        | inr e ↦ inr (e.0, rw at at e.1, e.2, e.3 ∙ at, given ∙ e.4)
+      ]
+
+  pub walk-bare-end : get_or p (get_or queue place 0) 0 ≡ 0 → ((x : ℕ) → x ≢ get_or queue base 0 → get_or p0 x 0 ≡ 0 → get_or p x 0 ≡ 0)
+      → (x : ℕ) → x ≢ get_or queue base 0 → get_or p0 x 0 ≡ 0 → get_or (set p (get_or queue place 0) u) x 0 ≡ 0
+  walk-bare-end none bares x ne zero =
+      let other : x ≢ get_or queue place 0 = λ e. ne (e ∙ ap (λ (z : ℕ). get_or queue z 0) (walk-ends none)) in
+      p-there E m n p owner queue place u walk.moving (get_or queue place 0) refl walk-in x other ∙ bares x ne zero
+
   pub walk-dead : (s : ℕ) → s < base → get_or (set p (get_or queue place 0) u) (get_or queue s 0) 0 ≡ get_or p0 (get_or queue s 0) 0
   walk-dead s l = walk-before s (omega (arith, walk.within))
 
@@ -174,3 +204,12 @@ module _ (E : ℕ → ℕ → Type 0) (m n : ℕ) (p0 p owner queue parent mark 
       before = λ s l. walk-before s (omega (arith, walk-link.0));
       kept = walk-kept;
     }
+
+    pub walk-comes : (place0 free : ℕ) → Comes p0 queue parent tail place0 free (get_or parent place 0) old
+    walk-comes place0 free = inr (place, walk-link.0, walk.within.1, refl, sym old_is ∙ walk-here)
+
+    pub walk-bare : ((x : ℕ) → x ≢ get_or queue base 0 → get_or p0 x 0 ≡ 0 → get_or p x 0 ≡ 0)
+        → (x : ℕ) → x ≢ get_or queue base 0 → get_or p0 x 0 ≡ 0 → get_or (set p (get_or queue place 0) u) x 0 ≡ 0
+    walk-bare bares x ne zero =
+        let other : x ≢ get_or queue place 0 = λ e. some (sym old_is ∙ walk-here ∙ rw (← e) zero) in
+        p-there E m n p owner queue place u walk.moving (get_or queue place 0) refl walk-in x other ∙ bares x ne zero

@@ -7,7 +7,7 @@ use Rattle.mo_incidence.proofs.Counting.{changed, changed-same, changed-other, d
 use Rattle.mo_match.specs.Searching.{Bipartite, UsesEntry, Uses, IsMatching, IsTree, IsPassed, IsSearched, ClosedTo, Grows, IsFree, Reaches}
 use Rattle.mo_match.proofs.Entries.{uses}
 
-below-next : (s t : ℕ) → s < t + 1 → (s < t) ⊎ (s ≡ t)
+pub below-next : (s t : ℕ) → s < t + 1 → (s < t) ⊎ (s ≡ t)
 below-next s t l = elim (eqb_tells s t) [ inl e ↦ inr e.1 | inr e ↦ inl (omega (arith, e.1)) ]
 
 module _ (E : ℕ → ℕ → Type 0) (m : ℕ) (p q par mk : List ℕ) (b t : ℕ) (tree : IsTree E m p q par mk b t) (x : ℕ) (xm : x < m) (unmarked : get_or mk x 0 ≡ 0) where
@@ -258,3 +258,10 @@ pub head-next : {b : Bipartite} {owner q mk q' mk' : List ℕ} {h t t' : ℕ} (f
 head-next {h = h} free grows l closed is searched =
     let here = rw is at searched in
     closed-next (closed-kept h (omega arith) grows closed) (rw (grows.before h l) here)
+
+-- with nothing in the queue nothing has a mark
+pub root-cleared : {E : ℕ → ℕ → Type 0} {m : ℕ} {p q par mk : List ℕ} {b : ℕ} → IsTree E m p q par mk b 0 → (x : ℕ) → x < m → get_or mk x 0 ≡ 0
+root-cleared {mk = mk} tree x l = elim (eqb_tells (get_or mk x 0) 0) [
+  | inl e ↦ e.1
+  | inr e ↦ absurd (let there = tree.listed x l e.1 in omega (arith, there.1))
+]

@@ -2,27 +2,27 @@
 ghost use Rattle.std.specs.Prelude.{◌≡◌, ◌≢◌, ℕ, ◌+◌, ◌-◌, ◌<◌, ◌≤◌, length, slice_index, IsTrue, IfSome, IfNone};
 ghost use Rattle.std.proofs.Common.{suc};
 ghost use Rattle.mo_incidence.specs.Signature.{equations, row_len, entries, IsSound};
-ghost use Rattle.mo_match.specs.Searching.{Uses, ClosedTo, Grows, IsFree, Matches, HoldsTree};
+ghost use Rattle.mo_match.specs.Searching.{Uses, ClosedTo, Grows, IsFree, Matches, HoldsTree, IsHandedTo};
 
 use crate::graph::Graph;
 use mo_ports::Steps;
 
 /// An equation at a place of the queue may have an unknown that no equation has.
 #[derive(Clone, Copy)]
-struct Free {
-    place: usize,
-    unknown: u32,
+pub(crate) struct Free {
+    pub(crate) place: usize,
+    pub(crate) unknown: u32,
 }
 
 /// Where a search ended.
 #[derive(Drop)]
-struct Outcome {
-    tail: usize,
-    free: Option<Free>,
+pub(crate) struct Outcome {
+    pub(crate) tail: usize,
+    pub(crate) free: Option<Free>,
 }
 
 /// Takes the marks of the equations from place `base` of the queue back.
-fn unmark(queue: &[u32], mark: &mut [u32], base: usize, tail: usize)
+pub(crate) fn unmark(queue: &[u32], mark: &mut [u32], base: usize, tail: usize)
     requires order { base ≤ tail }
     requires room { tail ≤ length queue.now }
     requires in_range { (t : ℕ) → t < tail → slice_index queue.now t < length mark.old }
@@ -86,7 +86,7 @@ impl<'a, L> Graph<'a, L> {
 
     /// Gives the equation at a place of the queue a free unknown, its old one to the equation from which it was reached, and so on
     /// back to the root.
-    fn hand_on(
+    pub(crate) fn hand_on(
         &self,
         pairs: &mut [u32],
         owner: &mut [u32],
@@ -106,6 +106,8 @@ impl<'a, L> Graph<'a, L> {
         ensures matching { Matches self.now pairs.new owner.new }
         ensures kept { (x : ℕ) → slice_index pairs.old x ≢ 0 → slice_index pairs.new x ≢ 0 }
         ensures root { slice_index pairs.new (slice_index queue.now base) ≢ 0 }
+        ensures handed { IsHandedTo pairs.old queue.now parent.now base tail free.place free.unknown (slice_index pairs.new (slice_index queue.now base)) }
+        ensures bare { (x : ℕ) → x ≢ slice_index queue.now base → slice_index pairs.old x ≡ 0 → slice_index pairs.new x ≡ 0 }
         ensures dead { (t : ℕ) → t < base → slice_index pairs.new (slice_index queue.now t) ≡ slice_index pairs.old (slice_index queue.now t) }
     {
         let mut place = free.place;

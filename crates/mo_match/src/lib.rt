@@ -13,6 +13,7 @@ mod extend;
 mod graph;
 mod largest;
 mod lists;
+mod lowest;
 mod search;
 mod spread;
 mod threads;

@@ -5,3 +5,4 @@ pub mod Starting
 pub mod Lowered
 pub mod Ranking
 pub mod Choosing
+pub mod Fixing

@@ -7,6 +7,7 @@ use Rattle.mo_incidence.specs.Assignment.{CoversAll}
 use Rattle.mo_incidence.specs.Offsets.{IsLeast, BoundsOrders, sum_unknowns, by_place, by_number}
 use Rattle.mo_incidence.proofs.Counting.{sum-le}
 use Rattle.mo_match.specs.Searching.{tight_of, Uses, IsMatching}
+use Rattle.mo_pantelides.specs.Fixing.{AreOpen}
 use Rattle.mo_pantelides.specs.Raising.{gap, AreSmall, AreRising}
 use Rattle.mo_pantelides.proofs.Tight.{pairs-tight}
 
@@ -70,3 +71,11 @@ settled-next p p' r settled kept here i l = elim (eqb_tells i r) [
   | inl e ↦ rw e.1 here
   | inr e ↦ kept i (settled i (omega (arith, e.1)))
 ]
+
+pub cost-both : (m y e s0 s1 s2 : ℕ) → s1 ≤ s0 + (m + y + 1) * e → s2 ≤ s1 + m * e → s2 ≤ s0 + (2 * m + y + 1) * e
+cost-both m y e s0 s1 s2 one two = grind arith
+
+pub start-open : (g : Signature) (c d : List ℕ) → IsSound g → AreSmall g c d → AreOpen g c
+start-open g c d sound small = record {
+  entry = λ i k il kl. omega (arith, small.equation (λ _. 65535) (all-bounded g sound) i il, total-small g sound, sound.low i k il kl);
+}

@@ -5,12 +5,15 @@ ghost use Rattle.std.specs.Vec.{vec_capacity};
 ghost use Rattle.mo_incidence.specs.Signature.{equations, entries, IsSound};
 ghost use Rattle.mo_incidence.specs.Assignment.{Assigns, IsAssignment, CoversAll, CanCoverAll};
 ghost use Rattle.mo_incidence.specs.Offsets.{IsTight, IsLeast, BoundsOrders, sum_unknowns, by_place, by_number};
+ghost use Rattle.mo_incidence.specs.Transversal.{IsLeastSequence};
 ghost use Rattle.mo_match.specs.Searching.{Uses, tight_of, IsMatching, IsTree, ClosedTo};
 ghost use Rattle.mo_match.specs.Results.{IsMadeFor};
+ghost use Rattle.mo_pantelides.specs.Fixing.{AreOpen};
 ghost use Rattle.mo_pantelides.specs.Raising.{AreRising, gap};
 
 use crate::raise::raise;
 use crate::start::greatest_orders;
+use crate::transversal::fix_all;
 use mo_incidence::Counted;
 use mo_match::{Graph, Work, clear, put};
 use mo_ports::Steps;
@@ -98,7 +101,9 @@ fn find_offsets<L>(
     requires room { (length pairs.old ≡ equations inc.now) × (length owner.old ≡ suc inc.now.unknowns) }
     requires room_search { (length queue.old ≡ equations inc.now) × (length parent.old ≡ equations inc.now) × (length mark.old ≡ equations inc.now) }
     ensures least { IsLeast inc.now (by_place c.new) (by_number d.new) }
-    ensures pairs { Assigns (IsTight inc.now (by_place c.new) (by_number d.new)) (equations inc.now) (by_place pairs.new) }
+    ensures open { AreOpen inc.now c.new }
+    ensures matching { IsMatching (Uses (tight_of inc.now c.new d.new)) (equations inc.now) inc.now.unknowns pairs.new owner.new }
+    ensures tree { IsTree (Uses (tight_of inc.now c.new d.new)) (equations inc.now) pairs.new queue.new parent.new mark.new 0 0 }
     ensures all { CoversAll inc.now (by_place pairs.new) }
     ensures cost { (h : ℕ → ℕ) → BoundsOrders inc.now h → steps.new ≤ steps.old + (equations inc.now + sum_unknowns inc.now h + 1) * entries inc.now }
 {
@@ -116,6 +121,38 @@ fn find_offsets<L>(
     }
 }
 
+/// Finds the least offsets, and the least transversal, which also becomes the pairs. `left` is room for the unknowns' offsets.
+fn find_all<L>(
+    inc: &Counted<L>,
+    c: &mut [u32],
+    d: &mut [u32],
+    left: &mut [u32],
+    pairs: &mut [u32],
+    owner: &mut [u32],
+    queue: &mut [u32],
+    parent: &mut [u32],
+    mark: &mut [u32],
+    fixed: &mut [u32],
+    steps: &mut Steps<L>,
+)
+    requires can { CanCoverAll inc.now }
+    requires sizes { (length c.old ≡ equations inc.now) × (length d.old ≡ inc.now.unknowns) × (length left.old ≡ inc.now.unknowns) × (length fixed.old ≡ equations inc.now) }
+    requires room { (length pairs.old ≡ equations inc.now) × (length owner.old ≡ suc inc.now.unknowns) }
+    requires room_search { (length queue.old ≡ equations inc.now) × (length parent.old ≡ equations inc.now) × (length mark.old ≡ equations inc.now) }
+    ensures least { IsLeast inc.now (by_place c.new) (by_number d.new) }
+    ensures tight { Assigns (IsTight inc.now (by_place c.new) (by_number d.new)) (equations inc.now) (by_place fixed.new) }
+    ensures all { CoversAll inc.now (by_place fixed.new) }
+    ensures sequence { IsLeastSequence inc.now (by_place c.new) (by_number d.new) (by_place fixed.new) }
+    ensures pairs { pairs.new ≡ fixed.new }
+    ensures cost { (h : ℕ → ℕ) → BoundsOrders inc.now h → steps.new ≤ steps.old + (2 * equations inc.now + sum_unknowns inc.now h + 1) * entries inc.now }
+{
+    find_offsets(inc, c, d, pairs, owner, queue, parent, mark, steps);
+    fix_all(
+        inc, c, d, left, pairs, owner, queue, parent, mark, fixed, steps,
+    );
+    pairs.copy_from_slice(fixed);
+}
+
 /// Makes a list of so many zeros, where there is room.
 fn fill(list: &mut Vec<u32>, count: u32)
     requires { count ≤ vec_capacity list.old }
@@ -128,22 +165,11 @@ fn fill(list: &mut Vec<u32>, count: u32)
     }
 }
 
-/// Makes a list a copy of another, where there is room.
-fn copy_into(from: &[u32], list: &mut Vec<u32>)
-    requires { length from.now ≤ vec_capacity list.old }
-    ensures items { list.new.items ≡ from.now }
-    ensures room { vec_capacity list.old ≤ vec_capacity list.new }
-{
-    list.clear();
-    for number in from {
-        put(list, *number);
-    }
-}
-
 /// Finds the least offsets (Pryce 2001): the least numbers c of equations and d of unknowns with `d - c` at least the order of each
-/// entry, and equal to it at an assignment of all equations. They are left in the work space with such an assignment, their pairs,
-/// which also become the work's assignment. The work space has to hold an assignment of all equations.
-/// With m equations, e entries and D the sum over the unknowns of their greatest orders it reads at most (m + D + 1)*e entries.
+/// entry, and equal to it at an assignment of all equations. They are left in the work space with their pairs: of all such assignments
+/// the one whose sequence of unknown numbers, by equations, is lexicographically least. It also becomes the work's assignment. The work
+/// space has to hold an assignment of all equations.
+/// With m equations, e entries and D the sum over the unknowns of their greatest orders it reads at most (2m + D + 1)*e entries.
 /// It takes no memory.
 pub fn offsets<L>(inc: &Counted<L>, work: &mut Work, steps: &mut Steps<L>)
     requires made { IsMadeFor inc.now work.old }
@@ -155,21 +181,24 @@ pub fn offsets<L>(inc: &Counted<L>, work: &mut Work, steps: &mut Steps<L>)
     ensures lengths { (length work.new.c ≡ equations inc.now) × (length work.new.d ≡ inc.now.unknowns) × (length work.new.pairs ≡ equations inc.now) }
     ensures assignment { work.new.assignment ≡ work.new.pairs }
     ensures rest { work.new ≡ record work.old { assignment = work.new.assignment; c = work.new.c; d = work.new.d; pairs = work.new.pairs } }
-    ensures cost { (h : ℕ → ℕ) → BoundsOrders inc.now h → steps.new ≤ steps.old + (equations inc.now + sum_unknowns inc.now h + 1) * entries inc.now }
+    ensures sequence { IsLeastSequence inc.now (by_place work.new.c) (by_number work.new.d) (by_place work.new.pairs) }
+    ensures cost { (h : ℕ → ℕ) → BoundsOrders inc.now h → steps.new ≤ steps.old + (2 * equations inc.now + sum_unknowns inc.now h + 1) * entries inc.now }
 {
     let (equations, unknowns) = (work.equations, work.unknowns);
     fill(&mut work.offsets.c, equations);
     fill(&mut work.offsets.d, unknowns);
-    find_offsets(
+    fill(&mut work.offsets.pairs, equations);
+    find_all(
         inc,
         &mut work.offsets.c,
         &mut work.offsets.d,
+        &mut work.order,
         &mut work.assignment,
         &mut work.owner,
         &mut work.queue,
         &mut work.parent,
         &mut work.mark,
+        &mut work.offsets.pairs,
         steps,
     );
-    copy_into(&work.assignment, &mut work.offsets.pairs);
 }

@@ -14,9 +14,7 @@ mod least;
 mod raise;
 mod ranks;
 mod start;
+mod transversal;
 
 pub use choose::reasons;
 pub use least::offsets;
-
-#[cfg(test)]
-mod tests;

@@ -1,4 +1,4 @@
--- When a report is right for a flat model: its parts are those of the definitions, for one assignment of all equations by tight entries
+-- When a report is right for a flat model: its parts are those of the definitions, for the least transversal
 -- (J. D. Pryce, A simple structural analysis method for DAEs, BIT 41, 2001; S. E. Mattsson and G. Söderlind, Index reduction in
 -- differential-algebraic equations using dummy derivatives, SIAM J. Sci. Comput. 14, 1993).
 use Rattle.std.specs.Prelude.{◌≡◌, ◌≢◌, ◌==◌, ◌||◌, ℕ, ◌+◌, ◌-◌, ◌<◌, Bool, true, false, List, [], Option, Some, None, length, if◌then◌else◌}
@@ -10,6 +10,7 @@ use Rattle.mo_incidence.specs.Counting.{sum_below}
 use Rattle.mo_incidence.specs.Signature.{Signature, equations, row_len, unknown_at, order_at}
 use Rattle.mo_incidence.specs.Assignment.{Assigns, CoversAll, ListsWhere, IsDeficit, IsUndetermined}
 use Rattle.mo_incidence.specs.Offsets.{IsTight, IsLeast, by_place, by_number, sum_unknowns}
+use Rattle.mo_incidence.specs.Transversal.{IsLeastSequence}
 use Rattle.mo_incidence.specs.Reasons.{AreReasonsOf}
 use Rattle.mo_incidence.specs.Model.{incidence_of}
 use Rattle.mo_incidence.specs.Blocks.{AreBlocksInOrder, numbers_in}
@@ -26,7 +27,7 @@ has_zero d (suc n) = has_zero d n || (d (n + 1) == 0)
 abbrev pub index_of : Signature → (c d : ℕ → ℕ) → ℕ
 index_of g c d = if has_zero d g.unknowns then greatest c (equations g) + 1 else greatest c (equations g)
 
--- the least offsets, with an assignment of all equations by tight entries
+-- the least offsets, with the lexicographically least assignment of all equations by tight entries
 pub record AreLeastOffsets (g : Signature) (offsets : Offsets) : Type 0 where
   pub equations_all : length offsets.c.items ≡ equations g
   pub unknowns_all : length offsets.d.items ≡ g.unknowns
@@ -34,6 +35,7 @@ pub record AreLeastOffsets (g : Signature) (offsets : Offsets) : Type 0 where
   pub least : IsLeast g (by_place offsets.c.items) (by_number offsets.d.items)
   pub tight : Assigns (IsTight g (by_place offsets.c.items) (by_number offsets.d.items)) (equations g) (by_place offsets.pairs.items)
   pub covers : CoversAll g (by_place offsets.pairs.items)
+  pub sequence : IsLeastSequence g (by_place offsets.c.items) (by_number offsets.d.items) (by_place offsets.pairs.items)
 
 -- the orders at the pairs
 pub record AreOrdersAt (g : Signature) (pairs orders : List ℕ) : Type 0 where

@@ -8,3 +8,5 @@
 mod blocks;
 #[cfg(test)]
 mod checks;
+#[cfg(test)]
+mod offsets;

@@ -1,7 +1,6 @@
 use Rattle.std.proofs.Common.{◌∙◌, arith}
 use Rattle.mo_match.proofs.Deficit.{matching-none, tree-none}
-use Rattle.mo_pantelides.proofs.Tight.{pairs-tight}
-use Rattle.mo_pantelides.proofs.Starting.{start-rising, start-gap, start-cost, cost-on, settled-next, least-at-end}
+use Rattle.mo_pantelides.proofs.Starting.{start-rising, start-gap, start-cost, cost-on, settled-next, least-at-end, start-open}
 use Rattle.mo_pantelides.proofs.least.find_offsets.Goals as goal
 
 pub loop-root-init : goal.loop-root-init
@@ -30,5 +29,5 @@ returns-clause-least g c =
     least-at-end _ _ _ c.loop-root.pairs c.loop-root.owner c.loop-root.invariant.rising c.loop-root.invariant.matching
     (λ i l. c.loop-root.invariant.settled i (omega (arith, c.equations-equations.ensures.count)))
 
-pub returns-clause-pairs : goal.returns-clause-pairs
-returns-clause-pairs g c = pairs-tight _ _ _ _ _ c.loop-root.invariant.matching
+pub returns-clause-open : goal.returns-clause-open
+returns-clause-open g c = start-open _ _ _ c.equations-equations.ensures.sound c.loop-root.invariant.rising.small

@@ -1,20 +1,21 @@
-use crate::{offsets, reasons};
 use mo_incidence::{Counted, Incidence, Reason};
 use mo_match::{Assigned, Work, assign};
+use mo_pantelides::{offsets, reasons};
 use mo_ports::Steps;
 use std::test::Fail;
 
-/// Unknowns, rows, the least offsets c and d, and the reasons.
+/// Unknowns, rows, the least offsets c and d, the least pairs, and the reasons.
 type Case<'a> = (
     u32,
     &'a [&'a [(u32, u32)]],
     &'a [u32],
     &'a [u32],
+    &'a [u32],
     &'a [Reason],
 );
 
-const CASES: [Case; 4] = [
-    // the pendulum: x, y, vx, vy and the force, with the pairs 3, 2, 5, 4, 1
+const CASES: [Case; 5] = [
+    // the pendulum: x, y, vx, vy and the force
     (
         5,
         &[
@@ -26,18 +27,19 @@ const CASES: [Case; 4] = [
         ],
         &[1, 1, 0, 0, 2],
         &[2, 2, 1, 1, 0],
+        &[1, 4, 3, 5, 2],
         &[
             Reason {
                 equation: 1,
-                from: 3,
-            },
-            Reason {
-                equation: 2,
                 from: 5,
             },
             Reason {
+                equation: 2,
+                from: 4,
+            },
+            Reason {
                 equation: 5,
-                from: 1,
+                from: 2,
             },
         ],
     ),
@@ -46,19 +48,29 @@ const CASES: [Case; 4] = [
         &[&[(1, 2), (2, 0)], &[(1, 0)]],
         &[0, 2],
         &[2, 0],
+        &[2, 1],
         &[Reason {
             equation: 2,
             from: 1,
         }],
     ),
-    (2, &[&[(1, 0), (2, 1)]], &[0], &[0, 1], &[]),
-    (1, &[], &[], &[0], &[]),
+    (2, &[&[(1, 0), (2, 1)]], &[0], &[0, 1], &[1], &[]),
+    // the first equation can have 1 only if the others hand their unknowns round
+    (
+        3,
+        &[&[(1, 0), (2, 0)], &[(1, 0), (3, 0)], &[(2, 0), (3, 0)]],
+        &[0, 0, 0],
+        &[0, 0, 0],
+        &[1, 3, 2],
+        &[],
+    ),
+    (1, &[], &[], &[0], &[], &[]),
 ];
 
 #[test]
 fn offsets_of_small_systems(rt: HostRuntime) -> Result<(), Fail> {
     let alloc = rt.alloc();
-    for (unknowns, given, c, d, why) in CASES {
+    for (unknowns, given, c, d, pairs, why) in CASES {
         let mut rows = Vec::new(alloc);
         for row in given {
             rows.push(row.to_vec(alloc)?)?;
@@ -83,6 +95,7 @@ fn offsets_of_small_systems(rt: HostRuntime) -> Result<(), Fail> {
         }
         assert_eq!(rt; work.offsets().c.as_slice(), c);
         assert_eq!(rt; work.offsets().d.as_slice(), d);
+        assert_eq!(rt; work.offsets().pairs.as_slice(), pairs);
         assert_eq!(rt; work.reasons(), why);
     }
     Ok(())

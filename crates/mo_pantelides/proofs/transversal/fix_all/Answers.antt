@@ -1,0 +1,33 @@
+use Rattle.std.proofs.Common.{◌≡◌, arith}
+use Rattle.mo_incidence.specs.Signature.{equations}
+use Rattle.mo_pantelides.proofs.Fixing.{fixed-start, fixed-tight, fixed-covers, fixed-least, tree-as, cost-next}
+use Rattle.mo_pantelides.proofs.transversal.fix_all.Goals as goal
+
+pub loop-root-init : goal.loop-root-init
+loop-root-init g c = record {
+  fixed = fixed-start _ _ _ _ _ _ _ c.copy_from_slice.ensures.after c.requires.sizes.1 c.requires.sizes.3 c.requires.matching c.requires.all;
+  tree = tree-as c.requires.tree;
+  cost = omega arith;
+}
+
+pub loop-root-preserved : goal.loop-root-preserved
+loop-root-preserved g c = record {
+  fixed = c.fix.ensures.fixed;
+  tree = c.fix.ensures.tree;
+  cost = cost-next _ _ _ _ _ c.loop-root.invariant.cost c.fix.ensures.cost;
+}
+
+pub returns-clause-tight : goal.returns-clause-tight
+returns-clause-tight g c =
+    let at : c.loop-root.root ≡ equations c.args.inc.now = omega (arith, c.equations-equations.ensures.count) in
+    fixed-tight _ _ _ _ _ _ _ (rw at at c.loop-root.invariant.fixed)
+
+pub returns-clause-all : goal.returns-clause-all
+returns-clause-all g c =
+    let at : c.loop-root.root ≡ equations c.args.inc.now = omega (arith, c.equations-equations.ensures.count) in
+    fixed-covers _ _ _ _ _ _ _ (rw at at c.loop-root.invariant.fixed)
+
+pub returns-clause-least : goal.returns-clause-least
+returns-clause-least g c =
+    let at : c.loop-root.root ≡ equations c.args.inc.now = omega (arith, c.equations-equations.ensures.count) in
+    fixed-least _ _ _ _ _ _ _ (rw at at c.loop-root.invariant.fixed)
