@@ -61,10 +61,14 @@ moving_terms vars [] = []
 moving_terms vars (term ∷ terms) =
     if is_still vars term.1.0 then moving_terms vars terms else (term.0, term.1.1) ∷ moving_terms vars terms
 
--- the product with one factor replaced: D(f) in the place of f, or /f*D(f)/f in the place of /f, which is subtracted
+-- what stands in the place of a factor: D(f) for f, and /f*D(f)/f for /f
+abbrev pub in_place : Bool → (f slope : FlatExpr) → List (Bool × FlatExpr)
+in_place false f slope = (false, slope) ∷ []
+in_place true f slope = (true, f) ∷ (false, slope) ∷ (true, f) ∷ []
+
+-- the product with one factor replaced, which is subtracted where that factor is a divisor
 abbrev pub replaced_factor : List (Bool × FlatExpr) → Bool × Part → List (Bool × FlatExpr) → Bool × FlatExpr
-replaced_factor before (false, (f, slope)) after = (false, Product (before ++ (false, slope) ∷ after))
-replaced_factor before (true, (f, slope)) after = (true, Product (before ++ (true, f) ∷ (false, slope) ∷ (true, f) ∷ after))
+replaced_factor before (divides, (f, slope)) after = (divides, Product (before ++ (in_place divides f slope ++ after)))
 
 abbrev pub plain_factors : List (Bool × Part) → List (Bool × FlatExpr)
 plain_factors = map (λ factor. (factor.0, factor.1.0))

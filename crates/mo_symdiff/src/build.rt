@@ -1,21 +1,18 @@
 //! The trees that the rows of the table of derivatives are made of.
 ghost use Rattle.std.specs.Prelude.{◌≡◌, ◌<◌, ◌++◌, length, [], ◌∷◌, true, false, IfOk, OnOk};
 ghost use Rattle.mo_flat.specs.declared.expr.FlatExpr.{FlatExpr};
-ghost use Rattle.mo_flat.specs.declared.expr.FlatExpr.TheVariants.{If, Sum};
+ghost use Rattle.mo_flat.specs.declared.expr.FlatExpr.TheVariants.{If, Relation, Sum};
 ghost use Rattle.mo_symdiff.specs.Derivative.{applied, chosen, minus, negated, over, plus, raised, squared, sum_of, times};
 
 use mo_flat::FlatExpr;
-use mo_syntax::{Boxed, List, NoMemory, RelOp};
+use mo_syntax::{Boxed, List, NoMemory, RelOp, both, pair, pushed, single, triple};
 use std::alloc::Global;
 
 /// `a*b`
 pub(crate) fn product(alloc: Global, a: FlatExpr, b: FlatExpr) -> Result<FlatExpr, NoMemory>
     ensures { IfOk result (λ made. made ≡ times (a ∷ b ∷ [])) }
 {
-    let mut factors = List::new(alloc);
-    factors.push((false, a))?;
-    factors.push((false, b))?;
-    Ok(FlatExpr::Product(factors))
+    Ok(FlatExpr::Product(pair(alloc, (false, a), (false, b))?))
 }
 
 /// `a*b*c`
@@ -27,29 +24,21 @@ pub(crate) fn product_of_three(
 ) -> Result<FlatExpr, NoMemory>
     ensures { IfOk result (λ made. made ≡ times (a ∷ b ∷ c ∷ [])) }
 {
-    let mut factors = List::new(alloc);
-    factors.push((false, a))?;
-    factors.push((false, b))?;
-    factors.push((false, c))?;
-    Ok(FlatExpr::Product(factors))
+    Ok(FlatExpr::Product(triple(alloc, (false, a), (false, b), (false, c))?))
 }
 
 /// `a/b`
 pub(crate) fn quotient(alloc: Global, a: FlatExpr, b: FlatExpr) -> Result<FlatExpr, NoMemory>
     ensures { IfOk result (λ made. made ≡ over a b) }
 {
-    let mut factors = List::new(alloc);
-    factors.push((false, a))?;
-    factors.push((true, b))?;
-    Ok(FlatExpr::Product(factors))
+    Ok(FlatExpr::Product(pair(alloc, (false, a), (true, b))?))
 }
 
 /// `a^b`
 pub(crate) fn power(alloc: Global, a: FlatExpr, b: FlatExpr) -> Result<FlatExpr, NoMemory>
     ensures { IfOk result (λ made. made ≡ raised a b) }
 {
-    let base = Boxed::new(alloc, a)?;
-    let exponent = Boxed::new(alloc, b)?;
+    let (base, exponent) = both(Boxed::new(alloc, a), Boxed::new(alloc, b))?;
     Ok(FlatExpr::Power(base, exponent))
 }
 
@@ -64,38 +53,50 @@ pub(crate) fn square(alloc: Global, a: FlatExpr) -> Result<FlatExpr, NoMemory>
 pub(crate) fn sum(alloc: Global, a: FlatExpr, b: FlatExpr) -> Result<FlatExpr, NoMemory>
     ensures { IfOk result (λ made. made ≡ plus a b) }
 {
-    let mut terms = List::new(alloc);
-    terms.push((false, a))?;
-    terms.push((false, b))?;
-    Ok(FlatExpr::Sum(terms))
+    Ok(FlatExpr::Sum(pair(alloc, (false, a), (false, b))?))
 }
 
 /// `a - b`
 pub(crate) fn difference(alloc: Global, a: FlatExpr, b: FlatExpr) -> Result<FlatExpr, NoMemory>
     ensures { IfOk result (λ made. made ≡ minus a b) }
 {
-    let mut terms = List::new(alloc);
-    terms.push((false, a))?;
-    terms.push((true, b))?;
-    Ok(FlatExpr::Sum(terms))
+    Ok(FlatExpr::Sum(pair(alloc, (false, a), (true, b))?))
 }
 
 /// `-a`
 pub(crate) fn negation(alloc: Global, a: FlatExpr) -> Result<FlatExpr, NoMemory>
     ensures { IfOk result (λ made. made ≡ negated a) }
 {
-    let mut terms = List::new(alloc);
-    terms.push((true, a))?;
-    Ok(FlatExpr::Sum(terms))
+    Ok(FlatExpr::Sum(single(alloc, (true, a))?))
 }
 
 /// A function of one argument.
 pub(crate) fn call(alloc: Global, function: u16, a: FlatExpr) -> Result<FlatExpr, NoMemory>
     ensures { IfOk result (λ made. made ≡ applied function a) }
 {
-    let mut args = List::new(alloc);
-    args.push(a)?;
-    Ok(FlatExpr::Call(function, args))
+    Ok(FlatExpr::Call(function, single(alloc, a)?))
+}
+
+/// `a op b`
+fn relation(alloc: Global, op: RelOp, a: FlatExpr, b: FlatExpr) -> Result<FlatExpr, NoMemory>
+    ensures { IfOk result (λ made. made ≡ Relation op a b) }
+{
+    let (left, right) = both(Boxed::new(alloc, a), Boxed::new(alloc, b))?;
+    Ok(FlatExpr::Relation(op, left, right))
+}
+
+/// The branch `a op b then u`
+fn branch(
+    alloc: Global,
+    op: RelOp,
+    a: FlatExpr,
+    b: FlatExpr,
+    u: FlatExpr,
+) -> Result<List<(FlatExpr, FlatExpr)>, NoMemory>
+    ensures { IfOk result (λ made. made ≡ (Relation op a b, u) ∷ []) }
+{
+    let (condition, value) = both(relation(alloc, op, a, b), Ok(u))?;
+    single(alloc, (condition, value))
 }
 
 /// `if a op b then u else v`
@@ -109,10 +110,8 @@ pub(crate) fn choice(
 ) -> Result<FlatExpr, NoMemory>
     ensures { IfOk result (λ made. made ≡ chosen op a b u v) }
 {
-    let condition = FlatExpr::Relation(op, Boxed::new(alloc, a)?, Boxed::new(alloc, b)?);
-    let mut branches = List::new(alloc);
-    branches.push((condition, u))?;
-    Ok(FlatExpr::If(branches, Boxed::new(alloc, v)?))
+    let (branches, other) = both(branch(alloc, op, a, b, u), Boxed::new(alloc, v))?;
+    Ok(FlatExpr::If(branches, other))
 }
 
 /// An if-expression with these branches.
@@ -123,7 +122,7 @@ pub(crate) fn choice_of(
 ) -> Result<FlatExpr, NoMemory>
     ensures { IfOk result (λ made. made ≡ If branches other) }
 {
-    let other = Boxed::new(alloc, other)?;
+    let (branches, other) = both(Ok(branches), Boxed::new(alloc, other))?;
     Ok(FlatExpr::If(branches, other))
 }
 
@@ -170,7 +169,7 @@ pub(crate) fn copy_factors(
     ensures { OnOk result (made.new ≡ made.old ++ factors.now) }
 {
     for factor in factors {
-        made.push((factor.0, factor.1.copy(alloc)?))?;
+        pushed(made, both(Ok(factor.0), factor.1.copy(alloc)))?;
     }
     Ok(())
 }

@@ -1,12 +1,13 @@
 //! Expressions with their derivatives carried out.
 ghost use Rattle.std.specs.Prelude.{◌≡◌, IfOk, map};
+ghost use Rattle.mo_flat.specs.declared.expr.FlatExpr.TheVariants.{Der, If, Power, Relation};
 ghost use Rattle.mo_symdiff.specs.Carried.{carried};
 ghost use Rattle.mo_symdiff.specs.Derivative.{derived};
 
 use crate::derive::derived;
 use crate::room::fits;
 use mo_flat::{FlatExpr, FlatVar};
-use mo_syntax::{Boxed, List, NoMemory};
+use mo_syntax::{Boxed, List, NoMemory, RelOp, both, in_box, pushed};
 use std::alloc::Global;
 
 /// The derivative of an expression, where it is not too large to be built.
@@ -23,43 +24,51 @@ pub(crate) fn slope_within(
     derived(alloc, vars, e)
 }
 
+/// The derivative of an expression after the derivatives in it are carried out.
+pub(crate) fn carried_slope(
+    alloc: Global,
+    vars: &[FlatVar],
+    e: &FlatExpr,
+) -> Result<FlatExpr, NoMemory>
+    ensures { IfOk result (λ made. made ≡ derived vars.now (carried vars.now e.now)) }
+{
+    let e = carried(alloc, vars, e)?;
+    slope_within(alloc, vars, &e)
+}
+
 /// An expression with each derivative in it carried out, the innermost first. `NoMemory` is the only other answer.
 #[cycle(carried)]
 pub(crate) fn carried(alloc: Global, vars: &[FlatVar], e: &FlatExpr) -> Result<FlatExpr, NoMemory>
     ensures { IfOk result (λ made. made ≡ carried vars.now e.now) }
 {
     match e {
-        FlatExpr::Whole(n) => Ok(FlatExpr::Whole(*n)),
-        FlatExpr::Decimal(text) => Ok(FlatExpr::Decimal(text.copy(alloc)?)),
-        FlatExpr::Str(text) => Ok(FlatExpr::Str(text.copy(alloc)?)),
-        FlatExpr::Truth(b) => Ok(FlatExpr::Truth(*b)),
-        FlatExpr::Literal(text) => Ok(FlatExpr::Literal(text.copy(alloc)?)),
-        FlatExpr::Time => Ok(FlatExpr::Time),
-        FlatExpr::Var(variable, order) => Ok(FlatExpr::Var(*variable, *order)),
-        FlatExpr::Der(inner) => slope_within(alloc, vars, &carried(alloc, vars, inner.get())?),
+        FlatExpr::Whole(_) => e.copy(alloc),
+        FlatExpr::Decimal(_) => e.copy(alloc),
+        FlatExpr::Str(_) => e.copy(alloc),
+        FlatExpr::Truth(_) => e.copy(alloc),
+        FlatExpr::Literal(_) => e.copy(alloc),
+        FlatExpr::Time => e.copy(alloc),
+        FlatExpr::Var(_, _) => e.copy(alloc),
+        FlatExpr::Der(inner) => carried_der(alloc, vars, inner.get()),
         FlatExpr::Sum(terms) => Ok(FlatExpr::Sum(carried_signed(alloc, vars, terms.as_slice())?)),
         FlatExpr::Product(factors) => {
             Ok(FlatExpr::Product(carried_signed(alloc, vars, factors.as_slice())?))
         }
-        FlatExpr::Power(base, exponent) => Ok(FlatExpr::Power(
-            carried_box(alloc, vars, base.get())?,
-            carried_box(alloc, vars, exponent.get())?,
-        )),
+        FlatExpr::Power(base, exponent) => {
+            carried_power(alloc, vars, base.get(), exponent.get())
+        }
         FlatExpr::Call(function, args) => {
             Ok(FlatExpr::Call(*function, carried_list(alloc, vars, args.as_slice())?))
         }
-        FlatExpr::Relation(op, left, right) => Ok(FlatExpr::Relation(
-            *op,
-            carried_box(alloc, vars, left.get())?,
-            carried_box(alloc, vars, right.get())?,
-        )),
+        FlatExpr::Relation(op, left, right) => {
+            carried_relation(alloc, vars, *op, left.get(), right.get())
+        }
         FlatExpr::Not(inner) => Ok(FlatExpr::Not(carried_box(alloc, vars, inner.get())?)),
         FlatExpr::All(parts) => Ok(FlatExpr::All(carried_list(alloc, vars, parts.as_slice())?)),
         FlatExpr::Any(parts) => Ok(FlatExpr::Any(carried_list(alloc, vars, parts.as_slice())?)),
-        FlatExpr::If(branches, other) => Ok(FlatExpr::If(
-            carried_branches(alloc, vars, branches.as_slice())?,
-            carried_box(alloc, vars, other.get())?,
-        )),
+        FlatExpr::If(branches, other) => {
+            carried_choice(alloc, vars, branches.as_slice(), other.get())
+        }
     }
 }
 
@@ -67,7 +76,71 @@ pub(crate) fn carried(alloc: Global, vars: &[FlatVar], e: &FlatExpr) -> Result<F
 fn carried_box(alloc: Global, vars: &[FlatVar], e: &FlatExpr) -> Result<Boxed<FlatExpr>, NoMemory>
     ensures { IfOk result (λ made. made ≡ carried vars.now e.now) }
 {
-    Boxed::new(alloc, carried(alloc, vars, e)?)
+    in_box(alloc, carried(alloc, vars, e))
+}
+
+#[cycle(carried)]
+fn carried_boxes(
+    alloc: Global,
+    vars: &[FlatVar],
+    left: &FlatExpr,
+    right: &FlatExpr,
+) -> Result<(Boxed<FlatExpr>, Boxed<FlatExpr>), NoMemory>
+    ensures { IfOk result (λ made. (made.0 ≡ carried vars.now left.now) × (made.1 ≡ carried vars.now right.now)) }
+{
+    both(
+        carried_box(alloc, vars, left),
+        carried_box(alloc, vars, right),
+    )
+}
+
+#[cycle(carried)]
+fn carried_der(alloc: Global, vars: &[FlatVar], inner: &FlatExpr) -> Result<FlatExpr, NoMemory>
+    ensures { IfOk result (λ made. made ≡ carried vars.now (Der inner.now)) }
+{
+    let inner = carried(alloc, vars, inner)?;
+    slope_within(alloc, vars, &inner)
+}
+
+#[cycle(carried)]
+fn carried_power(
+    alloc: Global,
+    vars: &[FlatVar],
+    base: &FlatExpr,
+    exponent: &FlatExpr,
+) -> Result<FlatExpr, NoMemory>
+    ensures { IfOk result (λ made. made ≡ carried vars.now (Power base.now exponent.now)) }
+{
+    let (base, exponent) = carried_boxes(alloc, vars, base, exponent)?;
+    Ok(FlatExpr::Power(base, exponent))
+}
+
+#[cycle(carried)]
+fn carried_relation(
+    alloc: Global,
+    vars: &[FlatVar],
+    op: RelOp,
+    left: &FlatExpr,
+    right: &FlatExpr,
+) -> Result<FlatExpr, NoMemory>
+    ensures { IfOk result (λ made. made ≡ carried vars.now (Relation op left.now right.now)) }
+{
+    let (left, right) = carried_boxes(alloc, vars, left, right)?;
+    Ok(FlatExpr::Relation(op, left, right))
+}
+
+#[cycle(carried)]
+fn carried_choice(
+    alloc: Global,
+    vars: &[FlatVar],
+    branches: &[(FlatExpr, FlatExpr)],
+    other: &FlatExpr,
+) -> Result<FlatExpr, NoMemory>
+    ensures { IfOk result (λ made. made ≡ carried vars.now (If branches.now other.now)) }
+{
+    let branches = carried_branches(alloc, vars, branches);
+    let (branches, other) = both(branches, carried_box(alloc, vars, other))?;
+    Ok(FlatExpr::If(branches, other))
 }
 
 #[cycle(carried)]
@@ -80,7 +153,7 @@ fn carried_signed(
 {
     let mut made = List::new(alloc);
     for term in terms {
-        made.push((term.0, carried(alloc, vars, &term.1)?))?;
+        pushed(&mut made, both(Ok(term.0), carried(alloc, vars, &term.1)))?;
     }
     Ok(made)
 }
@@ -95,7 +168,7 @@ fn carried_list(
 {
     let mut made = List::new(alloc);
     for part in parts {
-        made.push(carried(alloc, vars, part)?)?;
+        pushed(&mut made, carried(alloc, vars, part))?;
     }
     Ok(made)
 }
@@ -110,10 +183,8 @@ fn carried_branches(
 {
     let mut made = List::new(alloc);
     for branch in branches {
-        made.push((
-            carried(alloc, vars, &branch.0)?,
-            carried(alloc, vars, &branch.1)?,
-        ))?;
+        let condition = carried(alloc, vars, &branch.0);
+        pushed(&mut made, both(condition, carried(alloc, vars, &branch.1)))?;
     }
     Ok(made)
 }

@@ -2,14 +2,15 @@
 ghost use Rattle.std.specs.Prelude.{◌≡◌, ◌&&◌, ◌++◌, [], ◌∷◌, IfOk, OnOk, if◌then◌else◌, map, pos, true};
 ghost use Rattle.std.specs.List.{list_all};
 ghost use Rattle.mo_flat.specs.declared.expr.FlatExpr.TheVariants.{All, Any, Call, Der, If, Not, Power, Product, Relation, Sum, Var, Whole};
-ghost use Rattle.mo_symdiff.specs.Derivative.{derived, moving_terms, product_terms, replaced_factor, with_slopes};
+ghost use Rattle.mo_symdiff.specs.Derivative.{derived, in_place, moving_terms, product_terms, replaced_factor, with_slopes};
 ghost use Rattle.mo_symdiff.specs.Still.{is_still};
 
 use crate::build::{chain, choice_of, copy_factors};
-use crate::rows::{slope_of_args, slope_of_power};
+use crate::functions::slope_of_args;
+use crate::powers::slope_of_power;
 use crate::still::moves;
 use mo_flat::{FlatExpr, FlatVar};
-use mo_syntax::{Boxed, List as Elements, NoMemory, RelOp};
+use mo_syntax::{Boxed, List as Elements, NoMemory, RelOp, both, pushed, single, triple};
 use std::alloc::Global;
 
 /// The derivative of an expression, and whether the expression is still.
@@ -132,11 +133,9 @@ fn of_power(
 ) -> Result<Differentiated, NoMemory>
     ensures { IfOk result (λ s. (s.still ≡ is_still vars.now (Power base.now exponent.now)) × (s.tree ≡ derived vars.now (Power base.now exponent.now))) }
 {
-    let p = slope(alloc, vars, base)?;
-    let q = slope(alloc, vars, exponent)?;
+    let (p, q) = both(slope(alloc, vars, base), slope(alloc, vars, exponent))?;
     let still = and(p.still, q.still);
-    let (p, q) = ((p.still, p.tree), (q.still, q.tree));
-    let tree = slope_of_power(alloc, base, p, exponent, q)?;
+    let tree = slope_of_power(alloc, base, p.tree, p.still, exponent, q.tree, q.still)?;
     Ok(unless_still(still, tree))
 }
 
@@ -164,10 +163,9 @@ fn of_relation(
 ) -> Result<Differentiated, NoMemory>
     ensures { IfOk result (λ s. (s.still ≡ is_still vars.now (Relation op left.now right.now)) × (s.tree ≡ derived vars.now (Relation op left.now right.now))) }
 {
-    let p = slope(alloc, vars, left)?;
-    let q = slope(alloc, vars, right)?;
+    let (p, q) = both(slope(alloc, vars, left), slope(alloc, vars, right))?;
     let still = and(p.still, q.still);
-    let (left, right) = (Boxed::new(alloc, p.tree)?, Boxed::new(alloc, q.tree)?);
+    let (left, right) = both(Boxed::new(alloc, p.tree), Boxed::new(alloc, q.tree))?;
     Ok(unless_still(still, FlatExpr::Relation(op, left, right)))
 }
 
@@ -205,10 +203,11 @@ fn of_if(
 ) -> Result<Differentiated, NoMemory>
     ensures { IfOk result (λ s. (s.still ≡ is_still vars.now (If branches.now other.now)) × (s.tree ≡ derived vars.now (If branches.now other.now))) }
 {
-    let other = slope(alloc, vars, other)?;
-    let (still, slopes) = slopes_of_values(alloc, vars, branches)?;
+    let values = slopes_of_values(alloc, vars, branches);
+    let ((still, slopes), other) = both(values, slope(alloc, vars, other))?;
+    let still = and(still, other.still);
     let tree = choice_of(alloc, slopes, other.tree)?;
-    Ok(unless_still(and(still, other.still), tree))
+    Ok(unless_still(still, tree))
 }
 
 /// The derivatives of the terms that are not still, with their signs, and whether all are still.
@@ -284,7 +283,7 @@ fn slopes_of_values(
     for branch in branches {
         let slope = slope(alloc, vars, &branch.1)?;
         still = and(still, slope.still);
-        made.push((branch.0.copy(alloc)?, slope.tree))?;
+        pushed(&mut made, both(branch.0.copy(alloc), Ok(slope.tree)))?;
     }
     Ok((still, made))
 }
@@ -317,7 +316,51 @@ fn push_replaced(
     if slope.still {
         return Ok(());
     }
-    made.push(term_of_product(alloc, before, factor, slope.tree, after)?)
+    pushed(
+        made,
+        term_of_product(alloc, before, factor, slope.tree, after),
+    )
+}
+
+/// What stands in the place of a factor f: D(f), or `/f*D(f)/f` for a divisor.
+fn in_place(
+    alloc: Global,
+    factor: &(bool, FlatExpr),
+    slope: FlatExpr,
+) -> Result<Elements<(bool, FlatExpr)>, NoMemory>
+    ensures { IfOk result (λ made. made ≡ in_place factor.now.0 factor.now.1 slope) }
+{
+    if factor.0 {
+        return around_slope(alloc, &factor.1, slope);
+    }
+    single(alloc, (false, slope))
+}
+
+/// `/f*D(f)/f`
+fn around_slope(
+    alloc: Global,
+    f: &FlatExpr,
+    slope: FlatExpr,
+) -> Result<Elements<(bool, FlatExpr)>, NoMemory>
+    ensures { IfOk result (λ made. made ≡ in_place true f.now slope) }
+{
+    let ((first, second), slope) = both(both(f.copy(alloc), f.copy(alloc)), Ok(slope))?;
+    triple(alloc, (true, first), (false, slope), (true, second))
+}
+
+/// Puts copies of factors at the end, with others between them.
+fn push_around(
+    alloc: Global,
+    made: &mut Elements<(bool, FlatExpr)>,
+    before: &[(bool, FlatExpr)],
+    between: Elements<(bool, FlatExpr)>,
+    after: &[(bool, FlatExpr)],
+) -> Result<(), NoMemory>
+    ensures { OnOk result (made.new ≡ made.old ++ (before.now ++ (between ++ after.now))) }
+{
+    copy_factors(alloc, made, before)?;
+    made.append(between)?;
+    copy_factors(alloc, made, after)
 }
 
 /// The product with the derivative of a factor in the place of that factor, or `/f*D(f)/f` in the place of `/f`, which is
@@ -331,15 +374,8 @@ fn term_of_product(
 ) -> Result<(bool, FlatExpr), NoMemory>
     ensures { IfOk result (λ made. made ≡ replaced_factor before.now (factor.now.0, (factor.now.1, slope)) after.now) }
 {
+    let between = in_place(alloc, factor, slope)?;
     let mut made = Elements::new(alloc);
-    copy_factors(alloc, &mut made, before)?;
-    if factor.0 {
-        made.push((true, factor.1.copy(alloc)?))?;
-        made.push((false, slope))?;
-        made.push((true, factor.1.copy(alloc)?))?;
-    } else {
-        made.push((false, slope))?;
-    }
-    copy_factors(alloc, &mut made, after)?;
+    push_around(alloc, &mut made, before, between, after)?;
     Ok((factor.0, FlatExpr::Product(made)))
 }

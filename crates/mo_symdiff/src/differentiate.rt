@@ -5,7 +5,7 @@ ghost use Rattle.mo_symdiff.specs.Derivative.{derived};
 ghost use Rattle.mo_symdiff.specs.Refusal.{IfBroken, of_given};
 
 use crate::carries::{carries, differentiates};
-use crate::carry::{carried, slope_within};
+use crate::carry::{carried, carried_slope};
 use mo_flat::{FlatExpr, FlatModel};
 use mo_syntax::{Broken, Place, Rule, Stop};
 use std::alloc::Global;
@@ -37,8 +37,7 @@ pub fn derivative(
     if !differentiates(vars, e) {
         return Err(Stop::Broken(broken(place)));
     }
-    let e = carried(alloc, vars, e)?;
-    Ok(slope_within(alloc, vars, &e)?)
+    Ok(carried_slope(alloc, vars, e)?)
 }
 
 /// An expression with each derivative in it carried out, the innermost first. Rule 43 at `place` exactly where a given

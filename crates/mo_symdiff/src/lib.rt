@@ -18,12 +18,13 @@ mod carries;
 mod carry;
 mod derive;
 mod differentiate;
+mod functions;
 mod laws;
+mod powers;
 mod reduce;
 mod reduce_text;
 mod reduced_model;
 mod room;
-mod rows;
 mod still;
 
 pub use differentiate::{derivative, expand_der};
@@ -35,8 +36,3 @@ pub use reduce::reduced;
 pub use reduce_text::reduced_text;
 pub use reduced_model::Reduced;
 pub use still::{holds_given, is_still};
-
-#[cfg(test)]
-mod reduced_tests;
-#[cfg(test)]
-mod row_tests;

@@ -1,5 +1,5 @@
 //! The reduced model.
-ghost use Rattle.std.specs.Prelude.{◌≡◌, ◌+◌, ◌-◌, ◌++◌, ◌^◌, ◌<◌, ◌≤◌, [], ◌∷◌, None, length, min, sum_by, IfOk, MatchOption};
+ghost use Rattle.std.specs.Prelude.{◌≡◌, ◌+◌, ◌-◌, ◌++◌, ◌^◌, ◌<◌, ◌≤◌, [], ◌∷◌, Some, None, length, min, sum_by, IfOk, MatchOption};
 ghost use Rattle.mo_symdiff.specs.Reduced.{IsWithin, bytes_at, bytes_of, carried_equation, derivatives, derived_equation, differentiates_given, first_given, nodes_at, nodes_of, reduced_lines, reduced_text, too_large};
 ghost use Rattle.mo_symdiff.specs.Room.{IsPaid, IsShort};
 ghost use Rattle.mo_symdiff.specs.Refusal.{IfBroken, of_given};
@@ -11,7 +11,7 @@ use crate::reduced_model::Reduced;
 use crate::room::text_fits;
 use crate::still::holds_given;
 use mo_flat::{FlatEquation, FlatModel, FlatVar, flat_nodes, write_equation_line};
-use mo_syntax::{Broken, List, NoMemory, Place, Rule, Stop};
+use mo_syntax::{Broken, List, NoMemory, Place, Rule, Stop, both};
 use std::alloc::Global;
 
 /// How many nodes and bytes of lines a reduced model may still get.
@@ -53,9 +53,13 @@ fn carried_equation(
 ) -> Result<FlatEquation, NoMemory>
     ensures { IfOk result (λ made. made ≡ carried_equation vars.now q.now) }
 {
+    let (left, right) = both(
+        carried(alloc, vars, &q.left),
+        carried(alloc, vars, &q.right),
+    )?;
     Ok(FlatEquation {
-        left: carried(alloc, vars, &q.left)?,
-        right: carried(alloc, vars, &q.right)?,
+        left,
+        right,
         place: q.place,
     })
 }
@@ -68,9 +72,11 @@ fn derived_equation(
 ) -> Result<FlatEquation, NoMemory>
     ensures { IfOk result (λ made. made ≡ derived_equation vars.now q.now) }
 {
+    let left = slope_within(alloc, vars, &q.left);
+    let (left, right) = both(left, slope_within(alloc, vars, &q.right))?;
     Ok(FlatEquation {
-        left: slope_within(alloc, vars, &q.left)?,
-        right: slope_within(alloc, vars, &q.right)?,
+        left,
+        right,
         place: q.place,
     })
 }
@@ -134,9 +140,26 @@ fn advance(
 ) -> Result<FlatEquation, NoMemory>
     ensures { IfOk result (λ next. (next ≡ derived_equation vars.now line) × (made.new ≡ made.old ++ line ∷ [])) }
 {
-    let next = derived_equation(alloc, vars, &line)?;
-    made.push(line)?;
+    let next = derived_equation(alloc, vars, &line);
+    let (next, ()) = both(next, made.push(line))?;
     Ok(next)
+}
+
+/// Puts a line at the end, where it is paid for.
+fn push_paid(
+    made: &mut List<FlatEquation>,
+    line: FlatEquation,
+    paid: Option<Room>,
+) -> Result<Option<Room>, NoMemory>
+    ensures { IfOk result (λ found. MatchOption found (paid ≡ None) (λ rest. (paid ≡ Some rest) × (made.new ≡ made.old ++ line ∷ []))) }
+{
+    match paid {
+        None => Ok(None),
+        Some(rest) => {
+            made.push(line)?;
+            Ok(Some(rest))
+        }
+    }
 }
 
 /// Puts the last line at the end. Gives the room that is left behind it, none where it does not fit.
@@ -150,11 +173,28 @@ fn finish(
     requires { room.nodes ≤ 4000000 }
     ensures { IfOk result (λ found. MatchOption found (IsShort room.nodes room.bytes (nodes_at last) (bytes_at vars.now last)) (λ rest. (made.new ≡ made.old ++ last ∷ []) × IsPaid room.nodes room.bytes (nodes_at last) (bytes_at vars.now last) rest.nodes rest.bytes)) }
 {
-    let Some(rest) = pay(alloc, vars, &last, room)? else {
-        return Ok(None);
-    };
-    made.push(last)?;
-    Ok(Some(rest))
+    let paid = pay(alloc, vars, &last, room);
+    let (paid, last) = both(paid, Ok(last))?;
+    push_paid(made, last, paid)
+}
+
+/// Puts a line at the end. Gives the room that is left behind it and its derivative, none where it does not fit.
+fn step(
+    alloc: Global,
+    vars: &[FlatVar],
+    made: &mut List<FlatEquation>,
+    line: FlatEquation,
+    room: Room,
+) -> Result<Option<(Room, FlatEquation)>, NoMemory>
+    requires { room.nodes ≤ 4000000 }
+    ensures { IfOk result (λ found. MatchOption found (IsShort room.nodes room.bytes (nodes_at line) (bytes_at vars.now line)) (λ next. (made.new ≡ made.old ++ line ∷ []) × (next.1 ≡ derived_equation vars.now line) × IsPaid room.nodes room.bytes (nodes_at line) (bytes_at vars.now line) next.0.nodes next.0.bytes)) }
+{
+    let paid = pay(alloc, vars, &line, room);
+    let (paid, line) = both(paid, Ok(line))?;
+    match paid {
+        None => Ok(None),
+        Some(rest) => Ok(Some((rest, advance(alloc, vars, made, line)?))),
+    }
 }
 
 /// Puts an equation and its first `count` derivatives at the end. Gives the room that is left behind them, none where they do
@@ -173,11 +213,11 @@ fn push_lines(
     let mut line = line;
     let mut left = room;
     for _derivative in 0..count {
-        let Some(rest) = pay(alloc, vars, &line, left)? else {
+        let Some((rest, next)) = step(alloc, vars, made, line, left)? else {
             return Ok(None);
         };
         left = rest;
-        line = advance(alloc, vars, made, line)?;
+        line = next;
     }
     finish(alloc, vars, made, line, left)
 }

@@ -1,4 +1,4 @@
-use Rattle.std.proofs.Common.{◌∙◌, ◌+◌, ap, sym, map, refl, arith}
+use Rattle.std.proofs.Common.{◌≡◌, ◌∙◌, ◌+◌, ap, sym, map, refl, arith}
 use Rattle.std.specs.Prelude.{◌&&◌}
 use Rattle.std.specs.List.{list_all}
 use Rattle.mo_flat.specs.declared.expr.FlatExpr.TheVariants.{All, Any, Call, Der, If, Not, Power, Product, Relation, Sum}
@@ -40,15 +40,36 @@ pub of_sum-returns : goal.of_sum-returns
 of_sum-returns t c = step c.args.vars.now (Sum c.args.terms.now) _ _ (still_Sum _ _) (derived_Sum _ _) _ _ c.in_ok-still.ensures.0 (c.chain.ensures ∙ ap sum_of c.in_ok-still.ensures.1) _ _ c.unless_still.ensures.still c.unless_still.ensures.tree
 
 pub of_if-returns : goal.of_if-returns
-of_if-returns t c = step c.args.vars.now (If c.args.branches.now c.args.other.now) _ _ (still_If _ _ _) (derived_If _ _ _) _ _ (c.and.ensures ∙ ap (λ b. b && c.in_ok-other.other.still) c.in_ok-still.ensures.0 ∙ ap (λ b. list_all (λ x. is_still c.args.vars.now x.1) c.args.branches.now && b) c.in_ok-other.ensures.0) (c.in_ok-tree.ensures ∙ ap (λ l. If l c.in_ok-other.other.tree) c.in_ok-still.ensures.1 ∙ ap (λ o. If (map (λ b. (b.0, derived c.args.vars.now b.1)) c.args.branches.now) o) c.in_ok-other.ensures.1) _ _ c.unless_still.ensures.still c.unless_still.ensures.tree
+of_if-returns t c =
+    let vars = c.args.vars.now in
+    let values : (c.in_ok-still.still ≡ list_all (λ x. is_still vars x.1) c.args.branches.now) × (c.in_ok-still.slopes ≡ map (λ b. (b.0, derived vars b.1)) c.args.branches.now) =
+    rw c.in_ok-still.ensures.values.0 at c.slopes_of_values-values.ensures in
+    let other : (c.in_ok-still.other.still ≡ is_still vars c.args.other.now) × (c.in_ok-still.other.tree ≡ derived vars c.args.other.now) = rw c.in_ok-still.ensures.values.1 at c.slope.ensures in
+    step vars (If c.args.branches.now c.args.other.now) _ _ (still_If _ _ _) (derived_If _ _ _) _ _
+    (c.and-still.ensures ∙ ap (λ b. b && c.in_ok-still.other.still) values.0 ∙ ap (λ b. list_all (λ x. is_still vars x.1) c.args.branches.now && b) other.0)
+    (c.in_ok-tree.ensures ∙ ap (λ l. If l c.in_ok-still.other.tree) values.1 ∙ ap (λ o. If (map (λ b. (b.0, derived vars b.1)) c.args.branches.now) o) other.1) _ _ c.unless_still.ensures.still c.unless_still.ensures.tree
 
 pub of_relation-returns : goal.of_relation-returns
-of_relation-returns t c = step c.args.vars.now (Relation c.args.op c.args.left.now c.args.right.now) _ _ (still_Relation _ _ _ _) (derived_Relation _ _ _ _) _ _ (c.and-still.ensures ∙ ap (λ b. b && c.in_ok-q.q.still) c.in_ok-p.ensures.0 ∙ ap (λ b. is_still c.args.vars.now c.args.left.now && b) c.in_ok-q.ensures.0) (ap (λ l. Relation c.args.op l c.in_ok-right.right) (c.in_ok-left.ensures ∙ c.in_ok-p.ensures.1) ∙ ap (λ r. Relation c.args.op (derived c.args.vars.now c.args.left.now) r) (c.in_ok-right.ensures ∙ c.in_ok-q.ensures.1)) _ _ c.unless_still.ensures.still c.unless_still.ensures.tree
+of_relation-returns t c =
+    let vars = c.args.vars.now in
+    let op = c.args.op in
+    let p : (c.in_ok-p.p.still ≡ is_still vars c.args.left.now) × (c.in_ok-p.p.tree ≡ derived vars c.args.left.now) = rw c.in_ok-p.ensures.values.0 at c.slope.ensures in
+    let q : (c.in_ok-p.q.still ≡ is_still vars c.args.right.now) × (c.in_ok-p.q.tree ≡ derived vars c.args.right.now) = rw c.in_ok-p.ensures.values.1 at c.slope-2.ensures in
+    let l : c.in_ok-left.left ≡ c.in_ok-p.p.tree = rw c.in_ok-left.ensures.values.0 at c.new.ensures in
+    let r : c.in_ok-left.right ≡ c.in_ok-p.q.tree = rw c.in_ok-left.ensures.values.1 at c.new-2.ensures in
+    step vars (Relation op c.args.left.now c.args.right.now) _ _ (still_Relation _ _ _ _) (derived_Relation _ _ _ _) _ _
+    (c.and-still.ensures ∙ ap (λ b. b && c.in_ok-p.q.still) p.0 ∙ ap (λ b. is_still vars c.args.left.now && b) q.0)
+    (ap (λ x. Relation op x c.in_ok-left.right) (l ∙ p.1) ∙ ap (λ x. Relation op (derived vars c.args.left.now) x) (r ∙ q.1)) _ _ c.unless_still.ensures.still c.unless_still.ensures.tree
 
 pub of_power-returns : goal.of_power-returns
-of_power-returns t c = step c.args.vars.now (Power c.args.base.now c.args.exponent.now) _ _ (still_Power _ _ _) (derived_Power _ _ _) _ _ (c.and-still.ensures ∙ ap (λ b. b && c.in_ok-q.q.still) c.in_ok-p.ensures.0 ∙ ap (λ b. is_still c.args.vars.now c.args.base.now && b) c.in_ok-q.ensures.0) (
-    c.in_ok-tree.ensures c.args.vars.now (sym c.in_ok-p.ensures.0) (sym c.in_ok-q.ensures.0) ∙ ap (λ p. power_slope c.args.vars.now (c.args.base.now, p) (c.args.exponent.now, c.in_ok-q.q.tree)) c.in_ok-p.ensures.1
-    ∙ ap (λ q. power_slope c.args.vars.now (c.args.base.now, derived c.args.vars.now c.args.base.now) (c.args.exponent.now, q)) c.in_ok-q.ensures.1) _ _ c.unless_still.ensures.still c.unless_still.ensures.tree
+of_power-returns t c =
+    let vars = c.args.vars.now in
+    let p : (c.in_ok-p.p.still ≡ is_still vars c.args.base.now) × (c.in_ok-p.p.tree ≡ derived vars c.args.base.now) = rw c.in_ok-p.ensures.values.0 at c.slope.ensures in
+    let q : (c.in_ok-p.q.still ≡ is_still vars c.args.exponent.now) × (c.in_ok-p.q.tree ≡ derived vars c.args.exponent.now) = rw c.in_ok-p.ensures.values.1 at c.slope-2.ensures in
+    step vars (Power c.args.base.now c.args.exponent.now) _ _ (still_Power _ _ _) (derived_Power _ _ _) _ _
+    (c.and-still.ensures ∙ ap (λ b. b && c.in_ok-p.q.still) p.0 ∙ ap (λ b. is_still vars c.args.base.now && b) q.0)
+    (c.in_ok-tree.ensures vars (sym p.0) (sym q.0) ∙ ap (λ x. power_slope vars (c.args.base.now, x) (c.args.exponent.now, c.in_ok-p.q.tree)) p.1
+    ∙ ap (λ x. power_slope vars (c.args.base.now, derived vars c.args.base.now) (c.args.exponent.now, x)) q.1) _ _ c.unless_still.ensures.still c.unless_still.ensures.tree
 
 pub slope-returns-in-Whole : goal.slope-returns-in-Whole
 slope-returns-in-Whole t c = rw c.in-Whole.is (c.stays.ensures.still ∙ (at_Whole _ _).0, c.stays.ensures.tree ∙ (at_Whole _ _).1)

@@ -10,8 +10,8 @@ loop-derivative-init c =
     let all : c.args.count - 0 ≡ c.args.count = omega arith in
     record { lines = ap (λ n. c.args.made.now ++ derivatives c.args.vars.now n c.args.line) all; nodes = refl; bytes = refl; within = omega arith }
 
-pub pay-requires : goal.pay-requires
-pay-requires c = omega (arith, c.loop-derivative.invariant.within)
+pub step-requires : goal.step-requires
+step-requires c = omega (arith, c.loop-derivative.invariant.within)
 
 pub returns-in_default : goal.returns-in_default
 returns-in_default c =
@@ -22,9 +22,10 @@ returns-in_default c =
 pub loop-derivative-preserved : goal.loop-derivative-preserved
 loop-derivative-preserved c =
     let invariant = c.loop-derivative.invariant in
-    let paid = rw c.in-Some.is at c.in_ok-rest.ensures in
-    let next = c.in_ok-line.ensures.0 in
-    let made = c.in_ok-line.ensures.1 in
+    let found = rw c.in-Some.is at c.in_ok-rest.ensures in
+    let made = found.0 in
+    let next = found.1 in
+    let paid = found.2 in
     record {
       lines = line_turn _ _ _ _ _ _ _ _ c.loop-derivative-test.true invariant.lines made next;
       nodes = cost_turn nodes_at _ _ _ _ _ _ invariant.nodes paid.nodes_paid made;
