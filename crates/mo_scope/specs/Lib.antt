@@ -1,0 +1,9 @@
+pub mod Arguments
+pub mod Compatible
+pub mod Frames
+pub mod Lookup
+pub mod Names
+pub mod Outcome
+pub mod Parts
+pub mod Rows
+pub mod Sizes

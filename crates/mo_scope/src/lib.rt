@@ -1,0 +1,11 @@
+//! Frames, scopes and sources.
+#![tactic(auto)]
+
+ghost use Rattle.std.specs.Prelude.{◌≡◌};
+
+/// Zero.
+pub fn zero() -> u8
+    ensures { result ≡ 0 }
+{
+    0
+}
