@@ -1,2 +1,3 @@
 mod Models
+pub mod Numbered
 mod WorkedRows
