@@ -1,6 +1,8 @@
 pub mod Arguments
 pub mod Compatible
+pub mod Entries
 pub mod Frames
+pub mod Insides
 pub mod Lookup
 pub mod Names
 pub mod Outcome
