@@ -1,5 +1,5 @@
 -- Small class tables, made by hand, on which definitions are tried.
-use Rattle.std.proofs.Common.{◌≡◌, ℕ, Bool, true, false, List, [], ◌∷◌, ◌++◌, map, Option, Some, None, refl}
+use Rattle.std.proofs.Common.{ℕ, Bool, true, false, List, [], Option, None}
 use Rattle.mo_syntax.specs.declared.expr.Expr.{Expr}
 use Rattle.mo_syntax.specs.declared.expr.PartOf.{PartOf}
 use Rattle.mo_syntax.specs.declared.expr.ReferenceOf.{ReferenceOf}
@@ -9,13 +9,12 @@ use Rattle.mo_syntax.specs.declared.class.Body.TheVariants.{Long}
 use Rattle.mo_syntax.specs.declared.class.Causal.TheVariants.{None as NoCausality}
 use Rattle.mo_syntax.specs.declared.class.ClassDefOf.{ClassDefOf}
 use Rattle.mo_syntax.specs.declared.class.ClassKind.TheVariants.{Plain}
-use Rattle.mo_syntax.specs.declared.class.ComponentOf.{ComponentOf}
 use Rattle.mo_syntax.specs.declared.class.ElementFlags.{ElementFlags}
 use Rattle.mo_syntax.specs.declared.class.Give.{Give}
 use Rattle.mo_syntax.specs.declared.class.Vary.TheVariants.{Free}
 use Rattle.mo_syntax.specs.declared.place.Place.{Place}
-use Rattle.mo_syntax.specs.Classes.{Home, Under}
-use Rattle.mo_scope.specs.Rows.{Row, Declares, Part, Element_of, Base_of, A_class, A_component, Constraint, Modifiers, Long_class, no_flags, no_modifiers}
+use Rattle.mo_syntax.specs.Classes.{Under}
+use Rattle.mo_scope.specs.Rows.{Row, Declares, Part, Element_of, Base_of, A_class, A_component, Constraint, Long_class, no_flags, no_modifiers}
 
 -- a byte of the one file
 abbrev pub byte : ℕ → Place

@@ -1,5 +1,5 @@
 -- The frames that numbers stand for.
-use Rattle.std.proofs.Common.{◌≡◌, ℕ, zero, suc, ◌+◌, ◌<◌, ◌≤◌, ◌⊎◌, inl, inr, Ok, List, [], ◌∷◌, ◌++◌, length, map, get_or, Option, Some, None, refl, ap, sym, subst, ◌∙◌, arith, length-append, length-set, set, append_assoc, Bor}
+use Rattle.std.proofs.Common.{◌≡◌, ℕ, zero, suc, ◌+◌, ◌<◌, ◌⊎◌, inl, inr, Ok, List, [], ◌∷◌, ◌++◌, length, map, get_or, Option, Some, None, refl, ap, sym, subst, ◌∙◌, arith, length-append, length-set, set, Bor}
 use Rattle.std.proofs.Math.ListN.{get_or-append}
 use Rattle.std.specs.Prelude.{slice_get, option_map, option_copied, IfSome, IsNone, IsTrue, Bool, false}
 use Rattle.std.proofs.lemmas.Option.{slice_get-map, slice_get_read}
@@ -75,7 +75,7 @@ frames_from-at F (x ∷ xs) c zero e at is =
     ∙ at_end F (frame_of_entry F x)
     ∙ ap (frame_of_entry F) same
     ∙ alike_entry F all c (length F + zero) (λ m below.
-        sym (frames_from-keeps F (x ∷ xs) m (omega arith))) e is
+    sym (frames_from-keeps F (x ∷ xs) m (omega arith))) e is
 frames_from-at F (x ∷ xs) c (suc k) e at is =
     let moved : length F + suc k ≡ length (F ++ frame_of_entry F x ∷ []) + k = omega (arith, one_more F (frame_of_entry F x)) in
     ap (frame_in (frames_from (F ++ frame_of_entry F x ∷ []) xs)) moved
@@ -152,13 +152,15 @@ sound_grown old new e sound files entries tables is =
     record {
       entries = λ n x at.
           elim (at_append old.entries e n x (ap (λ xs. slice_get xs n) (sym entries) ∙ at)) [
-            inl same ↦ subst (λ c. IsEntry c n x) (sym classes) (sound.entries n x same)
-          | inr last ↦ subst (λ c. IsEntry c n x) (sym classes) (subst (IsEntry (number_of_classes (table_in old)) n) last.1 (subst (λ k. IsEntry (number_of_classes (table_in old)) k e) (sym last.0) is)) ];
+            | inl same ↦ subst (λ c. IsEntry c n x) (sym classes) (sound.entries n x same)
+            | inr last ↦ subst (λ c. IsEntry c n x) (sym classes) (subst (IsEntry (number_of_classes (table_in old)) n) last.1 (subst (λ k. IsEntry (number_of_classes (table_in old)) k e) (sym last.0) is))
+          ];
       counted = ap length tables ∙ length-append old.tables (None ∷ []) ∙ ap (λ k. k + 1) sound.counted ∙ sym (ap length entries ∙ length-append old.entries (e ∷ []));
       kept = λ n ms at.
           elim (get_append old.tables None None n (Some ms) (ap (λ xs. get_or xs n None) (sym tables) ∙ at)) [
-            inl same ↦ table_grown old new grows n ms (sound.kept n ms same) (omega (arith, kept_within old.tables n ms same, sound.counted))
-          | inr last ↦ absurd_none ms last.1 ];
+            | inl same ↦ table_grown old new grows n ms (sound.kept n ms same) (omega (arith, kept_within old.tables n ms same, sound.counted))
+            | inr last ↦ absurd_none ms last.1
+          ];
     }
   where
     kept_within : (xs : List (Option (List MemberEntry))) (n : ℕ) (ms : List MemberEntry) → get_or xs n None ≡ Some ms → n < length xs
@@ -208,7 +210,7 @@ pub behind : {A : Type 0} (number : A → ℕ) (w : World) (o : Option A) (f : F
 behind number w None f n is below before = top_where_none w None f is (λ m at. omega (arith, before m at))
 behind number w (Some a) f n is below before =
     let known : (IsNone (Some (number a)) → IsTrue (is_top f)) × (IsTrue (is_top f) → IsNone (Some (number a))) =
-      top_where_none w (Some (number a)) f is (λ m at. omega (arith, before m at, below)) in
+    top_where_none w (Some (number a)) f is (λ m at. omega (arith, before m at, below)) in
     (λ none. cc, λ top. absurd (some_no_none (number a) (known.1 top)))
   where
     some_no_none : (m : ℕ) → IsNone (Some m) → ⊥
@@ -231,14 +233,19 @@ pub grows_pushed : {A : Type 0} (seen : A → FrameEntry) (kept : A → Option (
 grows_pushed seen kept files xs ys x w is pushed =
     subst (λ v. Grows v (world seen kept files ys)) is (record { files = refl; more = seen x ∷ []; entries = entries_pushed seen xs ys x pushed })
 
+pub tables_pushed : {A : Type 0} (seen : A → FrameEntry) (kept : A → Option (List MemberEntry)) (files : List FileTree) (xs ys : List A) (x : A) (w : World) →
+    world seen kept files xs ≡ w → ys ≡ xs ++ x ∷ [] → kept x ≡ None → map kept ys ≡ w.tables ++ None ∷ []
+tables_pushed seen kept files xs ys x w is pushed none =
+    entries_pushed kept xs ys x pushed ∙ ap (λ k. map kept xs ++ k ∷ []) none ∙ ap (λ v. v.tables ++ None ∷ []) is
+
 pub sound_pushed : {A : Type 0} (seen : A → FrameEntry) (kept : A → Option (List MemberEntry)) (files : List FileTree) (xs ys : List A) (x : A) (w : World) →
     world seen kept files xs ≡ w → IsSound (world seen kept files xs) → ys ≡ xs ++ x ∷ [] → kept x ≡ None →
     (seen x).class < number_of_classes (table_in w) → AreFrames w (seen x).sources → IsFrameOrNone w (seen x).outer → IsFrameOrNone w (seen x).owner → IsSound (world seen kept files ys)
 sound_pushed seen kept files xs ys x w is sound pushed none class sources outer owner =
     sound_grown w (world seen kept files ys) (seen x) (subst IsSound is sound) (ap (λ v. v.files) is)
-      (entries_pushed seen xs ys x pushed ∙ ap (λ v. v.entries ++ seen x ∷ []) is)
-      (entries_pushed kept xs ys x pushed ∙ ap (λ k. map kept xs ++ k ∷ []) none ∙ ap (λ v. v.tables ++ None ∷ []) is)
-      (record { class = class; sources = sources; outer = outer; owner = owner })
+    (entries_pushed seen xs ys x pushed ∙ ap (λ v. v.entries ++ seen x ∷ []) is)
+    (entries_pushed kept xs ys x pushed ∙ ap (λ k. map kept xs ++ k ∷ []) none ∙ ap (λ v. v.tables ++ None ∷ []) is)
+    (record { class = class; sources = sources; outer = outer; owner = owner })
 
 pub frame_pushed : {A : Type 0} (seen : A → FrameEntry) (kept : A → Option (List MemberEntry)) (files : List FileTree) (xs ys : List A) (x : A) (w : World) (n : ℕ) →
     world seen kept files xs ≡ w → ys ≡ xs ++ x ∷ [] → n ≡ length xs → frame_at (world seen kept files ys) n ≡ frame_of_entry (frames_of w) (seen x)
@@ -247,7 +254,7 @@ frame_pushed seen kept files xs ys x w n is pushed at =
     ap (λ es. frame_in (frames_from [] es) n) (entries_pushed seen xs ys x pushed)
     ∙ ap (λ F. frame_in F n) (frames_from-append [] (map seen xs) (seen x ∷ []))
     ∙ ap (frame_in (frames_from [] (map seen xs) ++ frame_of_entry (frames_from [] (map seen xs)) (seen x) ∷ []))
-        (at ∙ sym (length-map xs seen) ∙ sym (length-frames_from [] (map seen xs) ∙ omega arith))
+    (at ∙ sym (length-map xs seen) ∙ sym (length-frames_from [] (map seen xs) ∙ omega arith))
     ∙ at_end (frames_from [] (map seen xs)) (frame_of_entry (frames_from [] (map seen xs)) (seen x))
     ∙ ap (λ v. frame_of_entry (frames_from [] v.entries) (seen x)) is
 
@@ -270,10 +277,11 @@ sound_kept w n ms sound is = record {
   counted = length-set w.tables n (Some ms) ∙ sound.counted;
   kept = λ k other at.
       elim (get_set w.tables n k (Some ms) None (Some other) at) [
-        inl same ↦ let old : IsTable w k other = sound.kept k other same in record { elements = old.elements; homes = old.homes }
-      | inr here ↦ let same : ms ≡ other = grind (arith, here.1) in
-          let moved : IsTable w k other = subst (λ l. IsTable w k l) same (subst (λ m. IsTable w m ms) (sym here.0) is) in
-          record { elements = moved.elements; homes = moved.homes } ];
+        | inl same ↦ let old : IsTable w k other = sound.kept k other same in record { elements = old.elements; homes = old.homes }
+        | inr here ↦ let same : ms ≡ other = grind (arith, here.1) in
+            let moved : IsTable w k other = subst (λ l. IsTable w k l) same (subst (λ m. IsTable w m ms) (sym here.0) is) in
+            record { elements = moved.elements; homes = moved.homes }
+      ];
 }
 
 map_set : {A B : Type 0} (f : A → B) (xs : List A) (n : ℕ) (y : A) → map f (set xs n y) ≡ set (map f xs) n (f y)

@@ -1,6 +1,5 @@
 -- Worked examples of the definitions of names, by computation.
-use Rattle.std.proofs.Common.{◌≡◌, ℕ, Bool, true, false, List, [], ◌∷◌, ◌++◌, map, Option, Some, None, Ok, Err, codes, refl}
-use Rattle.mo_syntax.specs.declared.place.Place.{Place}
+use Rattle.std.proofs.Common.{◌≡◌, ℕ, true, false, List, [], ◌∷◌, map, Option, Some, None, Ok, codes, refl}
 use Rattle.mo_tables.specs.Words.{functions}
 use Rattle.mo_scope.specs.Outcome.{Outcome, and_then, breaks}
 use Rattle.mo_syntax.specs.declared.class.ElementFlags.{ElementFlags}
@@ -28,7 +27,7 @@ encapsulation =
     inside false (row 7 (codes "P" ∷ []) (codes "Outer") []) ∷
     inside true (row 8 (codes "P" ∷ []) (codes "Q") (class_element (codes "M") 9 ∷ [])) ∷
     inside false (row 9 (codes "P" ∷ codes "Q" ∷ []) (codes "M")
-      (component (reference (part (codes "Real") 60 ∷ [])) (codes "x") 65 ∷ component (reference (part (codes "Outer") 70 ∷ [])) (codes "o") 76 ∷ [])) ∷
+    (component (reference (part (codes "Real") 60 ∷ [])) (codes "x") 65 ∷ component (reference (part (codes "Outer") 70 ∷ [])) (codes "o") 76 ∷ [])) ∷
     []
 
 pub frame_of_M : Frame
@@ -60,10 +59,10 @@ cycle_is_refused = refl
 pub library : Table
 library =
     row 6 [] (codes "Lib")
-      (extends_class (reference (part (codes "Lib") 22 ∷ part (codes "Icons") 26 ∷ part (codes "Package") 32 ∷ [])) ∷
-       class_element (codes "Icons") 7 ∷ class_element (codes "M") 9 ∷ []) ∷
+    (extends_class (reference (part (codes "Lib") 22 ∷ part (codes "Icons") 26 ∷ part (codes "Package") 32 ∷ [])) ∷
+    class_element (codes "Icons") 7 ∷ class_element (codes "M") 9 ∷ []) ∷
     inside false (row 7 (codes "Lib" ∷ []) (codes "Icons")
-      (extends_class (reference (part (codes "Icons") 70 ∷ part (codes "Package") 76 ∷ [])) ∷ class_element (codes "Package") 8 ∷ [])) ∷
+    (extends_class (reference (part (codes "Icons") 70 ∷ part (codes "Package") 76 ∷ [])) ∷ class_element (codes "Package") 8 ∷ [])) ∷
     inside false (row 8 (codes "Lib" ∷ codes "Icons" ∷ []) (codes "Package") []) ∷
     inside false (row 9 (codes "Lib" ∷ []) (codes "M") (component (reference (part (codes "Real") 150 ∷ [])) (codes "x") 155 ∷ [])) ∷ []
 
@@ -105,11 +104,11 @@ pub world : Table
 world =
     row 6 [] (codes "World") (component (reference (part (codes "Real") 14 ∷ [])) (codes "g") 19 ∷ []) ∷
     row 7 [] (codes "Body")
-      (Element_of (component_with outer_flags None [] (reference (part (codes "World") 54 ∷ [])) (codes "w") 60) ∷
-       component (reference (part (codes "Real") 65 ∷ [])) (codes "f") 70 ∷ []) ∷
+    (Element_of (component_with outer_flags None [] (reference (part (codes "World") 54 ∷ [])) (codes "w") 60) ∷
+    component (reference (part (codes "Real") 65 ∷ [])) (codes "f") 70 ∷ []) ∷
     row 8 [] (codes "M")
-      (Element_of (component_with inner_flags None [] (reference (part (codes "World") 114 ∷ [])) (codes "w") 120) ∷
-       component (reference (part (codes "Body") 125 ∷ [])) (codes "b") 130 ∷ []) ∷ []
+    (Element_of (component_with inner_flags None [] (reference (part (codes "World") 114 ∷ [])) (codes "w") 120) ∷
+    component (reference (part (codes "Body") 125 ∷ [])) (codes "b") 130 ∷ []) ∷ []
 
 -- the instance M, and its component b
 abbrev frame_of_model : Frame

@@ -1,21 +1,15 @@
 -- The second pass over the arguments of a frame's sources (Modelica Language Specification 3.5, sections 7.2.2 to 7.2.6): two arguments
 -- of one path, an argument below a final one of a later source, and `each` where no index is pending.
-use Rattle.std.specs.Prelude.{ℕ, Bool, true, false, ◌&&◌, ◌||◌, not, List, [], ◌∷◌, ◌++◌, map, flat_map, Option, Some, None, Ok, Err, is_some, if◌then◌else◌, nat_lt}
+use Rattle.std.specs.Prelude.{ℕ, Bool, true, false, ◌&&◌, ◌||◌, not, List, [], ◌∷◌, ◌++◌, map, flat_map, Option, Some, None, is_some, if◌then◌else◌, nat_lt}
 use Rattle.std.specs.List.{list_any}
 use Rattle.std.specs.Str.{bytes_eq}
-use Rattle.mo_syntax.specs.declared.expr.Expr.{Expr}
 use Rattle.mo_syntax.specs.declared.class.ArgumentOf.{ArgumentOf}
-use Rattle.mo_syntax.specs.declared.class.Body.{Body, Body-F}
-use Rattle.mo_syntax.specs.declared.class.Element.{Element, Element-F}
 use Rattle.mo_syntax.specs.declared.class.Give.{Give, Give-F, fold-Give}
-use Rattle.mo_syntax.specs.declared.class.Item.{Item, Item-F}
-use Rattle.mo_syntax.specs.declared.class.ModsOf.{ModsOf}
-use Rattle.mo_syntax.specs.declared.class.What.{What, What-F}
 use Rattle.mo_syntax.specs.declared.place.Broken.{Broken}
 use Rattle.mo_syntax.specs.declared.place.Place.{Place}
 use Rattle.mo_syntax.specs.ClassTable.{path_eq}
 use Rattle.mo_scope.specs.Outcome.{Outcome, breach, unless_broken}
-use Rattle.mo_scope.specs.Rows.{Table, Declares, Modifiers}
+use Rattle.mo_scope.specs.Rows.{Table, Declares}
 use Rattle.mo_scope.specs.Frames.{Given, Listed, Argued, Replacing, Listing, Source, listing_eq}
 use Rattle.mo_scope.specs.Parts.{names_left, held, replacing_of}
 

@@ -1,5 +1,5 @@
 -- Compatibility of classes (Modelica Language Specification 3.5, sections 6.4 and 7.3.2), as far as this profile asks it.
-use Rattle.std.specs.Prelude.{ℕ, zero, suc, ◌*◌, Bool, true, false, ◌&&◌, ◌||◌, not, List, [], ◌∷◌, ◌++◌, find, Option, Some, None, Ok, Err, if◌then◌else◌, nat_eq}
+use Rattle.std.specs.Prelude.{ℕ, zero, suc, ◌*◌, Bool, true, false, ◌&&◌, not, List, [], ◌∷◌, ◌++◌, find, Option, Some, None, Ok, if◌then◌else◌, nat_eq}
 use Rattle.std.specs.List.{list_any}
 use Rattle.std.specs.Str.{bytes_eq}
 use Rattle.mo_syntax.specs.declared.class.Causal.{Causal}
@@ -70,7 +70,7 @@ same_types table compare place new wanted =
     and_then (child_of_member table new []) (λ new_child.
     and_then (child_of_member table wanted []) (λ wanted_child.
     if nat_eq (dimensions_of table new new_child) (dimensions_of table wanted wanted_child) then
-      compare (component_frame new [] new_child) (component_frame wanted [] wanted_child)
+    compare (component_frame new [] new_child) (component_frame wanted [] wanted_child)
     else breaks 25 place))
 
 abbrev pub is_matched : Table → Compare → Place → List Member → Member → Outcome (Unit {0})
@@ -86,7 +86,7 @@ abbrev pub are_matched : Table → Compare → Place → List Member → List Me
 are_matched table compare place members [] = Ok tt
 are_matched table compare place members (wanted ∷ others) =
     and_then (if is_open_component wanted then is_matched table compare place members wanted else Ok tt)
-      (λ _. are_matched table compare place members others)
+    (λ _. are_matched table compare place members others)
 
 -- ---- classes
 

@@ -3,7 +3,7 @@
 -- A frame is a class as it is met in one place: with its sources, outermost first, which modify it; the frame around it, in which
 -- its class was found; the path of its instance or none; and its owner, the frame whose class declares the component that it is
 -- entered for, or the frame that it is a base of. A scope is a frame with the iteration variables around a text.
-use Rattle.std.specs.Prelude.{ℕ, ℤ, Bool, true, false, ◌&&◌, List, [], ◌∷◌, ◌++◌, Option, Some, None, option_map, if◌then◌else◌, nat_eq}
+use Rattle.std.specs.Prelude.{ℕ, ℤ, Bool, true, false, ◌&&◌, List, [], ◌∷◌, Option, Some, None, nat_eq}
 use Rattle.std.specs.Str.{bytes_eq}
 use Rattle.mo_syntax.specs.declared.class.ArgumentOf.{ArgumentOf}
 use Rattle.mo_syntax.specs.declared.class.Give.{Give}

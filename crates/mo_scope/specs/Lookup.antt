@@ -2,7 +2,7 @@
 --
 -- All that needs the bases of a class goes through `Asking`: which classes are having their bases found, and what the elements of a
 -- frame are meanwhile. Given that, each definition goes down a list or outwards over frames. The one knot is `walked`.
-use Rattle.std.specs.Prelude.{ℕ, zero, suc, ◌+◌, ℤ, Bool, true, false, ◌&&◌, ◌||◌, not, List, [], ◌∷◌, ◌++◌, map, flat_map, find, codes, Option, Some, None, Ok, Err, if◌then◌else◌, nat_eq}
+use Rattle.std.specs.Prelude.{ℕ, zero, suc, ◌+◌, ℤ, Bool, true, false, ◌&&◌, ◌||◌, List, [], ◌∷◌, ◌++◌, map, find, codes, Option, Some, None, Ok, if◌then◌else◌, nat_eq}
 use Rattle.std.specs.List.{list_all, list_any}
 use Rattle.std.specs.Str.{bytes_eq}
 use Rattle.mo_syntax.specs.declared.expr.Expr.{Expr}
@@ -10,13 +10,11 @@ use Rattle.mo_syntax.specs.declared.expr.PartOf.{PartOf}
 use Rattle.mo_syntax.specs.declared.expr.ReferenceOf.{ReferenceOf}
 use Rattle.mo_syntax.specs.declared.class.Import.{Import}
 use Rattle.mo_syntax.specs.declared.class.Import.TheVariants.{Renamed, Named, Group, All as Star}
-use Rattle.mo_syntax.specs.declared.place.Broken.{Broken}
 use Rattle.mo_syntax.specs.declared.place.Place.{Place}
-use Rattle.mo_syntax.specs.declared.text.Path.{Path}
 use Rattle.mo_tables.specs.Words.{code_in, functions}
 use Rattle.mo_scope.specs.Outcome.{Outcome, and_then, breaks}
 use Rattle.mo_scope.specs.Rows.{Table, Row, row_at, number_of_classes, Part, Element_of, Base_of, Declares, Clause, is_class, is_constant, is_encapsulated, class_number, elements_in, top_classes, literals_in, is_left_out}
-use Rattle.mo_scope.specs.Frames.{Frame, Top, In, Sources, No_source, Indexed, Iterations, Scope, Source, Member, class_of, sources_of, at_of, looked_up, gathered, owner_of_base, is_same_base, is_same_declaration}
+use Rattle.mo_scope.specs.Frames.{Frame, Top, In, Iterations, Scope, Member, class_of, sources_of, at_of, looked_up, gathered, owner_of_base, is_same_base, is_same_declaration}
 use Rattle.mo_scope.specs.Parts.{Redeclaration, redeclared, class_sources, base_sources}
 
 -- ---- what is found
@@ -376,7 +374,7 @@ abbrev pub found_from : Table → Asking → (bare : Bool) → (near : Bool) →
 found_from table asking bare near Top place name = met_far (or_absent place (at_top table name))
 found_from table asking bare near (In class sources outer at owner) place name =
     or_further (found_from table asking false false outer place name)
-      (found_in table asking bare near (In class sources outer at owner) place name)
+    (found_in table asking bare near (In class sources outer at owner) place name)
   where
     further : Outcome Met → Option Met → Outcome Met
     further beyond (Some found) = Ok found
@@ -508,13 +506,13 @@ not_counted is (x ∷ xs) = if is x then not_counted is xs else x ∷ not_counte
 abbrev pub with_base : Bool → Frame → Walked → Walked → Outcome Walked
 with_base hidden base walked so_far =
     with_members
-      (not_counted (λ inherited. is_counted so_far.bases inherited.through) (map (λ inherited. hidden_if hidden (through_base base inherited)) walked.members))
-      (record {
-        members = so_far.members;
-        bases = so_far.bases ++ not_counted (is_counted so_far.bases) ((base ∷ []) ∷ map (λ bases. base ∷ bases) walked.bases);
-        sections = so_far.sections ++ not_counted (is_counted so_far.bases) (map (λ bases. base ∷ bases) walked.sections ++ (base ∷ []) ∷ []);
-        leaf = or_leaf so_far.leaf walked.leaf;
-      })
+    (not_counted (λ inherited. is_counted so_far.bases inherited.through) (map (λ inherited. hidden_if hidden (through_base base inherited)) walked.members))
+    (record {
+      members = so_far.members;
+      bases = so_far.bases ++ not_counted (is_counted so_far.bases) ((base ∷ []) ∷ map (λ bases. base ∷ bases) walked.bases);
+      sections = so_far.sections ++ not_counted (is_counted so_far.bases) (map (λ bases. base ∷ bases) walked.sections ++ (base ∷ []) ∷ []);
+      leaf = or_leaf so_far.leaf walked.leaf;
+    })
 
 -- ---- the elements of a frame
 

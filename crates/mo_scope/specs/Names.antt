@@ -1,7 +1,7 @@
 -- Elements, children, and the names of expressions and types (Modelica Language Specification 3.5, sections 5.3, 5.4, 7.2 and 7.3).
 --
 -- Here no class is having its bases found, since the type of a component is found through classes alone.
-use Rattle.std.specs.Prelude.{ℕ, Bool, true, false, ◌&&◌, ◌||◌, not, List, [], ◌∷◌, ◌++◌, map, find, Option, Some, None, Ok, Err, option_map, if◌then◌else◌}
+use Rattle.std.specs.Prelude.{ℕ, Bool, false, ◌&&◌, ◌||◌, not, List, [], ◌∷◌, ◌++◌, find, Option, Some, None, Ok, option_map, if◌then◌else◌}
 use Rattle.std.specs.Str.{bytes_eq}
 use Rattle.mo_syntax.specs.declared.expr.Expr.{Expr}
 use Rattle.mo_syntax.specs.declared.expr.PartOf.{PartOf}
@@ -11,9 +11,9 @@ use Rattle.mo_syntax.specs.declared.class.Give.{Give}
 use Rattle.mo_syntax.specs.declared.place.Place.{Place}
 use Rattle.mo_scope.specs.Outcome.{Outcome, and_then, breaks}
 use Rattle.mo_scope.specs.Rows.{Table, Row, row_at, Declares, is_class, is_constant, component_of, clauses_in, Clause}
-use Rattle.mo_scope.specs.Frames.{Frame, Top, In, Indexed, Scope, Source, Member, class_of, sources_of, outer_of, at_of, owners, gathered, is_same_element}
+use Rattle.mo_scope.specs.Frames.{Frame, In, Indexed, Scope, Source, Member, class_of, sources_of, outer_of, at_of, owners, gathered, is_same_element}
 use Rattle.mo_scope.specs.Parts.{Redeclaration, redeclared, component_sources}
-use Rattle.mo_scope.specs.Lookup.{Found, Component, Class, Asking, Walked, Reached, Element, Other, Absent, Met, Classed, asking_of, asking_in, base_of, behind_class, class_named, entered, found_by_name, found_first, members_in, reached}
+use Rattle.mo_scope.specs.Lookup.{Found, Component, Class, Walked, Reached, Element, asking_of, asking_in, base_of, behind_class, class_named, entered, found_by_name, found_first, members_in, reached}
 
 -- ---- elements and bases
 

@@ -1,6 +1,6 @@
 -- What sources say of the elements of a frame (Modelica Language Specification 3.5, sections 7.2 and 7.3): their parts for a name, the
 -- redeclarations among them, the value that they give for a path, and the sources of an element and of a base.
-use Rattle.std.specs.Prelude.{ℕ, ◌+◌, Bool, true, false, ◌&&◌, ◌||◌, List, [], ◌∷◌, ◌++◌, map, flat_map, drop, Option, Some, None, if◌then◌else◌}
+use Rattle.std.specs.Prelude.{ℕ, ◌+◌, Bool, true, false, ◌||◌, List, [], ◌∷◌, ◌++◌, map, flat_map, drop, Option, Some, None, if◌then◌else◌}
 use Rattle.std.specs.Str.{bytes_eq}
 use Rattle.mo_syntax.specs.declared.expr.Expr.{Expr, out-Expr}
 use Rattle.mo_syntax.specs.declared.class.ArgumentOf.{ArgumentOf}
@@ -11,7 +11,7 @@ use Rattle.mo_syntax.specs.declared.class.Item.{Item}
 use Rattle.mo_syntax.specs.declared.class.What.{What}
 use Rattle.mo_syntax.specs.declared.place.Place.{Place}
 use Rattle.mo_scope.specs.Rows.{Table, Row, row_at, number_of_element, Modifiers, no_modifiers, Constraint, Declares, declared_by, Clause, is_class, is_short_redeclaration}
-use Rattle.mo_scope.specs.Frames.{Given, Listed, Argued, Replacing, Listing, Origin, Elsewhere, Own_of, Constraint_of, Piece, Frame, In, Scope, Source, Member, sources_of}
+use Rattle.mo_scope.specs.Frames.{Given, Listed, Argued, Replacing, Origin, Elsewhere, Own_of, Constraint_of, Frame, Scope, Source, Member, sources_of}
 
 -- ---- arguments
 
@@ -105,8 +105,8 @@ pending_behind each pending index = if each then index else pending ++ index
 abbrev pub said_by_argument : Table → Source → List ℕ → List ℕ → ArgumentOf Give → List Saying
 said_by_argument table source name index argument =
     if begins_with name argument.name.0 then
-      said_behind table argument 1
-        (behind_name source name (pending_behind argument.each source.piece.pending index) argument.last (Argued argument 1)) ∷ []
+    said_behind table argument 1
+    (behind_name source name (pending_behind argument.each source.piece.pending index) argument.last (Argued argument 1)) ∷ []
     else []
 
 abbrev pub said_in_list : Table → Source → List ℕ → List ℕ → List (ArgumentOf Give) → List Saying
@@ -116,8 +116,8 @@ said_in_list table source name index arguments = flat_map (said_by_argument tabl
 abbrev pub said_further : Table → Source → List ℕ → List ℕ → ArgumentOf Give → ℕ → List Saying
 said_further table source name index argument passed =
     if begins_with name (names_left argument passed) then
-      said_behind table argument (passed + 1)
-        (behind_name source name (source.piece.pending ++ index) false (Argued argument (passed + 1))) ∷ []
+    said_behind table argument (passed + 1)
+    (behind_name source name (source.piece.pending ++ index) false (Argued argument (passed + 1))) ∷ []
     else []
 
 abbrev pub said_by_elements : Source → List ℕ → List ℕ → List Declares → List Saying
@@ -126,12 +126,12 @@ said_by_elements source name index declared = flat_map said_by declared
     said_by : Declares → List Saying
     said_by declares =
         if bytes_eq declares.name name then
-          Redeclares (record {
-            declares = declares;
-            place = declares.place;
-            keeps = declares.flags.replaceable;
-            source = behind_name source name (source.piece.pending ++ index) false (Listed declares.own);
-          }) ∷ []
+        Redeclares (record {
+          declares = declares;
+          place = declares.place;
+          keeps = declares.flags.replaceable;
+          source = behind_name source name (source.piece.pending ++ index) false (Listed declares.own);
+        }) ∷ []
         else []
 
 abbrev pub replacing_of : Table → ℕ → List Declares

@@ -24,7 +24,7 @@ use Rattle.mo_syntax.specs.declared.class.Vary.{Vary}
 use Rattle.mo_syntax.specs.declared.class.Vary.TheVariants.{Constant}
 use Rattle.mo_syntax.specs.declared.class.What.{What, What-F, out-What}
 use Rattle.mo_syntax.specs.declared.place.Place.{Place}
-use Rattle.mo_syntax.specs.Classes.{Home, Under, Inside, Apart, ClassRow, Declared, Component, Class, Declaration}
+use Rattle.mo_syntax.specs.Classes.{Home, Under, Apart, ClassRow, Declared, Component, Class, Declaration}
 use Rattle.mo_syntax.specs.ClassTable.{Numbered, declarations, first_number, own_parts, path_eq, placed_under}
 
 -- ---- modifier lists

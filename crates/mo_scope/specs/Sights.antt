@@ -1,6 +1,5 @@
 -- What the values of the code are as data.
-use Rattle.std.specs.Prelude.{ℕ, ℤ, Bool, List, [], ◌∷◌, map, Option, Some, None, option_map, option_copied}
-use Rattle.mo_syntax.specs.declared.meaning.InstancePath.{InstancePath}
+use Rattle.std.specs.Prelude.{map, option_map, option_copied}
 use Rattle.mo_syntax.specs.Classes as classes
 use Rattle.mo_scope.specs.declared.source.Given.{Given as GivenAt}
 use Rattle.mo_scope.specs.declared.source.Given.TheVariants.{Listed as listed_at, Argued as argued_at, Replacing as replacing_at}
@@ -8,7 +7,6 @@ use Rattle.mo_scope.specs.declared.source.Listing.{Listing as ListingAt}
 use Rattle.mo_scope.specs.declared.source.Modifiers.{Modifiers as ModifiersAt}
 use Rattle.mo_scope.specs.declared.source.Origin.{Origin as OriginAt}
 use Rattle.mo_scope.specs.declared.source.Origin.TheVariants.{Elsewhere as elsewhere_at, OwnOf, ConstraintOf}
-use Rattle.mo_scope.specs.declared.source.ScopeAt.{ScopeAt}
 use Rattle.mo_scope.specs.declared.source.Source.{Source as SourceAt}
 use Rattle.mo_scope.specs.declared.row.Clause.{Clause as ClauseAt}
 use Rattle.mo_scope.specs.declared.row.Constraint.{Constraint as ConstraintAt}
@@ -21,7 +19,7 @@ use Rattle.mo_scope.specs.declared.row.Part.TheVariants.{Element as element_at, 
 use Rattle.mo_scope.specs.declared.row.Sort.{Sort as SortAt}
 use Rattle.mo_scope.specs.declared.row.Sort.TheVariants.{Class as class_at, Component as component_at}
 use Rattle.mo_scope.specs.Rows.{Modifiers, Constraint, Declares, Sort, A_class, A_component, Clause, Part, Element_of, Base_of}
-use Rattle.mo_scope.specs.Frames.{Given, Listed, Argued, Replacing, Listing, Origin, Elsewhere, Own_of, Constraint_of, Piece, Indexed, Iterations}
+use Rattle.mo_scope.specs.Frames.{Given, Listed, Argued, Replacing, Listing, Origin, Elsewhere, Own_of, Constraint_of}
 use Rattle.mo_scope.specs.Worlds.{SourceEntry, MemberEntry}
 
 -- ---- rows

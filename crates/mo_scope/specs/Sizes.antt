@@ -1,5 +1,5 @@
 -- The declared dimensions of a component, and those of its type (Modelica Language Specification 3.5, sections 4.5.1, 7.3 and 10.1).
-use Rattle.std.specs.Prelude.{ℕ, zero, suc, ◌+◌, Bool, true, false, ◌||◌, List, [], ◌∷◌, ◌++◌, length, sum_by, Option, Some, None, Ok, Err, is_some, if◌then◌else◌}
+use Rattle.std.specs.Prelude.{ℕ, zero, suc, Bool, true, false, ◌||◌, List, [], ◌∷◌, ◌++◌, length, sum_by, Option, Some, None, Ok, Err, is_some, if◌then◌else◌}
 use Rattle.mo_syntax.specs.declared.expr.Expr.{Expr}
 use Rattle.mo_syntax.specs.declared.class.Causal.{Causal}
 use Rattle.mo_syntax.specs.declared.class.Causal.TheVariants.{None as NoCausality}
@@ -41,7 +41,7 @@ abbrev pub declared_sizes : Member → Option Redeclaration → List Sizes
 declared_sizes member None = sizes_in (component_of member.declares) (scope_of_home member)
 declared_sizes member (Some redeclaration) =
     or_original (sizes_in (component_of redeclaration.declares) redeclaration.source.scope)
-      (sizes_in (component_of member.declares) (scope_of_home member))
+    (sizes_in (component_of member.declares) (scope_of_home member))
 
 -- ---- the dimensions of a type
 

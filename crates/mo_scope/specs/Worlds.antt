@@ -1,5 +1,5 @@
 -- Numbered frames: what `Scopes` holds, and the frames that its numbers stand for.
-use Rattle.std.specs.Prelude.{◌≡◌, ℕ, ◌+◌, ◌<◌, Bool, true, false, List, [], ◌∷◌, ◌++◌, length, map, Option, Some, None, Ok, get_or, option_map, slice_get}
+use Rattle.std.specs.Prelude.{◌≡◌, ℕ, ◌<◌, Bool, List, [], ◌∷◌, ◌++◌, length, map, Option, Some, None, Ok, get_or, slice_get}
 use Rattle.mo_syntax.specs.declared.class.FileTree.{FileTree}
 use Rattle.mo_scope.specs.Rows.{Declares, Table, table_of, number_of_classes}
 use Rattle.mo_scope.specs.Frames.{Piece, Frame, Top, In, Indexed, Iterations, Scope, Source, Member, gathered}

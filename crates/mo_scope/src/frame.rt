@@ -1,6 +1,6 @@
 //! A numbered frame.
-use crate::table::MemberTable;
 use crate::source::Source;
+use crate::table::MemberTable;
 use mo_syntax::{ClassId, FrameId, InstancePath, List};
 
 /// A frame, its other frames by number.

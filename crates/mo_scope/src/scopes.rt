@@ -74,6 +74,7 @@ impl<'t> Scopes<'t> {
         requires outer { IsFrameOrNone self.old (option_map number_of outer) }
         requires owner { IsFrameOrNone self.old (option_map number_of owner) }
         ensures grows { Grows self.old self.new }
+        ensures tables { IfOk result (λ _. self.new.tables ≡ self.old.tables ++ None ∷ []) }
         ensures number { IfOk result (λ frame. frame.0 ≡ length self.old.entries) }
         ensures exists { IfOk result (λ frame. IsFrame self.new frame.0) }
         ensures is { IfOk result (λ frame. frame_at self.new frame.0 ≡ In class.0 (gathered (sources_in (frames_of self.old) (map source_seen sources.entry))) (frame_or_top (frames_of self.old) (option_map number_of outer)) (option_map names_of at) (frame_or_top (frames_of self.old) (option_map number_of owner))) }
@@ -163,7 +164,12 @@ impl<'t> Scopes<'t> {
     }
 
     /// Keeps the table of a frame's elements. Frames and other tables stay.
-    pub fn keep(&mut self, _alloc: Global, frame: FrameId, table: MemberTable<'t>) -> Result<(), NoMemory>
+    pub fn keep(
+        &mut self,
+        _alloc: Global,
+        frame: FrameId,
+        table: MemberTable<'t>,
+    ) -> Result<(), NoMemory>
         requires frame { IsFrame self.old frame.0 }
         requires elements { elements_of (table_in self.old) (frame_at self.old frame.0) ≡ Ok (map (member_in (frames_of self.old)) table) }
         requires homes { AreHomes self.old table }

@@ -1,6 +1,5 @@
 -- What the invariant says of an entry.
-use Rattle.std.proofs.Common.{◌≡◌, Some, ap}
-use Rattle.std.specs.Prelude.{slice_get}
+use Rattle.std.proofs.Common.{ap}
 use Rattle.mo_scope.specs.Entries.{entry_seen, table_seen}
 use Rattle.mo_scope.proofs.Numbered.{entry_sound, entry_is, read_at, table_at, table_sound}
 use Rattle.mo_scope.proofs.scopes.Scopes.entry.Goals as goal
