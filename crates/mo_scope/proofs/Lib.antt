@@ -1,0 +1,3 @@
+mod Models
+pub mod Numbered
+mod WorkedRows

@@ -1,0 +1,13 @@
+pub mod Arguments
+pub mod Compatible
+pub mod Entries
+pub mod Frames
+pub mod Insides
+pub mod Lookup
+pub mod Names
+pub mod Outcome
+pub mod Parts
+pub mod Rows
+pub mod Sights
+pub mod Sizes
+pub mod Worlds
