@@ -1,2 +1,4 @@
 mod Models
 mod WorkedRows
+pub mod laws
+pub mod rows
