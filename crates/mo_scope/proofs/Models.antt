@@ -89,7 +89,7 @@ component_with flags limit arguments type name at = record {
     binding = None;
     condition = None;
   });
-  own = record { list = arguments; value = None; first = 0 };
+  own = record { list = arguments; value = None };
   limit = limit;
 }
 
@@ -97,4 +97,4 @@ abbrev pub component : ReferenceOf Expr → List ℕ → ℕ → Part
 component type name at = Element_of (component_with no_flags None [] type name at)
 
 abbrev pub extends_class : ReferenceOf Expr → Part
-extends_class base = Base_of (record { clause = record { base = base; mods = record { 0 = [] }; hidden = false }; first = 0 })
+extends_class base = Base_of (record { base = base; mods = record { 0 = [] }; hidden = false })

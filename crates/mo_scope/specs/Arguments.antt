@@ -89,8 +89,8 @@ asked_of table source = asked_by source.piece.given
   where
     asked_by : Given → List Asked
     asked_by (Listed modifiers) = map (asked_argument source) modifiers.list
-    asked_by (Argued argument passed first) =
-        asked_rest source argument (names_left argument passed) ++ map (asked_argument source) (held (Argued argument passed first)).list
+    asked_by (Argued argument passed) =
+        asked_rest source argument (names_left argument passed) ++ map (asked_argument source) (held (Argued argument passed)).list
     asked_by (Replacing class) = map (asked_element source) (replacing_of table class)
 
 abbrev pub arguments_of : Table → List Source → List Asked

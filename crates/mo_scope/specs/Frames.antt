@@ -9,15 +9,15 @@ use Rattle.mo_syntax.specs.declared.class.ArgumentOf.{ArgumentOf}
 use Rattle.mo_syntax.specs.declared.class.Give.{Give}
 use Rattle.mo_syntax.specs.declared.place.Place.{Place}
 use Rattle.mo_syntax.specs.ClassTable.{path_eq}
-use Rattle.mo_scope.specs.Rows.{Declares, Modifiers}
+use Rattle.mo_scope.specs.Rows.{Declares, Modifiers, place_eq}
 
 -- ---- what a source carries
 
--- What modifies a class: a modifier list with the value behind it; an argument of which so many names were passed, at least one,
--- with the number of the first class in it; or the elements with `redeclare` of the class with that number.
+-- What modifies a class: a modifier list with the value behind it; an argument of which so many names were passed, at least one; or the
+-- elements with `redeclare` of the class with that number.
 pub data Given : Type 0 where
   Listed : Modifiers → Given
-  Argued : ArgumentOf Give → (passed : ℕ) → (first : ℕ) → Given
+  Argued : ArgumentOf Give → (passed : ℕ) → Given
   Replacing : ℕ → Given
 
 -- The list that a source is a part of: where it stands, and the names that were passed since. A list stands where its first argument
@@ -141,9 +141,6 @@ pub record Member : Type 0 where
   pub declares : Declares
 
 -- ---- what is one
-
-abbrev pub place_eq : Place → Place → Bool
-place_eq a b = nat_eq a.file b.file && nat_eq a.byte b.byte
 
 abbrev pub listing_eq : Listing → Listing → Bool
 listing_eq a b = place_eq a.place b.place && path_eq a.passed b.passed

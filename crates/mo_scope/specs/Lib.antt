@@ -6,4 +6,6 @@ pub mod Names
 pub mod Outcome
 pub mod Parts
 pub mod Rows
+pub mod Sights
 pub mod Sizes
+pub mod Worlds

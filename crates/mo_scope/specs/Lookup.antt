@@ -440,8 +440,8 @@ last_place (part ∷ next ∷ parts) = last_place (next ∷ parts)
 -- The name of a base is looked up without the inherited elements of the class itself. A replaceable one is rule 24 at its last identifier.
 abbrev pub base_class : Table → Asking → Frame → Clause → Outcome Frame
 base_class table asking frame clause =
-    and_then (class_named table asking true (record { frame = frame; iterations = [] }) clause.clause.base) (λ class.
-    if class.replaceable then breaks 24 (last_place clause.clause.base.parts) else Ok class.frame)
+    and_then (class_named table asking true (record { frame = frame; iterations = [] }) clause.base) (λ class.
+    if class.replaceable then breaks 24 (last_place clause.base.parts) else Ok class.frame)
 
 -- A base has the path of the frame, and the frame as its owner if that has a path or an owner.
 abbrev pub base_frame : Frame → Row → Clause → Frame → Frame
@@ -528,8 +528,8 @@ walked_parts table asking frame row item (Element_of declares ∷ parts) so_far 
     member = record { name = declares.name; home = frame; item = item; hidden = declares.flags.hidden; declares = declares }
 walked_parts table asking frame row item (Base_of clause ∷ parts) so_far =
     and_then (base_of table asking frame row clause) (λ base.
-    and_then (asking.elements (last_place clause.clause.base.parts) base) (λ walked.
-    and_then (with_base clause.clause.hidden base walked so_far) (walked_parts table asking frame row item parts)))
+    and_then (asking.elements (last_place clause.base.parts) base) (λ walked.
+    and_then (with_base clause.hidden base walked so_far) (walked_parts table asking frame row item parts)))
 
 -- A predefined type and an enumeration are leaf types, and so is a class that ends at one. No leaf type has elements.
 abbrev pub leaf_checked : Walked → Outcome Walked

@@ -10,7 +10,7 @@ use Rattle.mo_syntax.specs.declared.class.Give.{Give, Give-F, out-Give}
 use Rattle.mo_syntax.specs.declared.class.Item.{Item}
 use Rattle.mo_syntax.specs.declared.class.What.{What}
 use Rattle.mo_syntax.specs.declared.place.Place.{Place}
-use Rattle.mo_scope.specs.Rows.{Table, Row, row_at, NumberedArgument, numbered_arguments, Modifiers, Constraint, Declares, declared_by, Clause, is_class, is_short_redeclaration}
+use Rattle.mo_scope.specs.Rows.{Table, Row, row_at, number_of_element, Modifiers, no_modifiers, Constraint, Declares, declared_by, Clause, is_class, is_short_redeclaration}
 use Rattle.mo_scope.specs.Frames.{Given, Listed, Argued, Replacing, Listing, Origin, Elsewhere, Own_of, Constraint_of, Piece, Frame, In, Scope, Source, Member, sources_of}
 
 -- ---- arguments
@@ -23,13 +23,13 @@ abbrev pub begins_with : List ℕ → List (List ℕ) → Bool
 begins_with name [] = false
 begins_with name (first ∷ others) = bytes_eq first name
 
--- the modifiers and the value of an argument all of whose names were passed; the number is that of the first class in it
-abbrev pub nested : Give → ℕ → Modifiers
-nested give first = nested_in (out-Give give)
+-- the modifiers and the value of an argument all of whose names were passed
+abbrev pub nested : Give → Modifiers
+nested give = nested_in (out-Give give)
   where
     nested_in : Give-F Body Give Item What Element → Modifiers
-    nested_in (Give-F.Modify mods value) = record { list = mods.0; value = value; first = first }
-    nested_in other = record { list = []; value = None; first = first }
+    nested_in (Give-F.Modify mods value) = record { list = mods.0; value = value }
+    nested_in other = no_modifiers
 
 -- the place of a list: that of its first argument, else that of its value
 abbrev pub place_of_list : Modifiers → Place
@@ -50,12 +50,12 @@ is_nothing modifiers = is_empty modifiers.list modifiers.value
 -- what a source holds, where it holds a list: its modifiers and its value
 abbrev pub held : Given → Modifiers
 held (Listed modifiers) = modifiers
-held (Argued argument passed first) = held_behind (names_left argument passed)
+held (Argued argument passed) = held_behind (names_left argument passed)
   where
     held_behind : List (List ℕ) → Modifiers
-    held_behind [] = nested argument.give first
-    held_behind (name ∷ names) = record { list = []; value = None; first = first }
-held (Replacing class) = record { list = []; value = None; first = 0 }
+    held_behind [] = nested argument.give
+    held_behind (name ∷ names) = no_modifiers
+held (Replacing class) = no_modifiers
 
 -- ---- what a source says of a name
 
@@ -86,35 +86,38 @@ behind_name source name pending last given = record {
 }
 
 -- an argument that redeclares, all of its names being passed, or the source that is left of it
-abbrev pub said_behind : ArgumentOf Give → ℕ → ℕ → Source → Saying
-said_behind argument passed first source = said_in (names_left argument passed) (out-Give argument.give)
+abbrev pub said_behind : Table → ArgumentOf Give → ℕ → Source → Saying
+said_behind table argument passed source = said_in (names_left argument passed) (out-Give argument.give)
   where
+    redeclares : Element → Bool → Saying
+    redeclares element keeps =
+        Redeclares (record { declares = declared_by element (number_of_element table element); place = argument.place; keeps = keeps; source = source })
+
     said_in : List (List ℕ) → Give-F Body Give Item What Element → Saying
-    said_in [] (Give-F.Redeclare element) = Redeclares (record { declares = declared_by element first; place = argument.place; keeps = (out-Element element).flags.replaceable; source = source })
-    said_in [] (Give-F.Replaceable element) = Redeclares (record { declares = declared_by element first; place = argument.place; keeps = true; source = source })
+    said_in [] (Give-F.Redeclare element) = redeclares element (out-Element element).flags.replaceable
+    said_in [] (Give-F.Replaceable element) = redeclares element true
     said_in names give = Modifies source
 
 -- The index of the element that is entered is added to the pending indices; `each` drops those that were pending.
 abbrev pub pending_behind : Bool → List ℕ → List ℕ → List ℕ
 pending_behind each pending index = if each then index else pending ++ index
 
-abbrev pub said_by_argument : Source → List ℕ → List ℕ → NumberedArgument → List Saying
-said_by_argument source name index numbered =
-    if begins_with name numbered.argument.name.0 then
-      said_behind numbered.argument 1 numbered.first
-        (behind_name source name (pending_behind numbered.argument.each source.piece.pending index) numbered.argument.last (Argued numbered.argument 1 numbered.first)) ∷ []
+abbrev pub said_by_argument : Table → Source → List ℕ → List ℕ → ArgumentOf Give → List Saying
+said_by_argument table source name index argument =
+    if begins_with name argument.name.0 then
+      said_behind table argument 1
+        (behind_name source name (pending_behind argument.each source.piece.pending index) argument.last (Argued argument 1)) ∷ []
     else []
 
-abbrev pub said_in_list : Source → List ℕ → List ℕ → Modifiers → List Saying
-said_in_list source name index modifiers =
-    flat_map (said_by_argument source name index) (numbered_arguments modifiers.first modifiers.list)
+abbrev pub said_in_list : Table → Source → List ℕ → List ℕ → List (ArgumentOf Give) → List Saying
+said_in_list table source name index arguments = flat_map (said_by_argument table source name index) arguments
 
 -- what is left of an argument behind one more of its names
-abbrev pub said_further : Source → List ℕ → List ℕ → ArgumentOf Give → ℕ → ℕ → List Saying
-said_further source name index argument passed first =
+abbrev pub said_further : Table → Source → List ℕ → List ℕ → ArgumentOf Give → ℕ → List Saying
+said_further table source name index argument passed =
     if begins_with name (names_left argument passed) then
-      said_behind argument (passed + 1) first
-        (behind_name source name (source.piece.pending ++ index) false (Argued argument (passed + 1) first)) ∷ []
+      said_behind table argument (passed + 1)
+        (behind_name source name (source.piece.pending ++ index) false (Argued argument (passed + 1))) ∷ []
     else []
 
 abbrev pub said_by_elements : Source → List ℕ → List ℕ → List Declares → List Saying
@@ -143,9 +146,9 @@ abbrev pub said : Table → List ℕ → List ℕ → Source → List Saying
 said table name index source = said_of source.piece.given
   where
     said_of : Given → List Saying
-    said_of (Listed modifiers) = said_in_list source name index modifiers
-    said_of (Argued argument passed first) =
-        said_further source name index argument passed first ++ said_in_list source name index (held (Argued argument passed first))
+    said_of (Listed modifiers) = said_in_list table source name index modifiers.list
+    said_of (Argued argument passed) =
+        said_further table source name index argument passed ++ said_in_list table source name index (held (Argued argument passed)).list
     said_of (Replacing class) = said_by_elements source name index (replacing_of table class)
 
 abbrev pub said_by_all : Table → List ℕ → List ℕ → List Source → List Saying
@@ -305,15 +308,15 @@ without_value source = record {
 }
   where
     listed_of : Modifiers → Given
-    listed_of modifiers = Listed (record { list = modifiers.list; value = None; first = modifiers.first })
+    listed_of modifiers = Listed (record { list = modifiers.list; value = None })
 
-    valueless_behind : ArgumentOf Give → ℕ → ℕ → List (List ℕ) → Given
-    valueless_behind argument passed first [] = listed_of (nested argument.give first)
-    valueless_behind argument passed first (name ∷ names) = Argued argument passed first
+    valueless_behind : ArgumentOf Give → ℕ → List (List ℕ) → Given
+    valueless_behind argument passed [] = listed_of (nested argument.give)
+    valueless_behind argument passed (name ∷ names) = Argued argument passed
 
     valueless : Given → Given
     valueless (Listed modifiers) = listed_of modifiers
-    valueless (Argued argument passed first) = valueless_behind argument passed first (names_left argument passed)
+    valueless (Argued argument passed) = valueless_behind argument passed (names_left argument passed)
     valueless (Replacing class) = Replacing class
 
 -- the sources of a class that is an element: a value for the class itself is dropped
@@ -345,7 +348,7 @@ replacing_source frame row = source_of row.replacing
 abbrev pub clause_source : Frame → Row → Clause → List Source
 clause_source frame row clause =
     if is_short_redeclaration row then [] else
-    written frame [] Elsewhere (record { list = clause.clause.mods.0; value = None; first = clause.first })
+    written frame [] Elsewhere (record { list = clause.mods.0; value = None })
 
 -- what inheritance adds to the sources of a frame for a base, whose class was found as this frame
 abbrev pub added_sources : Frame → Row → Clause → Frame → List Source

@@ -26,28 +26,16 @@ use Rattle.mo_syntax.specs.declared.class.What.{What, What-F, out-What}
 use Rattle.mo_syntax.specs.declared.place.Place.{Place}
 use Rattle.mo_syntax.specs.Classes.{Home, Under, Inside, Apart, ClassRow, Declared, Component, Class, Declaration}
 use Rattle.mo_syntax.specs.ClassTable.{Numbered, declarations, first_number, own_parts, path_eq, placed_under}
-use Rattle.mo_syntax.specs.Parts.{classes_in_give, classes_in_what}
 
 -- ---- modifier lists
 
--- an argument of a modifier list, with the number of the first class in it
-pub record NumberedArgument : Type 0 where
-  pub argument : ArgumentOf Give
-  pub first : ℕ
-
-abbrev pub numbered_arguments : ℕ → List (ArgumentOf Give) → List NumberedArgument
-numbered_arguments n [] = []
-numbered_arguments n (argument ∷ arguments) =
-    record { argument = argument; first = n } ∷ numbered_arguments (n + classes_in_give argument.give) arguments
-
--- A modifier list with the value behind it, if there is one, and the number of the first class in the list.
+-- A modifier list with the value behind it, if there is one.
 pub record Modifiers : Type 0 where
   pub list : List (ArgumentOf Give)
   pub value : Option Expr
-  pub first : ℕ
 
 abbrev pub no_modifiers : Modifiers
-no_modifiers = record { list = []; value = None; first = 0 }
+no_modifiers = record { list = []; value = None }
 
 -- ---- elements
 
@@ -70,13 +58,16 @@ pub record Declares : Type 0 where
   pub own : Modifiers
   pub limit : Option Constraint
 
--- the modifiers of a short class, which stand behind its number
-abbrev pub short_modifiers : Body → ℕ → Modifiers
-short_modifiers body number = modifiers_in (out-Body body)
+-- the modifiers of a short class
+abbrev pub short_modifiers : Body → Modifiers
+short_modifiers body = modifiers_in (out-Body body)
   where
     modifiers_in : Body-F Body Give Item What Element → Modifiers
-    modifiers_in (Body-F.Short causal base subs mods) = record { list = mods.0; value = None; first = number + 1 }
+    modifiers_in (Body-F.Short causal base subs mods) = record { list = mods.0; value = None }
     modifiers_in other = no_modifiers
+
+abbrev pub place_eq : Place → Place → Bool
+place_eq a b = nat_eq a.file b.file && nat_eq a.byte b.byte
 
 abbrev pub no_flags : ElementFlags
 no_flags = record { redeclare = false; last = false; inner = false; outer = false; replaceable = false; hidden = false }
@@ -88,35 +79,34 @@ declared_class class number flags limit = record {
   place = class.place;
   flags = flags;
   sort = A_class number class.flags.encapsulated;
-  own = short_modifiers class.body number;
+  own = short_modifiers class.body;
   limit = limit;
 }
 
-abbrev pub declared_component : ComponentOf Give → ℕ → ElementFlags → Option Constraint → Declares
-declared_component component first flags limit = record {
+abbrev pub declared_component : ComponentOf Give → ElementFlags → Option Constraint → Declares
+declared_component component flags limit = record {
   name = component.name;
   place = component.place;
   flags = flags;
   sort = A_component component;
-  own = record { list = component.mods.0; value = component.binding; first = first };
+  own = record { list = component.mods.0; value = component.binding };
   limit = limit;
 }
 
--- the number is that of the first class in the clause
-abbrev pub constraint_in : Option (ReferenceOf Expr × ModsOf Give) → ℕ → Option Constraint
-constraint_in None first = None
-constraint_in (Some limit) first = Some (record { class = limit.0; modifiers = record { list = limit.1.0; value = None; first = first } })
+abbrev pub constraint_in : Option (ReferenceOf Expr × ModsOf Give) → Option Constraint
+constraint_in None = None
+constraint_in (Some limit) = Some (record { class = limit.0; modifiers = record { list = limit.1.0; value = None } })
 
--- an element of the text by the number of the first class in it
+-- an element of the text; the number is that of the class that it declares, if it declares one
 abbrev pub declared_by : Element → ℕ → Declares
-declared_by element first = declared_in (out-What (out-Element element).what)
+declared_by element number = declared_in (out-What (out-Element element).what)
   where
     limit : Option Constraint
-    limit = constraint_in (out-Element element).limit (first + classes_in_what (out-Element element).what)
+    limit = constraint_in (out-Element element).limit
 
     declared_in : What-F Body Give Item What Element → Declares
-    declared_in (What-F.Class class) = declared_class class first (out-Element element).flags limit
-    declared_in (What-F.Component component) = declared_component component first (out-Element element).flags limit
+    declared_in (What-F.Class class) = declared_class class number (out-Element element).flags limit
+    declared_in (What-F.Component component) = declared_component component (out-Element element).flags limit
 
 abbrev pub is_class : Declares → Bool
 is_class declares = is_class_sort declares.sort
@@ -163,10 +153,9 @@ component_of declares = component_in declares.sort
 
 -- ---- the parts of a class
 
--- an extends clause with the number of the first class in it; of a short class, what stands behind `=`
-pub record Clause : Type 0 where
-  pub clause : ExtendsOf Give
-  pub first : ℕ
+-- an extends clause; of a short class, what stands behind `=`
+abbrev pub Clause : Type 0
+Clause = ExtendsOf Give
 
 -- a part of a class that elements come from
 pub data Part : Type 0 where
@@ -179,7 +168,7 @@ part_of part = part_in (out-Item part.item)
     part_in : Item-F Body Give Item What Element → List Part
     part_in (Item-F.Member element) =
         if (out-Element element).flags.redeclare then [] else Element_of (declared_by element part.first) ∷ []
-    part_in (Item-F.Extends clause) = Base_of (record { clause = clause; first = part.first }) ∷ []
+    part_in (Item-F.Extends clause) = Base_of clause ∷ []
     part_in other = []
 
 abbrev pub placed_part : ClassRow → Part
@@ -272,6 +261,18 @@ table_of files = flat_map (rows_of_declaration files) (declarations files)
 -- the class with that number, None for a predefined type
 abbrev pub row_at : Table → ℕ → Option Row
 row_at table number = find (λ row. nat_eq row.number number) table
+
+-- The number of the class that an element of a modifier list declares. The class is known by where its name stands.
+abbrev pub number_of_element : Table → Element → ℕ
+number_of_element table element = number_in (out-What (out-Element element).what)
+  where
+    number_at : Option Row → ℕ
+    number_at None = 0
+    number_at (Some row) = row.number
+
+    number_in : What-F Body Give Item What Element → ℕ
+    number_in (What-F.Class class) = number_at (find (λ row. place_eq row.class.place class.place) table)
+    number_in (What-F.Component component) = 0
 
 -- how many classes there are, the predefined types among them
 abbrev pub number_of_classes : Table → ℕ

@@ -37,7 +37,7 @@ loaded =
     row 9 [] "M" 146 [] (component_by no_flags None Free (name (id "Host" 148 ∷ [])) "h" 153 (redeclares 155 (name (id "Big" 165 ∷ [])) "load" 169 (sets "j" 174 7 ∷ []) ∷ []) ∷ []) ∷ []
   where
     limit : Constraint
-    limit = record { class = name (id "Base" 117 ∷ []); modifiers = record { list = sets "k" 122 5 ∷ []; value = None; first = 0 } }
+    limit = record { class = name (id "Base" 117 ∷ []); modifiers = record { list = sets "k" 122 5 ∷ []; value = None } }
 
 -- the number of its class, and for each of its sources the names of the arguments
 abbrev told : Child → ℕ × List (List (List ℕ))

@@ -90,7 +90,7 @@ component_by flags limit vary type name at arguments = Element_of (record {
   place = byte at;
   flags = flags;
   sort = A_component (typed vary type name at arguments);
-  own = record { list = arguments; value = None; first = 0 };
+  own = record { list = arguments; value = None };
   limit = limit;
 })
 
@@ -115,7 +115,7 @@ abbrev pub class : String → ℕ → ℕ → Part
 class = class_by no_flags
 
 abbrev pub extends_with : ReferenceOf Expr → List (ArgumentOf Give) → Part
-extends_with base arguments = Base_of (record { clause = record { base = base; mods = record { 0 = arguments }; hidden = false }; first = 0 })
+extends_with base arguments = Base_of (record { base = base; mods = record { 0 = arguments }; hidden = false })
 
 abbrev pub extends : ReferenceOf Expr → Part
 extends base = extends_with base []

@@ -1,0 +1,99 @@
+-- What the values of the code are as data.
+use Rattle.std.specs.Prelude.{ℕ, ℤ, Bool, List, [], ◌∷◌, map, Option, Some, None, option_map, option_copied}
+use Rattle.mo_syntax.specs.declared.meaning.InstancePath.{InstancePath}
+use Rattle.mo_syntax.specs.Classes as classes
+use Rattle.mo_scope.specs.declared.source.Given.{Given as GivenAt}
+use Rattle.mo_scope.specs.declared.source.Given.TheVariants.{Listed as listed_at, Argued as argued_at, Replacing as replacing_at}
+use Rattle.mo_scope.specs.declared.source.Listing.{Listing as ListingAt}
+use Rattle.mo_scope.specs.declared.source.Modifiers.{Modifiers as ModifiersAt}
+use Rattle.mo_scope.specs.declared.source.Origin.{Origin as OriginAt}
+use Rattle.mo_scope.specs.declared.source.Origin.TheVariants.{Elsewhere as elsewhere_at, OwnOf, ConstraintOf}
+use Rattle.mo_scope.specs.declared.source.ScopeAt.{ScopeAt}
+use Rattle.mo_scope.specs.declared.source.Source.{Source as SourceAt}
+use Rattle.mo_scope.specs.declared.row.Clause.{Clause as ClauseAt}
+use Rattle.mo_scope.specs.declared.row.Constraint.{Constraint as ConstraintAt}
+use Rattle.mo_scope.specs.declared.row.Declares.{Declares as DeclaresAt}
+use Rattle.mo_scope.specs.declared.row.Home.{Home as HomeAt}
+use Rattle.mo_scope.specs.declared.row.Home.TheVariants.{Under, Inside, Apart}
+use Rattle.mo_scope.specs.declared.row.Member.{Member as MemberAt}
+use Rattle.mo_scope.specs.declared.row.Part.{Part as PartAt}
+use Rattle.mo_scope.specs.declared.row.Part.TheVariants.{Element as element_at, Base as base_at}
+use Rattle.mo_scope.specs.declared.row.Sort.{Sort as SortAt}
+use Rattle.mo_scope.specs.declared.row.Sort.TheVariants.{Class as class_at, Component as component_at}
+use Rattle.mo_scope.specs.Rows.{Modifiers, Constraint, Declares, Sort, A_class, A_component, Clause, Part, Element_of, Base_of}
+use Rattle.mo_scope.specs.Frames.{Given, Listed, Argued, Replacing, Listing, Origin, Elsewhere, Own_of, Constraint_of, Piece, Indexed, Iterations}
+use Rattle.mo_scope.specs.Worlds.{SourceEntry, MemberEntry}
+
+-- ---- rows
+
+abbrev pub modifiers_seen : ModifiersAt → Modifiers
+modifiers_seen modifiers = record { list = modifiers.list.now; value = option_copied modifiers.value }
+
+abbrev pub constraint_seen : ConstraintAt → Constraint
+constraint_seen limit = record { class = limit.class.now; modifiers = modifiers_seen limit.modifiers }
+
+abbrev pub sort_seen : SortAt → Sort
+sort_seen (class_at number encapsulated) = A_class number encapsulated
+sort_seen (component_at component) = A_component component.now
+
+abbrev pub declares_seen : DeclaresAt → Declares
+declares_seen declares = record {
+  name = declares.name.now;
+  place = declares.place;
+  flags = declares.flags;
+  sort = sort_seen declares.sort;
+  own = modifiers_seen declares.own;
+  limit = option_map constraint_seen declares.limit;
+}
+
+abbrev pub clause_seen : ClauseAt → Clause
+clause_seen clause = record { base = clause.base.now; mods = record { 0 = clause.list.now }; hidden = clause.hidden }
+
+abbrev pub part_seen : PartAt → Part
+part_seen (element_at declares) = Element_of (declares_seen declares)
+part_seen (base_at clause) = Base_of (clause_seen clause)
+
+abbrev pub home_seen : HomeAt → classes.Home
+home_seen (Under path) = classes.Under (map (λ name. name.now) path)
+home_seen (Inside n) = classes.Inside n
+home_seen Apart = classes.Apart
+
+-- ---- sources
+
+abbrev pub given_seen : GivenAt → Given
+given_seen (listed_at modifiers) = Listed (modifiers_seen modifiers)
+given_seen (argued_at argument passed) = Argued argument.now passed
+given_seen (replacing_at class) = Replacing class.0
+
+abbrev pub listing_seen : ListingAt → Listing
+listing_seen listing = record { place = listing.place; passed = map (λ name. name.now) listing.passed }
+
+abbrev pub origin_seen : OriginAt → Origin
+origin_seen elsewhere_at = Elsewhere
+origin_seen (OwnOf place) = Own_of place
+origin_seen (ConstraintOf place) = Constraint_of place
+
+abbrev pub source_seen : SourceAt → SourceEntry
+source_seen source = record {
+  piece = record {
+    given = given_seen source.given;
+    pending = source.pending;
+    listing = listing_seen source.listing;
+    last = source.last;
+    outside = source.outside;
+    origin = origin_seen source.origin;
+  };
+  frame = source.scope.frame.0;
+  iterations = source.scope.iters;
+}
+
+-- ---- elements
+
+abbrev pub member_seen : MemberAt → MemberEntry
+member_seen member = record {
+  name = member.name.now;
+  home = member.home.0;
+  item = member.item;
+  hidden = member.hidden;
+  declares = declares_seen member.declares;
+}
