@@ -7,5 +7,7 @@ pub mod Outcome
 pub mod Parts
 pub mod Rows
 pub mod Sights
+pub mod Places
 pub mod Sizes
 pub mod Worlds
+pub mod TreePlaces
