@@ -1,4 +1,6 @@
 -- Laws of the definitions of names.
+pub mod Finding
+pub mod Naming
 pub mod Number
 pub mod Sources
 pub mod Standing

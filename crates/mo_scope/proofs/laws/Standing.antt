@@ -44,6 +44,10 @@ any_find P test (x ∷ xs) h = by (any_find P test xs h.1) (test x)
     by rest true = h.0
     by rest false = rest
 
+pub if_some : {A : Type 0} (P : A → Type 0) (b : Bool) (x : A) → P x → IfAny P (if b then Some x else None)
+if_some P true x h = h
+if_some P false x h = tt
+
 -- ---- outcomes
 
 pub then_answers : {A B : Type 0} (P : Place → Type 0) (Q : A → Type 0) (R : B → Type 0) (outcome : Outcome A) (f : A → Outcome B) →
