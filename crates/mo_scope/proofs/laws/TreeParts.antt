@@ -49,7 +49,7 @@ at_what what (What-F.Component component) is = ap places_in_what (sym (roll-out-
     ∙ fold-roll-What Places Places Places Places Places in_body in_give in_item in_what in_element (What-F.Component component)
     ∙ ap (λ rest. component.place ∷ places_of_parts component.base.parts ++ rest) (gathered_map (λ x. x.place ∷ x.give) _ component.mods.0)
 
-rolled : (flags : ElementFlags) (what : What) (limit : Option (ReferenceOf Expr × ModsOf Give)) →
+pub rolled : (flags : ElementFlags) (what : What) (limit : Option (ReferenceOf Expr × ModsOf Give)) →
     places_in_element (roll-Element (record { flags = flags; what = what; limit = limit })) ≡ places_in_what what ++ places_in_limit limit
 rolled flags what None =
     fold-roll-Element Places Places Places Places Places in_body in_give in_item in_what in_element (record { flags = flags; what = what; limit = None })
