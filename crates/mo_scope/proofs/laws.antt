@@ -3,6 +3,7 @@ pub mod Comparing
 pub mod Finding
 pub mod Naming
 pub mod Number
+pub mod Passing
 pub mod Sources
 pub mod Standing
 pub mod Tables
