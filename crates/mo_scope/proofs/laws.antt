@@ -4,6 +4,7 @@ pub mod Finding
 pub mod Naming
 pub mod Number
 pub mod Passing
+pub mod Places
 pub mod Sources
 pub mod Standing
 pub mod Tables

@@ -2,17 +2,18 @@
 --
 -- Whatever holds of the places of all names, clauses and arguments in the trees of the files, and of the place at which is asked,
 -- holds of the place of each rule that is broken. These are its premises and its conclusion, for a property of places.
-use Rattle.std.specs.Prelude.{ℕ, List, [], ◌∷◌, Option, Some, None, Ok, Err}
+use Rattle.std.specs.Prelude.{◌≡◌, ◌⊎◌, List, [], ◌∷◌, Contains, Option, Some, None, Ok, Err}
 use Rattle.mo_syntax.specs.declared.expr.Expr.{Expr}
 use Rattle.mo_syntax.specs.declared.expr.PartOf.{PartOf}
 use Rattle.mo_syntax.specs.declared.expr.ReferenceOf.{ReferenceOf}
 use Rattle.mo_syntax.specs.declared.class.ArgumentOf.{ArgumentOf}
+use Rattle.mo_syntax.specs.declared.class.FileTree.{FileTree}
 use Rattle.mo_syntax.specs.declared.class.Give.{Give}
 use Rattle.mo_syntax.specs.declared.class.Import.{Import}
 use Rattle.mo_syntax.specs.declared.class.Import.TheVariants.{Renamed, Named, Group, All as Star}
 use Rattle.mo_syntax.specs.declared.place.Place.{Place}
 use Rattle.mo_scope.specs.Outcome.{Outcome}
-use Rattle.mo_scope.specs.TreePlaces.{places_of_parts, places_in_give, place_of_import}
+use Rattle.mo_scope.specs.TreePlaces.{places_of_parts, places_in_give, places_in_files, place_of_import}
 use Rattle.mo_scope.specs.Rows.{Table, Row, Declares, Sort, A_class, A_component, Modifiers, Constraint, Part, Element_of, Base_of, Clause}
 use Rattle.mo_scope.specs.Frames.{Given, Listed, Argued, Replacing, Frame, Top, In, Sources, No_source, Source_then, Source, Member}
 use Rattle.mo_scope.specs.Parts.{Redeclaration, Saying, Modifies, Redeclares}
@@ -132,3 +133,13 @@ pub record Answers {A : Type 0} (P : Place → Type 0) (Q : A → Type 0) (outco
 
 pub record AskingStands (P : Place → Type 0) (asking : Asking) : Type 0 where
   pub elements : (place : Place) (frame : Frame) → P place → FrameStands P frame → Answers P (WalkedStands P) (asking.elements place frame)
+
+-- ---- the trees of files
+
+-- the place of a name, a clause or an argument in the trees of the files
+abbrev pub StandsIn : List FileTree → Place → Type 0
+StandsIn files place = Contains (places_in_files files) place
+
+-- such a place, or the one at which is asked
+abbrev pub StandsInOrAsked : List FileTree → (asked : Place) → Place → Type 0
+StandsInOrAsked files asked place = StandsIn files place ⊎ (place ≡ asked)
