@@ -1,14 +1,12 @@
 -- A rule that the comparison of two classes breaks is broken where it was asked, or where the class table and the frames stand.
-use Rattle.std.proofs.Common.{◌≡◌, ℕ, zero, suc, ◌*◌, Bool, true, false, ◌&&◌, List, [], ◌∷◌, find, Option, Some, None, Ok, Err, refl, nat_eq, if◌then◌else◌}
-use Rattle.std.specs.Str.{bytes_eq}
+use Rattle.std.proofs.Common.{◌≡◌, ℕ, zero, suc, ◌*◌, List, [], ◌∷◌, Option, Some, None, Ok, refl, nat_eq, if◌then◌else◌}
 use Rattle.mo_syntax.specs.declared.place.Place.{Place}
-use Rattle.mo_scope.specs.Outcome.{Outcome, and_then, breaks}
-use Rattle.mo_scope.specs.Places.{Every, IfAny, Answers, AskingStands, TableStands, FrameStands, MemberStands, WalkedStands}
+use Rattle.mo_scope.specs.Places.{Every, IfAny, Answers, TableStands, FrameStands, MemberStands, WalkedStands}
 use Rattle.mo_scope.specs.Rows.{Table, number_of_classes}
 use Rattle.mo_scope.specs.Frames.{Frame, Member, class_of}
 use Rattle.mo_scope.specs.Lookup.{Walked, asking_of, members_in}
-use Rattle.mo_scope.specs.Names.{Child, child_of_member, component_frame}
-use Rattle.mo_scope.specs.Compatible.{Compare, Pairs, dimensions_of, prefix_of, same_prefixes, is_open_component, counterpart, same_types, is_matched, are_matched, compared, is_pair, with_pair, compared_frames, compatible_from, compatible}
+use Rattle.mo_scope.specs.Names.{child_of_member, component_frame}
+use Rattle.mo_scope.specs.Compatible.{Compare, Pairs, dimensions_of, prefix_of, same_prefixes, is_open_component, counterpart, same_types, is_matched, are_matched, compared, is_pair, with_pair, compatible_from, compatible}
 use Rattle.mo_scope.proofs.laws.Standing.{any_find, then_answers, if_answers}
 use Rattle.mo_scope.proofs.laws.Finding.{members_in_stand, asking_of_stands}
 use Rattle.mo_scope.proofs.laws.Naming.{ChildStands, child_of_member_stands, component_frame_stands}
@@ -24,11 +22,11 @@ module _ (P : Place → Type 0) (table : Table) (stands : TableStands P table) w
       Answers P Nothing (same_types table compare place new wanted)
   same_types_answer compare place new wanted hc hp hn hw =
       then_answers P (ChildStands P) Nothing (child_of_member table new []) _ (child_of_member_stands P table stands new [] hn)
-        (λ new_child ha. then_answers P (ChildStands P) Nothing (child_of_member table wanted []) _ (child_of_member_stands P table stands wanted [] hw)
-          (λ wanted_child hb. if_answers P Nothing (nat_eq (dimensions_of table new new_child) (dimensions_of table wanted wanted_child)) _ _
-            (hc (component_frame new [] new_child) (component_frame wanted [] wanted_child)
-              (component_frame_stands P table stands new [] new_child hn ha) (component_frame_stands P table stands wanted [] wanted_child hw hb))
-            (record { holds = hp })))
+      (λ new_child ha. then_answers P (ChildStands P) Nothing (child_of_member table wanted []) _ (child_of_member_stands P table stands wanted [] hw)
+      (λ wanted_child hb. if_answers P Nothing (nat_eq (dimensions_of table new new_child) (dimensions_of table wanted wanted_child)) _ _
+      (hc (component_frame new [] new_child) (component_frame wanted [] wanted_child)
+      (component_frame_stands P table stands new [] new_child hn ha) (component_frame_stands P table stands wanted [] wanted_child hw hb))
+      (record { holds = hp })))
 
   is_matched_answers : (compare : Compare) (place : Place) (members : List Member) (wanted : Member) → ComparesWell compare → P place → Every (MemberStands P) members →
       MemberStands P wanted → Answers P Nothing (is_matched table compare place members wanted)
@@ -44,8 +42,8 @@ module _ (P : Place → Type 0) (table : Table) (stands : TableStands P table) w
   are_matched_answer compare place members [] hc hp hm h = record { holds = tt }
   are_matched_answer compare place members (wanted ∷ others) hc hp hm h =
       then_answers P Nothing Nothing (if is_open_component wanted then is_matched table compare place members wanted else Ok tt) _
-        (if_answers P Nothing (is_open_component wanted) _ _ (is_matched_answers compare place members wanted hc hp hm h.0) (record { holds = tt }))
-        (λ u hu. are_matched_answer compare place members others hc hp hm h.1)
+      (if_answers P Nothing (is_open_component wanted) _ _ (is_matched_answers compare place members wanted hc hp hm h.0) (record { holds = tt }))
+      (λ u hu. are_matched_answer compare place members others hc hp hm h.1)
 
   compared_answers : (compare : Compare) (place : Place) (new wanted : Walked) → ComparesWell compare → P place → WalkedStands P new → WalkedStands P wanted →
       Answers P Nothing (compared table compare place new wanted)
@@ -64,10 +62,10 @@ module _ (P : Place → Type 0) (table : Table) (stands : TableStands P table) w
   compatible_from_answers zero place pairs new wanted hp hn hw = record { holds = tt }
   compatible_from_answers (suc left) place pairs new wanted hp hn hw =
       if_answers P Nothing (is_pair pairs new wanted) _ _ (record { holds = tt })
-        (then_answers P (WalkedStands P) Nothing ((asking_of table).elements place new) _ ((asking_of_stands P table stands).elements place new hp hn)
-          (λ new_walked ha. then_answers P (WalkedStands P) Nothing ((asking_of table).elements place wanted) _ ((asking_of_stands P table stands).elements place wanted hp hw)
-            (λ wanted_walked hb. compared_answers (compatible_from table left place (with_pair pairs new wanted)) place new_walked wanted_walked
-              (λ a b hna hwb. compatible_from_answers left place (with_pair pairs new wanted) a b hp hna hwb) hp ha hb)))
+      (then_answers P (WalkedStands P) Nothing ((asking_of table).elements place new) _ ((asking_of_stands P table stands).elements place new hp hn)
+      (λ new_walked ha. then_answers P (WalkedStands P) Nothing ((asking_of table).elements place wanted) _ ((asking_of_stands P table stands).elements place wanted hp hw)
+      (λ wanted_walked hb. compared_answers (compatible_from table left place (with_pair pairs new wanted)) place new_walked wanted_walked
+      (λ a b hna hwb. compatible_from_answers left place (with_pair pairs new wanted) a b hp hna hwb) hp ha hb)))
 
   pub compatible_answers : (place : Place) (new wanted : Frame) → P place → FrameStands P new → FrameStands P wanted → Answers P Nothing (compatible table place new wanted)
   compatible_answers place new wanted hp hn hw = compatible_from_answers (number_of_classes table * number_of_classes table) place [] new wanted hp hn hw

@@ -1,23 +1,21 @@
 -- A rule that the arguments of sources break is broken where the sources and the class table stand.
-use Rattle.std.proofs.Common.{◌≡◌, ℕ, Bool, true, false, ◌&&◌, ◌||◌, List, [], ◌∷◌, ◌++◌, map, flat_map, Option, Some, None, Ok, Err, is_some, nat_lt, refl, ap, sym, subst, ◌∙◌, if◌then◌else◌}
+use Rattle.std.proofs.Common.{◌≡◌, ℕ, Bool, true, false, ◌||◌, List, [], ◌∷◌, ◌++◌, map, flat_map, Option, Some, None, is_some, nat_lt, refl, ap, sym, subst, ◌∙◌, if◌then◌else◌}
 use mathlib.Core.Path.{fun_ext}
-use Rattle.mo_syntax.specs.declared.expr.Expr.{Expr}
 use Rattle.mo_syntax.specs.declared.class.ArgumentOf.{ArgumentOf}
-use Rattle.mo_syntax.specs.declared.class.Body.{Body, Body-F}
-use Rattle.mo_syntax.specs.declared.class.Element.{Element, Element-F}
+use Rattle.mo_syntax.specs.declared.class.Body.{Body}
+use Rattle.mo_syntax.specs.declared.class.Element.{Element}
 use Rattle.mo_syntax.specs.declared.class.Give.{Give, Give-F, out-Give, roll-Give, roll-out-Give, out-roll-Give, fold-roll-Give, map-Give, ind-Give}
-use Rattle.mo_syntax.specs.declared.class.Item.{Item, Item-F}
-use Rattle.mo_syntax.specs.declared.class.ModsOf.{ModsOf}
-use Rattle.mo_syntax.specs.declared.class.What.{What, What-F}
+use Rattle.mo_syntax.specs.declared.class.Item.{Item}
+use Rattle.mo_syntax.specs.declared.class.What.{What}
 use Rattle.mo_syntax.specs.declared.place.Broken.{Broken}
 use Rattle.mo_syntax.specs.declared.place.Place.{Place}
-use Rattle.mo_scope.specs.Outcome.{Outcome, breach, unless_broken}
+use Rattle.mo_scope.specs.Outcome.{breach, unless_broken}
 use Rattle.mo_scope.specs.TreePlaces.{places_in_give}
 use Rattle.mo_scope.specs.Places.{Every, IfAny, Answers, TableStands, ArgumentStands, DeclaresStand, SourceStands, GivenStands}
 use Rattle.mo_scope.specs.Rows.{Table, Declares}
 use Rattle.mo_scope.specs.Frames.{Given, Listed, Argued, Replacing, Listing, Source}
 use Rattle.mo_scope.specs.Parts.{names_left, held, replacing_of}
-use Rattle.mo_scope.specs.Arguments.{Claim, Claims, claim, claims_in, claims_of, Asked, asked_argument, asked_rest, asked_element, asked_of, arguments_of, is_none_pending, is_repeated, is_among, is_below_final, broken_claims, broken_argument, least, or_later, first_broken, broken_arguments, second_pass}
+use Rattle.mo_scope.specs.Arguments.{Claim, Claims, claim, claims_in, claims_of, Asked, asked_argument, asked_rest, asked_element, asked_of, arguments_of, is_repeated, is_among, is_below_final, broken_claims, broken_argument, least, or_later, first_broken, broken_arguments, second_pass}
 use Rattle.mo_scope.proofs.laws.Standing.{every_append, every_front, every_back, every_map, every_flat_map, every_weaker, if_list}
 use Rattle.mo_scope.proofs.laws.TreeParts.{gathered_map, places_in_arguments, at_give}
 use Rattle.mo_scope.proofs.laws.Sources.{held_stands, replacing_stand}
@@ -35,8 +33,8 @@ claims_at : (give : Give) (g : Give-F Body Give Item What Element) → out-Give 
 claims_at give (Give-F.Modify mods value) is = ap claims_of (sym (roll-out-Give give) ∙ ap roll-Give is)
     ∙ fold-roll-Give (Unit {0}) Claims (Unit {0}) (Unit {0}) (Unit {0}) (λ body. tt) claims_in (λ item. tt) (λ what. tt) (λ element. tt) (Give-F.Modify mods value)
     ∙ fun_ext (λ path. fun_ext (λ place. fun_ext (λ last.
-      ap (λ rest. (if is_some value then claim path place last ∷ [] else []) ++ rest)
-        (gathered_map (λ argument. argument.give (path ++ argument.name.0) argument.place (last || argument.last)) _ mods.0))))
+    ap (λ rest. (if is_some value then claim path place last ∷ [] else []) ++ rest)
+    (gathered_map (λ argument. argument.give (path ++ argument.name.0) argument.place (last || argument.last)) _ mods.0))))
 claims_at give (Give-F.Redeclare element) is = ap claims_of (sym (roll-out-Give give) ∙ ap roll-Give is)
     ∙ fold-roll-Give (Unit {0}) Claims (Unit {0}) (Unit {0}) (Unit {0}) (λ body. tt) claims_in (λ item. tt) (λ what. tt) (λ element. tt) (Give-F.Redeclare element)
 claims_at give (Give-F.Replaceable element) is = ap claims_of (sym (roll-out-Give give) ∙ ap roll-Give is)
@@ -61,8 +59,8 @@ module _ (P : Place → Type 0) where
   claimed_arguments [] h path last = tt
   claimed_arguments (x ∷ xs) h path last =
       every_append ClaimStands (claims_of x.give.0 (path ++ x.name.0) x.place (last || x.last)) _
-        (x.give.1 (every_front P (places_in_give x.give.0) (places_in_arguments (map argument_of xs)) h.1) (path ++ x.name.0) x.place (last || x.last) h.0)
-        (claimed_arguments xs (every_back P (places_in_give x.give.0) (places_in_arguments (map argument_of xs)) h.1) path last)
+      (x.give.1 (every_front P (places_in_give x.give.0) (places_in_arguments (map argument_of xs)) h.1) (path ++ x.name.0) x.place (last || x.last) h.0)
+      (claimed_arguments xs (every_back P (places_in_give x.give.0) (places_in_arguments (map argument_of xs)) h.1) path last)
 
   abbrev Other : Type 0 → Type 0
   Other A = A × Unit {0}
@@ -78,11 +76,11 @@ module _ (P : Place → Type 0) where
   step_give : (node : Give-F (Other Body) ClaimedGive (Other Item) (Other What) (Other Element)) → Claimed (give_of node)
   step_give (Give-F.Modify mods value) h =
       by_claims _ (Give-F.Modify (record { 0 = map argument_of mods.0 }) value) (out-roll-Give (Give-F.Modify (record { 0 = map argument_of mods.0 }) value))
-        (λ path place last hp. every_append ClaimStands (if is_some value then claim path place last ∷ [] else []) _
-          (if_list ClaimStands (is_some value) _ _ (hp, tt) tt)
-          (claimed_arguments mods.0
-            (subst (Every P) (at_give _ (Give-F.Modify (record { 0 = map argument_of mods.0 }) value) (out-roll-Give (Give-F.Modify (record { 0 = map argument_of mods.0 }) value))) h)
-            path last))
+      (λ path place last hp. every_append ClaimStands (if is_some value then claim path place last ∷ [] else []) _
+      (if_list ClaimStands (is_some value) _ _ (hp, tt) tt)
+      (claimed_arguments mods.0
+      (subst (Every P) (at_give _ (Give-F.Modify (record { 0 = map argument_of mods.0 }) value) (out-roll-Give (Give-F.Modify (record { 0 = map argument_of mods.0 }) value))) h)
+      path last))
   step_give (Give-F.Redeclare element) h =
       by_claims _ (Give-F.Redeclare element.0) (out-roll-Give (Give-F.Redeclare element.0)) (λ path place last hp. (hp, tt))
   step_give (Give-F.Replaceable element) h =
@@ -124,16 +122,16 @@ module _ (P : Place → Type 0) where
   broken_claims_stand before after listing passed [] h = tt
   broken_claims_stand before after listing passed (one ∷ claims) h =
       every_append BrokenStands _ (broken_claims before after listing (passed ++ one ∷ []) claims)
-        (every_append BrokenStands _ _
-          (if_list BrokenStands (is_repeated before listing one || is_among passed one) (breach 21 one.place ∷ []) [] (h.0, tt) tt)
-          (if_list BrokenStands (is_below_final after listing one) (breach 22 one.place ∷ []) [] (h.0, tt) tt))
-        (broken_claims_stand before after listing (passed ++ one ∷ []) claims h.1)
+      (every_append BrokenStands _ _
+      (if_list BrokenStands (is_repeated before listing one || is_among passed one) (breach 21 one.place ∷ []) [] (h.0, tt) tt)
+      (if_list BrokenStands (is_below_final after listing one) (breach 22 one.place ∷ []) [] (h.0, tt) tt))
+      (broken_claims_stand before after listing (passed ++ one ∷ []) claims h.1)
 
   broken_argument_stand : (before after : List Asked) (asked : Asked) → AskedStands asked → Every BrokenStands (broken_argument before after asked)
   broken_argument_stand before after asked h =
       every_append BrokenStands (broken_claims before after asked.listing [] asked.claims) _
-        (broken_claims_stand before after asked.listing [] asked.claims h.claims)
-        (if_list BrokenStands asked.each (breach 23 asked.place ∷ []) [] (h.place, tt) tt)
+      (broken_claims_stand before after asked.listing [] asked.claims h.claims)
+      (if_list BrokenStands asked.each (breach 23 asked.place ∷ []) [] (h.place, tt) tt)
 
   if_broken : (b : Bool) (x y : Broken) → BrokenStands x → BrokenStands y → IfAny BrokenStands (if b then Some x else Some y)
   if_broken true x y hx hy = hx
@@ -155,8 +153,8 @@ module _ (P : Place → Type 0) where
   first_broken_stands before [] h = tt
   first_broken_stands before (asked ∷ after) h =
       or_later_stands (least (broken_argument before after asked)) _
-        (least_stands (broken_argument before after asked) (broken_argument_stand before after asked h.0))
-        (first_broken_stands (before ++ asked ∷ []) after h.1)
+      (least_stands (broken_argument before after asked) (broken_argument_stand before after asked h.0))
+      (first_broken_stands (before ++ asked ∷ []) after h.1)
 
   unless_answers : (broken : Option Broken) → IfAny BrokenStands broken → Answers P (λ (u : Unit {0}). Unit {0}) (unless_broken broken tt)
   unless_answers None h = record { holds = tt }
@@ -173,14 +171,14 @@ module _ (P : Place → Type 0) (table : Table) (stands : TableStands P table) w
       by (Listed modifiers) is h = rw is (arguments modifiers.list h)
       by (Argued argument passed) is h =
           rw is (every_append (AskedStands P) (asked_rest source argument (names_left argument passed)) _
-            (asked_rest_stand P source argument (names_left argument passed) h)
-            (arguments (held (Argued argument passed)).list (held_stands P table stands (Argued argument passed) h)))
+          (asked_rest_stand P source argument (names_left argument passed) h)
+          (arguments (held (Argued argument passed)).list (held_stands P table stands (Argued argument passed) h)))
       by (Replacing class) is h =
           rw is (every_map (AskedStands P) (asked_element source) (replacing_of table class)
-            (every_weaker (DeclaresStand P) _ (asked_element_stands P source) (replacing_of table class) (replacing_stand P table stands class)))
+          (every_weaker (DeclaresStand P) _ (asked_element_stands P source) (replacing_of table class) (replacing_stand P table stands class)))
 
   pub second_pass_answers : (sources : List Source) → Every (SourceStands P) sources → Answers P (λ (u : Unit {0}). Unit {0}) (second_pass table sources)
   second_pass_answers sources h =
       unless_answers P (broken_arguments table sources)
-        (first_broken_stands P [] (arguments_of table sources)
-          (every_flat_map (AskedStands P) (asked_of table) sources (every_weaker (SourceStands P) _ asked_of_stand sources h)))
+      (first_broken_stands P [] (arguments_of table sources)
+      (every_flat_map (AskedStands P) (asked_of table) sources (every_weaker (SourceStands P) _ asked_of_stand sources h)))

@@ -2,7 +2,7 @@
 --
 -- The frame is one whose sources hold arguments of the trees. A frame with no sources, no path and no owner is one, and so are all that
 -- the definitions give.
-use Rattle.std.proofs.Common.{◌≡◌, ◌⊎◌, inl, inr, List, [], ◌∷◌, ◌++◌, Contains, Option, Some, None, Ok, Err, refl, sym, ℕ, Bool}
+use Rattle.std.proofs.Common.{◌≡◌, inl, inr, List, [], ◌∷◌, Contains, Err, refl, ℕ, Bool}
 use Rattle.std.proofs.lemmas.List.Elements.{Contains-append_left, Contains-append_right, Contains-push}
 use Rattle.mo_syntax.specs.declared.class.ArgumentOf.{ArgumentOf}
 use Rattle.mo_syntax.specs.declared.class.FileTree.{FileTree}
@@ -13,10 +13,10 @@ use Rattle.mo_syntax.specs.declared.place.Broken.{Broken}
 use Rattle.mo_syntax.specs.declared.place.Place.{Place}
 use Rattle.mo_scope.specs.Outcome.{Outcome}
 use Rattle.mo_scope.specs.TreePlaces.{nowhere, places_in_give, places_in_files}
-use Rattle.mo_scope.specs.Places.{Every, Answers, StandsIn, StandsInOrAsked, NameStands, ArgumentStands, ModifiersStand, ClauseStands, TableStands, GivenStands, FrameStands, SourcesStand, SourceStands, MemberStands}
-use Rattle.mo_scope.specs.Rows.{Table, Clause, table_of}
+use Rattle.mo_scope.specs.Places.{Every, Answers, StandsIn, StandsInOrAsked, NameStands, ArgumentStands, ClauseStands, TableStands, GivenStands, FrameStands, SourcesStand, SourceStands, MemberStands}
+use Rattle.mo_scope.specs.Rows.{Clause, table_of}
 use Rattle.mo_scope.specs.Frames.{Given, Listed, Argued, Replacing, Frame, Top, In, Sources, No_source, Source_then, Scope, Source, Member}
-use Rattle.mo_scope.specs.Names.{elements_of, base_frame_of, child_of_member, child_of, found, found_reference, found_class, found_path}
+use Rattle.mo_scope.specs.Names.{elements_of, base_frame_of, child_of_member, child_of, found, found_path}
 use Rattle.mo_scope.specs.Arguments.{second_pass}
 use Rattle.mo_scope.specs.Compatible.{compatible}
 use Rattle.mo_scope.proofs.laws.Standing.{every_weaker}
@@ -65,8 +65,8 @@ module _ (files : List FileTree) where
   asked_files_stand : (asked : Place) → TableStands (StandsInOrAsked files asked) (table_of files)
   asked_files_stand asked =
       table_stands (StandsInOrAsked files asked) files
-        (every_weaker (StandsIn files) (StandsInOrAsked files asked) (or_asked asked) (places_in_files files)
-          (every_contained (places_in_files files) (places_in_files files) (λ place h. h)))
+      (every_weaker (StandsIn files) (StandsInOrAsked files asked) (or_asked asked) (places_in_files files)
+      (every_contained (places_in_files files) (places_in_files files) (λ place h. h)))
 
   -- A rule that the elements of a frame break is broken in the trees.
   pub elements_break_in_trees : (frame : Frame) (broken : Broken) → FrameStands (StandsIn files) frame → elements_of (table_of files) frame ≡ Err broken → StandsIn files broken.place
@@ -89,18 +89,18 @@ module _ (files : List FileTree) where
       child_of (table_of files) frame name index ≡ Err broken → StandsInOrAsked files nowhere broken.place
   child_of_breaks_in_trees frame name index broken h is =
       broken_at (StandsInOrAsked files nowhere) _ _ broken
-        (child_of_stands (StandsInOrAsked files nowhere) (table_of files) (asked_files_stand nowhere) frame name index (inr refl)
-          (frame_weaker (StandsIn files) (StandsInOrAsked files nowhere) (or_asked nowhere) frame h))
-        is
+      (child_of_stands (StandsInOrAsked files nowhere) (table_of files) (asked_files_stand nowhere) frame name index (inr refl)
+      (frame_weaker (StandsIn files) (StandsInOrAsked files nowhere) (or_asked nowhere) frame h))
+      is
 
   -- A rule that a simple name breaks is broken in the trees, or at the name.
   pub name_breaks_in_trees : (scope : Scope) (name : List ℕ) (asked : Place) (broken : Broken) → FrameStands (StandsIn files) scope.frame →
       found (table_of files) scope name asked ≡ Err broken → StandsInOrAsked files asked broken.place
   name_breaks_in_trees scope name asked broken h is =
       broken_at (StandsInOrAsked files asked) _ _ broken
-        (found_stands (StandsInOrAsked files asked) (table_of files) (asked_files_stand asked) scope name asked (inr refl)
-          (frame_weaker (StandsIn files) (StandsInOrAsked files asked) (or_asked asked) scope.frame h))
-        is
+      (found_stands (StandsInOrAsked files asked) (table_of files) (asked_files_stand asked) scope name asked (inr refl)
+      (frame_weaker (StandsIn files) (StandsInOrAsked files asked) (or_asked asked) scope.frame h))
+      is
 
   -- A rule that a name of the trees breaks is broken in the trees.
   pub path_breaks_in_trees : (scope : Scope) (reference : ReferenceOf Expr) (class_wanted : Bool) (broken : Broken) → NameStands (StandsIn files) reference →
@@ -118,7 +118,7 @@ module _ (files : List FileTree) where
       compatible (table_of files) asked new wanted ≡ Err broken → StandsInOrAsked files asked broken.place
   comparison_breaks_in_trees asked new wanted broken hn hw is =
       broken_at (StandsInOrAsked files asked) _ _ broken
-        (compatible_answers (StandsInOrAsked files asked) (table_of files) (asked_files_stand asked) asked new wanted (inr refl)
-          (frame_weaker (StandsIn files) (StandsInOrAsked files asked) (or_asked asked) new hn)
-          (frame_weaker (StandsIn files) (StandsInOrAsked files asked) (or_asked asked) wanted hw))
-        is
+      (compatible_answers (StandsInOrAsked files asked) (table_of files) (asked_files_stand asked) asked new wanted (inr refl)
+      (frame_weaker (StandsIn files) (StandsInOrAsked files asked) (or_asked asked) new hn)
+      (frame_weaker (StandsIn files) (StandsInOrAsked files asked) (or_asked asked) wanted hw))
+      is

@@ -1,5 +1,5 @@
 -- What sources say of the elements of a frame stands where the sources and the class table stand.
-use Rattle.std.proofs.Common.{◌≡◌, ℕ, ◌+◌, Bool, true, false, ◌&&◌, ◌||◌, List, [], ◌∷◌, ◌++◌, map, flat_map, drop, Option, Some, None, refl, subst, if◌then◌else◌}
+use Rattle.std.proofs.Common.{◌≡◌, ℕ, ◌+◌, Bool, true, false, List, [], ◌∷◌, ◌++◌, map, Option, Some, None, refl, subst}
 use Rattle.std.specs.Str.{bytes_eq}
 use Rattle.mo_syntax.specs.declared.expr.Expr.{Expr}
 use Rattle.mo_syntax.specs.declared.expr.ReferenceOf.{ReferenceOf}
@@ -12,12 +12,12 @@ use Rattle.mo_syntax.specs.declared.class.ModsOf.{ModsOf}
 use Rattle.mo_syntax.specs.declared.class.What.{What, What-F, out-What}
 use Rattle.mo_syntax.specs.declared.place.Place.{Place}
 use Rattle.mo_scope.specs.TreePlaces.{places_of_parts, places_in_body, places_in_give, places_in_what, places_in_element}
-use Rattle.mo_scope.specs.Places.{Every, IfAny, NameStands, ArgumentStands, ModifiersStand, ConstraintStands, DeclaresStand, ClauseStands, PartStands, RowStands, TableStands, GivenStands, FrameStands, SourcesStand, SourceStands, MemberStands, RedeclarationStands, SayingStands}
-use Rattle.mo_scope.specs.Rows.{Table, Row, row_at, number_of_element, Modifiers, no_modifiers, Constraint, constraint_in, Declares, declared_by, short_modifiers, Clause, is_class, is_short_redeclaration}
+use Rattle.mo_scope.specs.Places.{Every, IfAny, ArgumentStands, ModifiersStand, ConstraintStands, DeclaresStand, ClauseStands, RowStands, TableStands, GivenStands, FrameStands, SourcesStand, SourceStands, MemberStands, RedeclarationStands, SayingStands}
+use Rattle.mo_scope.specs.Rows.{Table, Row, row_at, Modifiers, Constraint, constraint_in, Declares, declared_by, short_modifiers, Clause, is_class, is_short_redeclaration}
 use Rattle.mo_scope.specs.Frames.{Given, Listed, Argued, Replacing, Origin, Frame, Top, In, Sources, No_source, Source_then, Source, Member, sources_of, listed, gathered}
-use Rattle.mo_scope.specs.Parts.{names_left, begins_with, nested, held, Redeclaration, Saying, Modifies, Redeclares, behind_name, said_behind, pending_behind, said_by_argument, said_in_list, said_further, said_by_elements, replacing_of, said, said_by_all, redeclarations_in, redeclarations, redeclared, first_of, with_list, or_own, brought, sources_said, parts, written, own_source, constraint_source, declared_sources, element_sources, through_component, component_sources, without_value, class_sources, replacing_source, clause_source, added_sources, base_sources, is_nothing}
-use Rattle.mo_scope.proofs.laws.Standing.{every_append, every_front, every_back, every_map, every_flat_map, every_weaker, each_flat_map, if_list, any_find}
-use Rattle.mo_scope.proofs.laws.TreeParts.{places_in_arguments, places_in_limit, by_give, by_what, by_body, at_give, at_what, at_element, at_body}
+use Rattle.mo_scope.specs.Parts.{names_left, begins_with, nested, held, Redeclaration, Saying, Modifies, Redeclares, said_behind, said_by_argument, said_in_list, said_further, said_by_elements, replacing_of, said, said_by_all, redeclarations_in, redeclarations, redeclared, first_of, with_list, or_own, brought, sources_said, parts, written, own_source, constraint_source, declared_sources, element_sources, through_component, component_sources, without_value, class_sources, replacing_source, clause_source, base_sources, is_nothing}
+use Rattle.mo_scope.proofs.laws.Standing.{every_append, every_front, every_back, every_map, every_flat_map, every_weaker, if_list, any_find}
+use Rattle.mo_scope.proofs.laws.TreeParts.{places_in_arguments, places_in_limit, by_what, at_give, at_what, at_element, at_body}
 
 -- ---- parts of trees
 
@@ -130,7 +130,7 @@ module _ (P : Place → Type 0) (table : Table) (stands : TableStands P table) w
       Every (SayingStands P) (said_in_list table source name index arguments)
   said_in_list_stand source name index arguments hs h =
       every_flat_map (SayingStands P) (said_by_argument table source name index) arguments
-        (every_weaker (ArgumentStands P) _ (said_by_argument_stand source name index hs) arguments h)
+      (every_weaker (ArgumentStands P) _ (said_by_argument_stand source name index hs) arguments h)
 
   said_further_stand : (source : Source) (name index : List ℕ) (argument : ArgumentOf Give) (passed : ℕ) → SourceStands P source → ArgumentStands P argument →
       Every (SayingStands P) (said_further table source name index argument passed)
@@ -142,8 +142,8 @@ module _ (P : Place → Type 0) (table : Table) (stands : TableStands P table) w
   said_by_elements_stand source name index [] hs h = tt
   said_by_elements_stand source name index (declares ∷ declared) hs h =
       every_append (SayingStands P) _ (said_by_elements source name index declared)
-        (if_list (SayingStands P) (bytes_eq declares.name name) _ _ (record { declares = h.0; place = h.0.place; source = (h.0.own, hs.1) }, tt) tt)
-        (said_by_elements_stand source name index declared hs h.1)
+      (if_list (SayingStands P) (bytes_eq declares.name name) _ _ (record { declares = h.0; place = h.0.place; source = (h.0.own, hs.1) }, tt) tt)
+      (said_by_elements_stand source name index declared hs h.1)
 
   pub held_stands : (given : Given) → GivenStands P given → ModifiersStand P (held given)
   held_stands (Listed modifiers) h = h
@@ -161,8 +161,8 @@ module _ (P : Place → Type 0) (table : Table) (stands : TableStands P table) w
       by (Listed modifiers) is h = rw is (said_in_list_stand source name index modifiers.list hs h)
       by (Argued argument passed) is h =
           rw is (every_append (SayingStands P) (said_further table source name index argument passed) _
-            (said_further_stand source name index argument passed hs h)
-            (said_in_list_stand source name index (held (Argued argument passed)).list hs (held_stands (Argued argument passed) h)))
+          (said_further_stand source name index argument passed hs h)
+          (said_in_list_stand source name index (held (Argued argument passed)).list hs (held_stands (Argued argument passed) h)))
       by (Replacing class) is h = rw is (said_by_elements_stand source name index (replacing_of table class) hs (replacing_stand class))
 
   pub said_by_all_stand : (name index : List ℕ) (sources : List Source) → Every (SourceStands P) sources → Every (SayingStands P) (said_by_all table name index sources)
@@ -172,7 +172,7 @@ module _ (P : Place → Type 0) (table : Table) (stands : TableStands P table) w
   pub redeclared_stands : (sources : List Source) (name index : List ℕ) → Every (SourceStands P) sources → IfAny (RedeclarationStands P) (redeclared table sources name index)
   redeclared_stands sources name index h =
       first_stands (RedeclarationStands P) (redeclarations table sources name index)
-        (redeclarations_stand P (said_by_all table name index sources) (said_by_all_stand name index sources h))
+      (redeclarations_stand P (said_by_all table name index sources) (said_by_all_stand name index sources h))
 
   -- ---- the sources of elements and bases
 
@@ -192,8 +192,8 @@ module _ (P : Place → Type 0) (table : Table) (stands : TableStands P table) w
   sources_said_stand wins (Modifies source ∷ sayings) h = (h.0, sources_said_stand wins sayings h.1)
   sources_said_stand wins (Redeclares redeclaration ∷ sayings) h =
       every_append (SourceStands P) (with_list redeclaration.source (brought wins redeclaration)) (sources_said false sayings)
-        (with_list_stand redeclaration.source (brought wins redeclaration) h.0.source (brought_stand wins redeclaration h.0))
-        (sources_said_stand false sayings h.1)
+      (with_list_stand redeclaration.source (brought wins redeclaration) h.0.source (brought_stand wins redeclaration h.0))
+      (sources_said_stand false sayings h.1)
 
   pub parts_stand : (sources : List Source) (name index : List ℕ) → Every (SourceStands P) sources → Every (SourceStands P) (parts table sources name index)
   parts_stand sources name index h = sources_said_stand true (said_by_all table name index sources) (said_by_all_stand name index sources h)
@@ -217,23 +217,23 @@ module _ (P : Place → Type 0) (table : Table) (stands : TableStands P table) w
       by None None is hl = rw is (if_list (SourceStands P) (is_class member.declares) _ _ tt (own_source_stand member index h))
       by None (Some limit) is hl =
           rw is (every_append (SourceStands P) _ (constraint_source member index limit)
-            (if_list (SourceStands P) (is_class member.declares) _ _ tt (own_source_stand member index h))
-            (constraint_source_stand member index limit h hl))
+          (if_list (SourceStands P) (is_class member.declares) _ _ tt (own_source_stand member index h))
+          (constraint_source_stand member index limit h hl))
       by (Some wins) None is hl = rw is (own_source_stand member index h)
       by (Some wins) (Some limit) is hl = rw is (constraint_source_stand member index limit h hl)
 
   pub element_sources_stand : (member : Member) (index : List ℕ) → MemberStands P member → Every (SourceStands P) (element_sources table member index)
   element_sources_stand member index h =
       every_append (SourceStands P) (parts table (sources_of member.home) member.name index) _
-        (parts_stand (sources_of member.home) member.name index (sources_stand P member.home h.home))
-        (declared_sources_stand member index _ h)
+      (parts_stand (sources_of member.home) member.name index (sources_stand P member.home h.home))
+      (declared_sources_stand member index _ h)
 
   pub component_sources_stand : (member : Member) (index : List ℕ) (type : Frame) → MemberStands P member → FrameStands P type →
       Every (SourceStands P) (component_sources table member index type)
   component_sources_stand member index type h ht =
       every_append (SourceStands P) (map through_component (element_sources table member index)) (sources_of type)
-        (every_map (SourceStands P) through_component (element_sources table member index) (element_sources_stand member index h))
-        (sources_stand P type ht)
+      (every_map (SourceStands P) through_component (element_sources table member index) (element_sources_stand member index h))
+      (sources_stand P type ht)
 
   without_value_stands : (source : Source) → SourceStands P source → SourceStands P (without_value source)
   without_value_stands source hs = by source.piece.given refl hs.0
@@ -251,7 +251,7 @@ module _ (P : Place → Type 0) (table : Table) (stands : TableStands P table) w
   pub class_sources_stand : (member : Member) → MemberStands P member → Every (SourceStands P) (class_sources table member)
   class_sources_stand member h =
       every_map (SourceStands P) without_value (element_sources table member [])
-        (every_weaker (SourceStands P) _ without_value_stands (element_sources table member []) (element_sources_stand member [] h))
+      (every_weaker (SourceStands P) _ without_value_stands (element_sources table member []) (element_sources_stand member [] h))
 
   replacing_source_stand : (frame : Frame) (row : Row) → FrameStands P frame → Every (SourceStands P) (replacing_source frame row)
   replacing_source_stand frame row hf = by row.replacing refl
@@ -268,6 +268,6 @@ module _ (P : Place → Type 0) (table : Table) (stands : TableStands P table) w
       Every (SourceStands P) (base_sources frame row clause base)
   base_sources_stand frame row clause base hf h hb =
       every_append (SourceStands P) (sources_of frame) _ (sources_stand P frame hf)
-        (every_append (SourceStands P) (replacing_source frame row ++ clause_source frame row clause) (sources_of base)
-          (every_append (SourceStands P) (replacing_source frame row) (clause_source frame row clause) (replacing_source_stand frame row hf) (clause_source_stand frame row clause hf h))
-          (sources_stand P base hb))
+      (every_append (SourceStands P) (replacing_source frame row ++ clause_source frame row clause) (sources_of base)
+      (every_append (SourceStands P) (replacing_source frame row) (clause_source frame row clause) (replacing_source_stand frame row hf) (clause_source_stand frame row clause hf h))
+      (sources_stand P base hb))

@@ -1,8 +1,6 @@
 -- The class table stands where the places of the files stand.
-use Rattle.std.proofs.Common.{◌≡◌, ℕ, ◌+◌, Bool, true, false, ◌&&◌, List, [], ◌∷◌, ◌++◌, map, flat_map, Option, Some, None, refl, sym, subst, if◌then◌else◌}
+use Rattle.std.proofs.Common.{◌≡◌, ℕ, ◌+◌, false, ◌&&◌, List, [], ◌∷◌, ◌++◌, map, flat_map, refl, sym, subst}
 use Rattle.mo_syntax.specs.declared.place.Place.{Place}
-use Rattle.mo_syntax.specs.declared.expr.ReferenceOf.{ReferenceOf}
-use Rattle.mo_syntax.specs.declared.expr.Expr.{Expr}
 use Rattle.mo_syntax.specs.declared.class.Body.{Body, Body-F, out-Body}
 use Rattle.mo_syntax.specs.declared.class.Element.{Element, out-Element}
 use Rattle.mo_syntax.specs.declared.class.ExtendsOf.{ExtendsOf}
@@ -10,13 +8,12 @@ use Rattle.mo_syntax.specs.declared.class.FileTree.{FileTree}
 use Rattle.mo_syntax.specs.declared.class.Give.{Give}
 use Rattle.mo_syntax.specs.declared.class.Item.{Item, Item-F, out-Item}
 use Rattle.mo_syntax.specs.declared.class.Item.TheVariants.{outs-Extends}
-use Rattle.mo_syntax.specs.declared.class.ModsOf.{ModsOf}
 use Rattle.mo_syntax.specs.declared.class.What.{What}
 use Rattle.mo_syntax.specs.Classes.{Home, Under, Inside, Apart, ClassRow, Declared, Component, Class, Declaration, outline_of_item}
 use Rattle.mo_syntax.specs.ClassTable.{Numbered, numbered, own_parts, declarations, placed_under, path_eq}
-use Rattle.mo_scope.specs.TreePlaces.{places_of_parts, place_of_import, places_in_body, places_in_item, places_in_element, places_in_class, places_in_files}
-use Rattle.mo_scope.specs.Places.{Every, IfAny, DeclaresStand, ClauseStands, PartStands, ImportStands, RowStands, TableStands}
-use Rattle.mo_scope.specs.Rows.{Table, Row, Part, Declares, declared_by, part_of, placed_part, placed_in, parts_in, replacing_in, import_in, row_of, rows_of_declaration, table_of}
+use Rattle.mo_scope.specs.TreePlaces.{places_of_parts, places_in_item, places_in_class, places_in_files}
+use Rattle.mo_scope.specs.Places.{Every, DeclaresStand, PartStands, ImportStands, RowStands, TableStands}
+use Rattle.mo_scope.specs.Rows.{part_of, placed_part, placed_in, replacing_in, import_in, row_of, rows_of_declaration, table_of}
 use Rattle.mo_scope.proofs.laws.Standing.{every_append, every_front, every_back, every_map, every_flat_map, every_weaker, if_list}
 use Rattle.mo_scope.proofs.laws.TreeParts.{places_in_arguments, places_in_extending, at_body, at_item}
 use Rattle.mo_scope.proofs.laws.Sources.{arguments_stand, short_stands, element_stands}
@@ -49,10 +46,13 @@ module _ (P : Place → Type 0) where
       by (Item-F.Import clause) is = rw is tt
       by (Item-F.Extends clause) is =
           let inside : Every P (places_of_parts clause.base.parts ++ places_in_arguments clause.mods.0) = subst (Every P) (at_item part.item _ is) h in
-          rw is (record {
-            base = every_front P (places_of_parts clause.base.parts) (places_in_arguments clause.mods.0) inside;
-            arguments = arguments_stand P clause.mods.0 (every_back P (places_of_parts clause.base.parts) (places_in_arguments clause.mods.0) inside);
-          }, tt)
+          rw is (
+            record {
+              base = every_front P (places_of_parts clause.base.parts) (places_in_arguments clause.mods.0) inside;
+              arguments = arguments_stand P clause.mods.0 (every_back P (places_of_parts clause.base.parts) (places_in_arguments clause.mods.0) inside);
+            },
+            tt,
+          )
       by (Item-F.Member element) is =
           rw is (if_list (PartStands P) (out-Element element).flags.redeclare _ _ tt (element_stands P element _ (subst (Every P) (at_item part.item _ is) h), tt))
       by (Item-F.Equations initial equations) is = rw is tt
@@ -110,8 +110,8 @@ module _ (P : Place → Type 0) where
   row_of_stands files home row hf h = record {
     place = h.0;
     parts = every_append (PartStands P) (flat_map part_of (own_parts row)) (map placed_part (placed_in files home row.class.name))
-      (every_flat_map (PartStands P) part_of (own_parts row) (every_weaker NumberedStands _ part_of_stands (own_parts row) (own_parts_stand row h)))
-      (every_map (PartStands P) placed_part (placed_in files home row.class.name)
+        (every_flat_map (PartStands P) part_of (own_parts row) (every_weaker NumberedStands _ part_of_stands (own_parts row) (own_parts_stand row h)))
+        (every_map (PartStands P) placed_part (placed_in files home row.class.name)
         (every_weaker RowPlacesStand _ placed_part_stands (placed_in files home row.class.name) (placed_in_stand files home row.class.name hf)));
     replacing = every_flat_map (DeclaresStand P) replacing_in (own_parts row) (every_weaker NumberedStands _ replacing_in_stand (own_parts row) (own_parts_stand row h));
     imports = every_flat_map (ImportStands P) import_in (own_parts row) (every_weaker NumberedStands _ import_in_stands (own_parts row) (own_parts_stand row h));
@@ -128,4 +128,4 @@ module _ (P : Place → Type 0) where
   pub table_stands : (files : List FileTree) → Every P (places_in_files files) → TableStands P (table_of files)
   table_stands files h =
       every_flat_map (RowStands P) (rows_of_declaration files) (declarations files)
-        (every_weaker (DeclarationStands P) _ (rows_stand files h) (declarations files) (declarations_stand P files h))
+      (every_weaker (DeclarationStands P) _ (rows_stand files h) (declarations files) (declarations_stand P files h))

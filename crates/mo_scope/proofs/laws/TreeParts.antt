@@ -1,5 +1,5 @@
 -- The places in the parts of a tree, by its own parts.
-use Rattle.std.proofs.Common.{◌≡◌, ℕ, Bool, List, [], ◌∷◌, ◌++◌, map, flat_map, Option, Some, None, refl, ap, sym, subst, ◌∙◌}
+use Rattle.std.proofs.Common.{◌≡◌, List, [], ◌∷◌, ◌++◌, map, flat_map, Option, Some, None, refl, ap, sym, ◌∙◌}
 use Rattle.mo_syntax.specs.declared.expr.Expr.{Expr}
 use Rattle.mo_syntax.specs.declared.expr.ReferenceOf.{ReferenceOf}
 use Rattle.mo_syntax.specs.declared.class.ArgumentOf.{ArgumentOf}
@@ -10,8 +10,7 @@ use Rattle.mo_syntax.specs.declared.class.Give.{Give, Give-F, out-Give, roll-Giv
 use Rattle.mo_syntax.specs.declared.class.Item.{Item, Item-F, out-Item, roll-Item, roll-out-Item, fold-roll-Item}
 use Rattle.mo_syntax.specs.declared.class.ModsOf.{ModsOf}
 use Rattle.mo_syntax.specs.declared.class.What.{What, What-F, out-What, roll-What, roll-out-What, fold-roll-What}
-use Rattle.mo_syntax.specs.declared.place.Place.{Place}
-use Rattle.mo_scope.specs.TreePlaces.{Places, places_of_parts, place_of_import, in_arguments, in_body, in_give, in_item, in_what, in_element, in_limit, places_in_body, places_in_give, places_in_item, places_in_what, places_in_element}
+use Rattle.mo_scope.specs.TreePlaces.{Places, places_of_parts, place_of_import, in_body, in_give, in_item, in_what, in_element, places_in_body, places_in_give, places_in_item, places_in_what, places_in_element}
 
 pub gathered_map : {A B C : Type 0} (f : B → List C) (g : A → B) (xs : List A) → flat_map f (map g xs) ≡ flat_map (λ x. f (g x)) xs
 gathered_map f g [] = refl

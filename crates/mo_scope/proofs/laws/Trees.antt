@@ -1,5 +1,5 @@
 -- What the classes in the trees of files hold stands where the places of the files stand.
-use Rattle.std.proofs.Common.{◌≡◌, ℕ, ◌+◌, Bool, true, false, List, [], ◌∷◌, ◌++◌, map, flat_map, Option, Some, None, refl, ap, sym, ◌∙◌, subst}
+use Rattle.std.proofs.Common.{◌≡◌, ℕ, ◌+◌, Bool, true, false, List, [], ◌∷◌, ◌++◌, map, flat_map, Option, Some, None, ap, sym, ◌∙◌, subst}
 use Rattle.mo_syntax.specs.declared.place.Place.{Place}
 use Rattle.mo_syntax.specs.declared.class.ClassDefOf.{ClassDefOf}
 use Rattle.mo_syntax.specs.declared.expr.Expr.{Expr}
@@ -8,7 +8,7 @@ use Rattle.mo_syntax.specs.declared.class.ArgumentOf.{ArgumentOf}
 use Rattle.mo_syntax.specs.declared.class.Body.{Body, Body-F, roll-Body, map-Body, ind-Body, out-roll-Body}
 use Rattle.mo_syntax.specs.declared.class.Body.TheVariants.{rolls-Long, rolls-Short, rolls-Enumeration, rolls-Der}
 use Rattle.mo_syntax.specs.declared.class.ComponentOf.{ComponentOf}
-use Rattle.mo_syntax.specs.declared.class.Element.{Element, Element-F, out-Element, roll-Element, map-Element, out-roll-Element}
+use Rattle.mo_syntax.specs.declared.class.Element.{Element, Element-F, roll-Element, map-Element}
 use Rattle.mo_syntax.specs.declared.class.ElementFlags.{ElementFlags}
 use Rattle.mo_syntax.specs.declared.class.ExtendsOf.{ExtendsOf}
 use Rattle.mo_syntax.specs.declared.class.FileTree.{FileTree}
@@ -19,14 +19,14 @@ use Rattle.mo_syntax.specs.declared.class.Give.TheVariants.{rolls-Modify, rolls-
 use Rattle.mo_syntax.specs.declared.class.ModsOf.{ModsOf}
 use Rattle.mo_syntax.specs.declared.class.What.{What, What-F, roll-What, map-What, out-roll-What}
 use Rattle.mo_syntax.specs.declared.class.What.TheVariants.{rolls-Class, rolls-Component}
-use Rattle.mo_syntax.specs.Classes.{Home, Under, Inside, Apart, ClassRow, Declared, Component, Class, Declaration, Outline, Outlined, nothing, both, each, apart, in_class, outline_of_body, outline_of_give, outline_of_item, outline_of_what, outline_of_element}
+use Rattle.mo_syntax.specs.Classes.{Home, Under, Inside, Apart, Declared, Component, Class, Declaration, Outline, Outlined, nothing, both, each, apart, in_class, outline_of_body, outline_of_give, outline_of_item, outline_of_what, outline_of_element}
 use Rattle.mo_syntax.specs.ClassTable.{with_outline, in_file, declarations}
-use Rattle.mo_syntax.specs.Parts.{marked, declares, outline_of_mods, outline_of_class}
+use Rattle.mo_syntax.specs.Parts.{marked, declares, outline_of_mods}
 use Rattle.mo_syntax.proofs.Outlines.{rolled, at_Long, at_Short, at_Enumeration, at_Der, at_Modify, at_Redeclare, at_Replaceable, at_Import, at_Extends, at_Member, at_Equations, at_Algorithm, at_Class, at_Component}
 use Rattle.mo_scope.specs.TreePlaces.{Places, places_of_parts, place_of_import, places_in_body, places_in_give, places_in_item, places_in_what, places_in_element, places_in_class, places_in_files}
 use Rattle.mo_scope.specs.Places.{Every}
 use Rattle.mo_scope.proofs.laws.Standing.{every_append, every_front, every_back}
-use Rattle.mo_scope.proofs.laws.TreeParts.{places_in_arguments, places_in_limit, at_give, at_what, rolled as at_rolled, at_body, at_item}
+use Rattle.mo_scope.proofs.laws.TreeParts.{places_in_arguments, at_give, at_what, rolled as at_rolled, at_body, at_item}
 
 module _ (P : Place → Type 0) where
   abbrev pub DeclaredStands : Declared → Type 0
@@ -97,7 +97,7 @@ module _ (P : Place → Type 0) where
   kept_arguments [] = kept_nothing []
   kept_arguments (t ∷ ts) =
       kept_both (t.place ∷ places_in_give t.give.0) (places_in_arguments (map argument_of ts)) (outline_of_give t.give.0) (each (λ argument. outline_of_give argument.give) (map argument_of ts))
-        (kept_behind (t.place ∷ []) (places_in_give t.give.0) (outline_of_give t.give.0) t.give.1) (kept_arguments ts)
+      (kept_behind (t.place ∷ []) (places_in_give t.give.0) (outline_of_give t.give.0) t.give.1) (kept_arguments ts)
 
   abbrev mods_of : ModsOf KeptGive → ModsOf Give
   mods_of mods = record { 0 = map argument_of mods.0 }
@@ -112,17 +112,17 @@ module _ (P : Place → Type 0) where
   step_body (Body-F.Long None items external) =
       let inside : List Item = map (λ t. t.0) items in
       kept_as _ _ _ _ (at_body _ (Body-F.Long None inside external) (out-roll-Body (Body-F.Long None inside external)))
-        (ap outline_of_body (rolls-Long None inside external) ∙ at_Long None inside external)
-        (kept_both [] (flat_map places_in_item inside) nothing (each outline_of_item inside) (kept_nothing []) (kept_items items))
+      (ap outline_of_body (rolls-Long None inside external) ∙ at_Long None inside external)
+      (kept_both [] (flat_map places_in_item inside) nothing (each outline_of_item inside) (kept_nothing []) (kept_items items))
   step_body (Body-F.Long (Some mods) items external) =
       let inside : List Item = map (λ t. t.0) items in
       kept_as _ _ _ _ (at_body _ (Body-F.Long (Some (mods_of mods)) inside external) (out-roll-Body (Body-F.Long (Some (mods_of mods)) inside external)))
-        (ap outline_of_body (rolls-Long (Some (mods_of mods)) inside external) ∙ at_Long (Some (mods_of mods)) inside external)
-        (kept_both (places_in_arguments (map argument_of mods.0)) (flat_map places_in_item inside) (outline_of_mods (mods_of mods)) (each outline_of_item inside) (kept_mods mods) (kept_items items))
+      (ap outline_of_body (rolls-Long (Some (mods_of mods)) inside external) ∙ at_Long (Some (mods_of mods)) inside external)
+      (kept_both (places_in_arguments (map argument_of mods.0)) (flat_map places_in_item inside) (outline_of_mods (mods_of mods)) (each outline_of_item inside) (kept_mods mods) (kept_items items))
   step_body (Body-F.Short causal base subs mods) =
       kept_as _ _ _ _ (at_body _ (Body-F.Short causal base subs (mods_of mods)) (out-roll-Body (Body-F.Short causal base subs (mods_of mods))))
-        (ap outline_of_body (rolls-Short causal base subs (mods_of mods)) ∙ at_Short causal base subs (mods_of mods))
-        (kept_behind (places_of_parts base.parts) (places_in_arguments (map argument_of mods.0)) (outline_of_mods (mods_of mods)) (kept_mods mods))
+      (ap outline_of_body (rolls-Short causal base subs (mods_of mods)) ∙ at_Short causal base subs (mods_of mods))
+      (kept_behind (places_of_parts base.parts) (places_in_arguments (map argument_of mods.0)) (outline_of_mods (mods_of mods)) (kept_mods mods))
   step_body (Body-F.Enumeration literals) =
       kept_as _ [] _ _ (at_body _ (Body-F.Enumeration literals) (out-roll-Body (Body-F.Enumeration literals))) (ap outline_of_body (rolls-Enumeration literals) ∙ at_Enumeration literals) (kept_nothing [])
   step_body (Body-F.Der function names) =
@@ -134,7 +134,7 @@ module _ (P : Place → Type 0) where
   step_give : (node : Give-F KeptBody KeptGive KeptItem KeptWhat KeptElement) → Kept (places_in_give (give_of node)) (outline_of_give (give_of node))
   step_give (Give-F.Modify mods value) =
       kept_as _ _ _ _ (at_give _ (Give-F.Modify (mods_of mods) value) (out-roll-Give (Give-F.Modify (mods_of mods) value)))
-        (ap outline_of_give (rolls-Modify (mods_of mods) value) ∙ at_Modify (mods_of mods) value) (kept_mods mods)
+      (ap outline_of_give (rolls-Modify (mods_of mods) value) ∙ at_Modify (mods_of mods) value) (kept_mods mods)
   step_give (Give-F.Redeclare element) =
       kept_as _ _ _ _ (at_give _ (Give-F.Redeclare element.0) (out-roll-Give (Give-F.Redeclare element.0))) (ap outline_of_give (rolls-Redeclare element.0) ∙ at_Redeclare element.0) element.1
   step_give (Give-F.Replaceable element) =
@@ -149,7 +149,7 @@ module _ (P : Place → Type 0) where
   step_item (Item-F.Extends clause) =
       let inside : ExtendsOf Give = record { base = clause.base; mods = mods_of clause.mods; hidden = clause.hidden } in
       kept_as _ _ _ _ (at_item _ (Item-F.Extends inside) (out-roll-Item (Item-F.Extends inside))) (ap outline_of_item (rolls-Extends inside) ∙ at_Extends inside)
-        (kept_behind (places_of_parts clause.base.parts) (places_in_arguments (map argument_of clause.mods.0)) (outline_of_mods (mods_of clause.mods)) (kept_mods clause.mods))
+      (kept_behind (places_of_parts clause.base.parts) (places_in_arguments (map argument_of clause.mods.0)) (outline_of_mods (mods_of clause.mods)) (kept_mods clause.mods))
   step_item (Item-F.Member element) =
       kept_as _ _ _ _ (at_item _ (Item-F.Member element.0) (out-roll-Item (Item-F.Member element.0))) (ap outline_of_item (rolls-Member element.0) ∙ at_Member element.0) element.1
   step_item (Item-F.Equations initial equations) =
@@ -164,7 +164,7 @@ module _ (P : Place → Type 0) where
   step_what (What-F.Class class) =
       let inside : ClassDefOf Body = record { kind = class.kind; flags = class.flags; name = class.name; place = class.place; body = class.body.0 } in
       kept_as _ _ _ _ (at_what _ (What-F.Class inside) (out-roll-What (What-F.Class inside))) (ap outline_of_what (rolls-Class inside) ∙ at_Class inside)
-        (kept_class false (with_outline inside) class.body.1)
+      (kept_class false (with_outline inside) class.body.1)
   step_what (What-F.Component component) =
       let inside : ComponentOf Give = record {
         prefix = component.prefix;
@@ -178,8 +178,8 @@ module _ (P : Place → Type 0) where
         condition = component.condition;
       } in
       kept_as _ _ _ _ (at_what _ (What-F.Component inside) (out-roll-What (What-F.Component inside))) (ap outline_of_what (rolls-Component inside) ∙ at_Component inside)
-        (kept_behind (component.place ∷ places_of_parts component.base.parts) (places_in_arguments (map argument_of component.mods.0)) (declares component.name component.place (outline_of_mods (mods_of component.mods)))
-          (kept_declares (places_in_arguments (map argument_of component.mods.0)) component.name component.place (outline_of_mods (mods_of component.mods)) (kept_mods component.mods)))
+      (kept_behind (component.place ∷ places_of_parts component.base.parts) (places_in_arguments (map argument_of component.mods.0)) (declares component.name component.place (outline_of_mods (mods_of component.mods)))
+      (kept_declares (places_in_arguments (map argument_of component.mods.0)) component.name component.place (outline_of_mods (mods_of component.mods)) (kept_mods component.mods)))
 
   abbrev element_of : Element-F KeptBody KeptGive KeptItem KeptWhat KeptElement → Element
   element_of node = roll-Element (map-Element KeptBody KeptGive KeptItem KeptWhat KeptElement Body Give Item What Element (λ t. t.0) (λ t. t.0) (λ t. t.0) (λ t. t.0) (λ t. t.0) node)
@@ -191,17 +191,17 @@ module _ (P : Place → Type 0) where
           Kept (places_in_element (element_of (record { flags = flags; what = what; limit = limit }))) (outline_of_element (element_of (record { flags = flags; what = what; limit = limit })))
       at_limit flags what None =
           kept_as _ _ _ _
-            (at_rolled flags what.0 None)
-            (rolled flags what.0 None)
-            (kept_both (places_in_what what.0) [] (marked flags.redeclare (outline_of_what what.0)) nothing
-              (kept_marked (places_in_what what.0) flags.redeclare (outline_of_what what.0) what.1) (kept_nothing []))
+          (at_rolled flags what.0 None)
+          (rolled flags what.0 None)
+          (kept_both (places_in_what what.0) [] (marked flags.redeclare (outline_of_what what.0)) nothing
+          (kept_marked (places_in_what what.0) flags.redeclare (outline_of_what what.0) what.1) (kept_nothing []))
       at_limit flags what (Some limit) =
           kept_as _ _ _ _
-            (at_rolled flags what.0 (Some (limit.0, mods_of limit.1)))
-            (rolled flags what.0 (Some (limit.0, mods_of limit.1)))
-            (kept_both (places_in_what what.0) (places_of_parts limit.0.parts ++ places_in_arguments (map argument_of limit.1.0)) (marked flags.redeclare (outline_of_what what.0)) (outline_of_mods (mods_of limit.1))
-              (kept_marked (places_in_what what.0) flags.redeclare (outline_of_what what.0) what.1)
-              (kept_behind (places_of_parts limit.0.parts) (places_in_arguments (map argument_of limit.1.0)) (outline_of_mods (mods_of limit.1)) (kept_mods limit.1)))
+          (at_rolled flags what.0 (Some (limit.0, mods_of limit.1)))
+          (rolled flags what.0 (Some (limit.0, mods_of limit.1)))
+          (kept_both (places_in_what what.0) (places_of_parts limit.0.parts ++ places_in_arguments (map argument_of limit.1.0)) (marked flags.redeclare (outline_of_what what.0)) (outline_of_mods (mods_of limit.1))
+          (kept_marked (places_in_what what.0) flags.redeclare (outline_of_what what.0) what.1)
+          (kept_behind (places_of_parts limit.0.parts) (places_in_arguments (map argument_of limit.1.0)) (outline_of_mods (mods_of limit.1)) (kept_mods limit.1)))
 
   kept_body : (body : Body) → Kept (places_in_body body) (outline_of_body body)
   kept_body = ind-Body (λ b. Kept (places_in_body b) (outline_of_body b)) (λ g. Kept (places_in_give g) (outline_of_give g)) (λ i. Kept (places_in_item i) (outline_of_item i))
@@ -218,13 +218,13 @@ module _ (P : Place → Type 0) where
   kept_classes [] = kept_nothing []
   kept_classes (class ∷ classes) =
       kept_both (places_in_class class) (flat_map places_in_class classes) (in_class true (with_outline class)) (each (λ class. in_class true (with_outline class)) classes)
-        (kept_class true (with_outline class) (kept_body class.body)) (kept_classes classes)
+      (kept_class true (with_outline class) (kept_body class.body)) (kept_classes classes)
 
   kept_files : (files : List FileTree) → Kept (places_in_files files) (each in_file files)
   kept_files [] = kept_nothing []
   kept_files (file ∷ files) =
       kept_both (flat_map places_in_class file.classes) (places_in_files files) (in_file file) (each in_file files)
-        (λ h home n. kept_classes file.classes h (Under _) n) (kept_files files)
+      (λ h home n. kept_classes file.classes h (Under _) n) (kept_files files)
 
   pub declarations_stand : (files : List FileTree) → Every P (places_in_files files) → Every DeclarationStands (declarations files)
   declarations_stand files h = kept_files files h Apart _
