@@ -1,13 +1,15 @@
 pub mod Arguments
 pub mod Compatible
+pub mod Entries
 pub mod Frames
+pub mod Insides
 pub mod Lookup
 pub mod Names
 pub mod Outcome
 pub mod Parts
+pub mod Places
 pub mod Rows
 pub mod Sights
-pub mod Places
 pub mod Sizes
-pub mod Worlds
 pub mod TreePlaces
+pub mod Worlds

@@ -93,6 +93,16 @@ pub record IsEntry (classes n : ℕ) (entry : FrameEntry) : Type 0 where
   pub outer : (m : ℕ) → entry.outer ≡ Some m → m < n
   pub owner : (m : ℕ) → entry.owner ≡ Some m → m < n
 
+-- the frames of some sources exist, and so does a frame that may be missing
+abbrev pub AreFrames : World → List SourceEntry → Type 0
+AreFrames world sources = (k : ℕ) (source : SourceEntry) → slice_get sources k ≡ Some source → IsFrame world source.frame
+
+abbrev pub AreHomes : World → List MemberEntry → Type 0
+AreHomes world members = (k : ℕ) (member : MemberEntry) → slice_get members k ≡ Some member → IsFrame world member.home
+
+abbrev pub IsFrameOrNone : World → Option ℕ → Type 0
+IsFrameOrNone world frame = (m : ℕ) → frame ≡ Some m → IsFrame world m
+
 -- ---- what stays
 
 -- The files stay, and each frame keeps its number: frames and tables are only added.
@@ -110,7 +120,7 @@ kept_table world n = get_or world.tables n None
 -- the table is the list of the elements of its frame, and the frames that declare them exist
 pub record IsTable (world : World) (n : ℕ) (members : List MemberEntry) : Type 0 where
   pub elements : elements_of (table_in world) (frame_at world n) ≡ Ok (map (member_in (frames_of world)) members)
-  pub homes : (k : ℕ) (member : MemberEntry) → slice_get members k ≡ Some member → IsFrame world member.home
+  pub homes : AreHomes world members
 
 pub record IsSound (world : World) : Type 0 where
   pub entries : (n : ℕ) (entry : FrameEntry) → slice_get world.entries n ≡ Some entry → IsEntry (number_of_classes (table_in world)) n entry

@@ -1,17 +1,22 @@
-//! Frames, scopes and sources.
+//! Frames, scopes and sources, and the definitions of what names mean (Modelica Language Specification 3.5, sections 5.3,
+//! 5.4, 5.6, 7.1 to 7.3 and 13.2).
+//!
+//! - `Scopes`: frames by number. `enter` makes one; `class_of`, `sources`, `outer`, `path` and `owner` read it; `keep` and
+//!   `table` hold the table of its elements.
+//! - `Source`: what modifies a class, by reference into the class tree.
+//! - `Row`, `Declares`, `Member`: a class with what it declares, and an element of a frame.
+//!
+//! `specs/` has the definitions of elements, lookup, children, arguments and compatibility. They speak of frames as trees;
+//! `specs/Worlds.antt` says which tree a number stands for.
 #![tactic(auto)]
 
+mod frame;
 mod row;
+mod scopes;
 mod source;
+mod table;
 
 pub use row::{Clause, Constraint, Declares, Home, Member, Part, Row, Sort};
+pub use scopes::Scopes;
 pub use source::{Given, Listing, Modifiers, Origin, Picked, ScopeAt, Source};
-
-ghost use Rattle.std.specs.Prelude.{◌≡◌};
-
-/// Zero.
-pub fn zero() -> u8
-    ensures { result ≡ 0 }
-{
-    0
-}
+pub use table::MemberTable;

@@ -1,0 +1,15 @@
+-- What `Scopes` holds inside, as data.
+use Rattle.std.specs.Prelude.{map}
+use Rattle.mo_scope.specs.declared.scopes.Scopes.TheInside.{Inside}
+use Rattle.mo_scope.specs.Worlds.{World, IsSound}
+use Rattle.mo_scope.specs.Entries.{entry_seen, table_seen}
+
+abbrev pub world_of : Inside → World
+world_of scopes = record {
+  files = scopes.tree.now.files;
+  entries = map entry_seen scopes.frames.items;
+  tables = map table_seen scopes.frames.items;
+}
+
+abbrev pub IsSoundInside : Inside → Type 0
+IsSoundInside scopes = IsSound (world_of scopes)

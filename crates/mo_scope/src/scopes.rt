@@ -1,0 +1,175 @@
+//! Frames by number, and the tables of their elements.
+ghost use Rattle.std.specs.Prelude.{◌≡◌, List as Seq, ◌+◌, ◌<◌, [], ◌∷◌, ◌++◌, length, map, Some, None, option_map, slice_get, IfOk, IfSome, OnOk, OnErr, IsTrue, IsNone, ◌↔◌, set, option_copied};
+ghost use Rattle.mo_scope.specs.Frames.{Frame, class_of, sources_of, outer_of, at_of, owner_of, is_top, In, gathered};
+ghost use Rattle.mo_scope.specs.Rows.{number_of_classes};
+ghost use Rattle.mo_scope.specs.Names.{elements_of};
+ghost use Rattle.mo_scope.specs.Sights.{source_seen};
+ghost use Rattle.mo_scope.specs.Entries.{entry_seen, table_seen, number_of, names_of};
+ghost use Rattle.mo_scope.specs.Worlds.{MemberEntry, IsTable, AreFrames, AreHomes, kept_table, member_in, IsFrameOrNone, IsFrame, IsEntry, Grows, frame_at, frame_of_entry, frames_of, frame_or_top, sources_in, table_in};
+
+use crate::frame::FrameData;
+use crate::source::Source;
+use crate::table::MemberTable;
+use mo_syntax::{ClassId, ClassTree, FrameId, InstancePath, List, NoMemory};
+use std::alloc::Global;
+use std::marker::Model;
+
+/// Frames by number, and the tables of their elements.
+#[derive(Drop)]
+pub struct Scopes<'t> {
+    tree: &'t ClassTree,
+    frames: Vec<FrameData<'t>>,
+}
+
+impl<'t> Model for Scopes<'t> {
+    ghost use Rattle.mo_scope.specs.Worlds.{World};
+    ghost use Rattle.mo_syntax.specs.contracts.class.Body as body;
+    ghost use Rattle.mo_syntax.specs.contracts.class.Give as give;
+    ghost use Rattle.mo_syntax.specs.contracts.class.What as what;
+    ghost use Rattle.mo_syntax.specs.contracts.expr.Expr as expr;
+    ghost use Rattle.std.specs.Coded.{codes};
+
+    ghost Value = { World };
+
+    ghost coded = { Prim.hlevel (codes, body.the_row.coded, give.the_row.coded, what.the_row.coded, expr.the_row.coded) };
+
+    ghost use Rattle.mo_scope.specs.Insides.{world_of, IsSoundInside};
+
+    ghost view = { world_of };
+
+    ghost invariant = { IsSoundInside };
+}
+
+impl<'t> Scopes<'t> {
+    /// No frames, of that class tree.
+    pub fn new(alloc: Global, tree: &'t ClassTree) -> Result<Scopes<'t>, NoMemory>
+        ensures files { IfOk result (λ scopes. scopes.files ≡ tree.now.files) }
+        ensures entries { IfOk result (λ scopes. scopes.entries ≡ []) }
+    {
+        Ok(Scopes {
+            tree,
+            frames: Vec::new(alloc),
+        })
+    }
+
+    /// The class tree that the frames are of.
+    pub fn tree(&self) -> &'t ClassTree
+        ensures { result.now.files ≡ self.now.files }
+    {
+        self.tree
+    }
+
+    /// Enters a class: a new number for that frame. The numbers before keep their frames, after a refusal too.
+    pub fn enter(
+        &mut self,
+        _alloc: Global,
+        class: ClassId,
+        sources: List<Source<'t>>,
+        outer: Option<FrameId>,
+        at: Option<InstancePath>,
+        owner: Option<FrameId>,
+    ) -> Result<FrameId, NoMemory>
+        requires class { class.0 < number_of_classes (table_in self.old) }
+        requires sources { AreFrames self.old (map source_seen sources) }
+        requires outer { IsFrameOrNone self.old (option_map number_of outer) }
+        requires owner { IsFrameOrNone self.old (option_map number_of owner) }
+        ensures grows { Grows self.old self.new }
+        ensures number { IfOk result (λ frame. frame.0 ≡ length self.old.entries) }
+        ensures exists { IfOk result (λ frame. IsFrame self.new frame.0) }
+        ensures is { IfOk result (λ frame. frame_at self.new frame.0 ≡ In class.0 (gathered (sources_in (frames_of self.old) (map source_seen sources.entry))) (frame_or_top (frames_of self.old) (option_map number_of outer)) (option_map names_of at) (frame_or_top (frames_of self.old) (option_map number_of owner))) }
+        ensures err { OnErr result (self.new ≡ self.old) }
+    {
+        let number = self.frames.len();
+        if number >= 4294967295 {
+            return Err(NoMemory);
+        }
+        self.frames.push(FrameData {
+            class,
+            sources,
+            outer,
+            at,
+            owner,
+            table: None,
+        })?;
+        Ok(FrameId(number as u32))
+    }
+
+    /// What is held of a frame.
+    fn entry(&self, frame: FrameId) -> &FrameData<'t>
+        requires { IsFrame self.now frame.0 }
+        ensures at { slice_get self.now.entries frame.0 ≡ Some (entry_seen result.now) }
+        ensures sound { IsEntry (number_of_classes (table_in self.now)) frame.0 (entry_seen result.now) }
+        ensures is { frame_at self.now frame.0 ≡ frame_of_entry (frames_of self.now) (entry_seen result.now) }
+        ensures kept { kept_table self.now frame.0 ≡ table_seen result.now }
+        ensures table { (members : Seq MemberEntry) → table_seen result.now ≡ Some members → IsTable self.now frame.0 members }
+    {
+        &self.frames[frame.0 as usize]
+    }
+
+    /// The class of a frame.
+    pub fn class_of(&self, frame: FrameId) -> ClassId
+        requires { IsFrame self.now frame.0 }
+        ensures is { result.0 ≡ class_of (frame_at self.now frame.0) }
+        ensures exists { result.0 < number_of_classes (table_in self.now) }
+    {
+        self.entry(frame).class
+    }
+
+    /// The sources of a frame, outermost first.
+    pub fn sources(&self, frame: FrameId) -> &List<Source<'t>>
+        requires { IsFrame self.now frame.0 }
+        ensures is { sources_in (frames_of self.now) (map source_seen result.now) ≡ sources_of (frame_at self.now frame.0) }
+        ensures exist { AreFrames self.now (map source_seen result.now) }
+    {
+        &self.entry(frame).sources
+    }
+
+    /// The frame around a frame, None where this is the top.
+    pub fn outer(&self, frame: FrameId) -> Option<FrameId>
+        requires { IsFrame self.now frame.0 }
+        ensures is { frame_or_top (frames_of self.now) (option_map number_of result) ≡ outer_of (frame_at self.now frame.0) }
+        ensures exists { IfSome result (λ outer. IsFrame self.now outer.0) }
+        ensures top { IsNone result ↔ IsTrue (is_top (outer_of (frame_at self.now frame.0))) }
+    {
+        self.entry(frame).outer
+    }
+
+    /// The instance path of a frame, None where it has none.
+    pub fn path(&self, frame: FrameId) -> Option<&InstancePath>
+        requires { IsFrame self.now frame.0 }
+        ensures { option_map (λ path. path.now.0) result ≡ at_of (frame_at self.now frame.0) }
+    {
+        self.entry(frame).at.as_ref()
+    }
+
+    /// The owner of a frame, None where it has none.
+    pub fn owner(&self, frame: FrameId) -> Option<FrameId>
+        requires { IsFrame self.now frame.0 }
+        ensures is { frame_or_top (frames_of self.now) (option_map number_of result) ≡ owner_of (frame_at self.now frame.0) }
+        ensures exists { IfSome result (λ owner. IsFrame self.now owner.0) }
+        ensures top { IsNone result ↔ IsTrue (is_top (owner_of (frame_at self.now frame.0))) }
+    {
+        self.entry(frame).owner
+    }
+
+    /// The table of a frame's elements, None where none was kept.
+    pub fn table(&self, frame: FrameId) -> Option<&MemberTable<'t>>
+        requires { IsFrame self.now frame.0 }
+        ensures is { option_copied result ≡ kept_table self.now frame.0 }
+        ensures elements { IfSome result (λ table. elements_of (table_in self.now) (frame_at self.now frame.0) ≡ Ok (map (member_in (frames_of self.now)) table.now)) }
+        ensures homes { IfSome result (λ table. AreHomes self.now table.now) }
+    {
+        self.entry(frame).table.as_ref()
+    }
+
+    /// Keeps the table of a frame's elements. Frames and other tables stay.
+    pub fn keep(&mut self, _alloc: Global, frame: FrameId, table: MemberTable<'t>) -> Result<(), NoMemory>
+        requires frame { IsFrame self.old frame.0 }
+        requires elements { elements_of (table_in self.old) (frame_at self.old frame.0) ≡ Ok (map (member_in (frames_of self.old)) table) }
+        requires homes { AreHomes self.old table }
+        ensures { self.new ≡ record self.old { tables = set self.old.tables frame.0 (Some table.entry) } }
+    {
+        self.frames[frame.0 as usize].table = Some(table);
+        Ok(())
+    }
+}
