@@ -1,3 +1,5 @@
 mod Models
 pub mod Numbered
 mod WorkedRows
+pub mod laws
+pub mod rows

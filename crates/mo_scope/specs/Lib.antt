@@ -7,7 +7,9 @@ pub mod Lookup
 pub mod Names
 pub mod Outcome
 pub mod Parts
+pub mod Places
 pub mod Rows
 pub mod Sights
 pub mod Sizes
+pub mod TreePlaces
 pub mod Worlds

@@ -1,0 +1,5 @@
+-- Worked examples of the definitions of names.
+pub mod Notation
+pub mod Access
+pub mod Imports
+pub mod Modifiers
