@@ -28,10 +28,3 @@ mod words;
 pub use laws::files_give_one;
 pub use program::run;
 pub use status::Status;
-
-#[cfg(test)]
-mod structure_tests;
-#[cfg(test)]
-mod tests;
-#[cfg(test)]
-mod words_tests;

@@ -1,0 +1,230 @@
+//! Flat texts, and the first broken rule in their place.
+use crate::running::{Row, run_class};
+use mo_front::Status;
+use mo_syntax::NoMemory;
+use std::alloc::Global;
+use std::process::Abort;
+use std::test::Fail;
+
+/// The words of the option that asks for the flat text.
+const ASK_FLAT: [&str; 2] = ["--emit", "flat"];
+
+/// A class that stands alone in its file.
+const FIRST: &str = "model M\n  Real x;\nequation\n  x = 1.0;\nend M;\n";
+
+/// Texts of files.
+const FLAT: [Row; 6] = [
+    ("M", FIRST, None, Status::Done, FIRST),
+    (
+        "M",
+        "\u{FEFF}model M Real x; Real y; // two\nequation -x + 2*y*x = +x - 3.5; y = (-1); end M;",
+        None,
+        Status::Done,
+        "model M\n  Real x;\n  Real y;\nequation\n  -x + 2*y*x = x - 3.5;\n  y = -1;\nend M;\n",
+    ),
+    ("M", FIRST, Some(""), Status::Done, FIRST),
+    (
+        "M",
+        "within P; model N end N;",
+        Some("package P end P; model M end M;"),
+        Status::Done,
+        "model M\nend M;\n",
+    ),
+    (
+        "P.N",
+        "within P; model N end N;",
+        Some("package P end P;"),
+        Status::Refused,
+        "m.mo:1:17: rule 34: outside the profile\n",
+    ),
+    (
+        "M",
+        "model M Real x equation x = 1.0; end M;",
+        None,
+        Status::Refused,
+        "m.mo:1:16: rule 6: token cannot stand here\n",
+    ),
+];
+
+/// Files that break a rule.
+const REFUSED: [Row; 10] = [
+    (
+        "M",
+        "/* no end",
+        None,
+        Status::Refused,
+        "m.mo:1:1: rule 4: text without end\n",
+    ),
+    (
+        "M",
+        "model M",
+        None,
+        Status::Refused,
+        "m.mo:1:8: rule 6: token cannot stand here\n",
+    ),
+    (
+        "M",
+        "model M end N;",
+        None,
+        Status::Refused,
+        "m.mo:1:13: rule 7: end name differs\n",
+    ),
+    (
+        "M",
+        "model M Real x; Real x; end M;",
+        None,
+        Status::Refused,
+        "m.mo:1:22: rule 9: name declared twice\n",
+    ),
+    (
+        "M",
+        "within A; model M end M;",
+        None,
+        Status::Refused,
+        "m.mo:1:8: rule 10: within names no class\n",
+    ),
+    (
+        "M",
+        "model N end N;",
+        None,
+        Status::Refused,
+        "command line: rule 11: class not found\n",
+    ),
+    (
+        "M",
+        "package M end M;",
+        None,
+        Status::Refused,
+        "m.mo:1:9: rule 13: wrong kind of name\n",
+    ),
+    (
+        "M",
+        "model M Real x = 1.0; end M;",
+        None,
+        Status::Refused,
+        "m.mo:1:7: rule 34: outside the profile\n",
+    ),
+    (
+        "M",
+        "model M Real sin; end M;",
+        None,
+        Status::Refused,
+        "m.mo:1:7: rule 34: outside the profile\n",
+    ),
+    (
+        "M",
+        "model M Real x; equation x = y; end M;",
+        None,
+        Status::Refused,
+        "m.mo:1:30: rule 12: name not found\n",
+    ),
+];
+
+/// Files that break two rules.
+const ORDER: [Row; 5] = [
+    (
+        "M",
+        "model",
+        Some("\""),
+        Status::Refused,
+        "n.mo:1:1: rule 4: text without end\n",
+    ),
+    (
+        "M",
+        "model M\n end N;",
+        Some("model"),
+        Status::Refused,
+        "m.mo:2:6: rule 7: end name differs\n",
+    ),
+    (
+        "M",
+        "model M end M;",
+        Some("\n model M end M;"),
+        Status::Refused,
+        "n.mo:2:8: rule 9: name declared twice\n",
+    ),
+    (
+        "M",
+        "model 'é' end M;",
+        None,
+        Status::Refused,
+        "m.mo:1:8: rule 3: bad character\n",
+    ),
+    ("M N", "model M end M;", None, Status::Usage, ""),
+];
+
+/// A pendulum on a rod of a given length.
+pub(crate) const PENDULUM: &str =
+    "model M\n  parameter Real g = 9.81;\n  parameter Real L = 1.0;\n  Real x;\n  Real y;\n  Real vx;\n  Real vy;\n  Real lam;\nequation\n  der(x) = vx;\n  der(y) = vy;\n  der(vx) = -lam*x;\n  der(vy) = -lam*y - g;\n  x^2 + y^2 = L^2;\nend M;\n";
+
+/// All functions that are flattened today.
+const FUNCTIONS: &str =
+    "model M\n  input Real u;\n  parameter Real p = -2*sqrt(2.5e1);\n  Real x;\nequation\n  der(der(x)) = abs(u) + acos(u) + asin(u) + atan(u) + atan2(u, x) + cos(u) + cosh(u) + exp(u);\n  log(x) + log10(x) + max(x, 1) + min(x, 1) = sin(time) + sinh(u) + sqrt(u) + tan(u) + tanh(u);\n  (x + u)/(x*p)^2 = der(x*u);\nend M;\n";
+
+/// Expressions of numbers.
+const IN_THE_FORM: [Row; 3] = [
+    ("M", PENDULUM, None, Status::Done, PENDULUM),
+    ("M", FUNCTIONS, None, Status::Done, FUNCTIONS),
+    (
+        "M",
+        "model M Real x; Real y; equation x*(y + 1) = y; y = sin(z); end M;",
+        None,
+        Status::Refused,
+        "m.mo:1:57: rule 12: name not found\n",
+    ),
+];
+
+/// Texts of another form.
+const OUTSIDE: [&str; 16] = [
+    "model M Real x; equation x = if true then 1 else 2; end M;",
+    "model M Real x; equation x = sin(x, x); end M;",
+    "model M Real x; equation x = max(x); end M;",
+    "model M Real x; equation x = sin(u = x); end M;",
+    "model M Real x; equation x = noEvent(x); end M;",
+    "model M Real x; equation x = mod(x, 2); end M;",
+    "model M Real x; equation x = x.y; end M;",
+    "model M Real x; equation x = x[1]; end M;",
+    "model M Real x; equation x = .x; end M;",
+    "model M Real x; equation x = \"s\"; end M;",
+    "model M Real x; equation x = x .* x; end M;",
+    "model M Real x; equation x = der(x, x); end M;",
+    "model M Real x; equation x = f(x); end M;",
+    "model M Real x; input Real u = 1.0; end M;",
+    "model M Real x; parameter Real p; end M;",
+    "model M Real x; parameter Real p = 1.0; parameter Real q = p; end M;",
+];
+
+fn holds(rt: &impl Abort, alloc: Global, row: &Row) -> Result<(), NoMemory> {
+    let ran = run_class(alloc, row.0, &ASK_FLAT, row.1, row.2)?;
+    assert_eq!(rt; ran.text.as_str(), row.4);
+    assert_eq!(rt; ran.status, row.3);
+    Ok(())
+}
+
+fn all_hold(rt: &impl Abort, alloc: Global, rows: &[Row]) -> Result<(), NoMemory> {
+    for row in rows {
+        holds(rt, alloc, row)?;
+    }
+    Ok(())
+}
+
+#[test]
+fn writes_flat_texts(rt: HostRuntime) -> Result<(), Fail> {
+    all_hold(&rt, rt.alloc(), &FLAT)?;
+    Ok(all_hold(&rt, rt.alloc(), &IN_THE_FORM)?)
+}
+
+#[test]
+fn names_the_first_broken_rule(rt: HostRuntime) -> Result<(), Fail> {
+    all_hold(&rt, rt.alloc(), &REFUSED)?;
+    Ok(all_hold(&rt, rt.alloc(), &ORDER)?)
+}
+
+#[test]
+fn refuses_other_forms(rt: HostRuntime) -> Result<(), Fail> {
+    for text in &OUTSIDE {
+        let line = "m.mo:1:7: rule 34: outside the profile\n";
+        holds(&rt, rt.alloc(), &("M", *text, None, Status::Refused, line))?;
+    }
+    Ok(())
+}

@@ -1,0 +1,17 @@
+//! Tests of the program: what a run over files in memory writes, and how it ends.
+//!
+//! They stand apart from `mo_front`, so that this is proved without them.
+#![tactic(auto)]
+
+#[cfg(test)]
+mod causes;
+#[cfg(test)]
+mod flat_rows;
+#[cfg(test)]
+mod large_models;
+#[cfg(test)]
+mod running;
+#[cfg(test)]
+mod structure_rows;
+#[cfg(test)]
+mod word_rows;
