@@ -8,9 +8,10 @@ use Rattle.mo_incidence.specs.Signature.{Signature, equations, IsSound}
 use Rattle.mo_incidence.specs.Assignment.{Assigns, CoversAll}
 use Rattle.mo_incidence.specs.Offsets.{IsTight, sum_unknowns}
 use Rattle.mo_incidence.proofs.Counting.{sum-same, sum-add, sum-injection, sum-without}
-use Rattle.mo_blocks.specs.Dummies.{differentiated, dummy, dummies_to, greatest, dummies_of, states_below, states_to, states_of, derivatives_below}
+use Rattle.mo_incidence.specs.Dummies.{differentiated, dummy, dummies_to, greatest, dummies_of, states_below, states_to, states_of}
+use Rattle.mo_blocks.specs.Stages.{derivatives_below}
 use Rattle.mo_blocks.proofs.Dummying.{greatest-above, tight-low, states-of-one}
-use Rattle.mo_blocks.proofs.Owning.{tight-known}
+use Rattle.mo_incidence.proofs.Owning.{tight-known}
 
 -- the smaller of two numbers
 at_most : ℕ → ℕ → ℕ

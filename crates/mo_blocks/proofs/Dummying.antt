@@ -8,9 +8,10 @@ use Rattle.mo_incidence.specs.Signature.{Signature, equations, IsSound}
 use Rattle.mo_incidence.specs.Assignment.{Assigns, CoversAll}
 use Rattle.mo_incidence.specs.Offsets.{IsTight, by_place, by_number}
 use Rattle.mo_incidence.proofs.Counting.{onto}
-use Rattle.mo_blocks.specs.Dummies.{differentiated, dummy, dummies_to, greatest, dummies_of, is_dummy, states_below, states_to, states_of, derivatives_below, derivatives_to, kept}
-use Rattle.mo_blocks.proofs.Members.{at-contains}
-use Rattle.mo_blocks.proofs.Owning.{tight-known}
+use Rattle.mo_incidence.specs.Dummies.{differentiated, dummy, dummies_to, greatest, dummies_of, is_dummy, states_below, states_to, states_of}
+use Rattle.mo_blocks.specs.Stages.{derivatives_below, derivatives_to, kept}
+use Rattle.mo_graph.proofs.Members.{at-contains}
+use Rattle.mo_incidence.proofs.Owning.{tight-known}
 
 lt-yes : (a b : ℕ) → a < b → nat_lt a b ≡ true
 lt-yes a b l = grind (arith, nat_tests)

@@ -1,14 +1,3 @@
-pub mod Chains
-pub mod Walks
-pub mod Gathers
-pub mod Owning
-pub mod Places
-pub mod Ready
-pub mod Waking
-pub mod Members
-pub mod Lists
-pub mod Arranging
 pub mod Dummying
-pub mod Unique
 pub mod Staging
 pub mod Counts

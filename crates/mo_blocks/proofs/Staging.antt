@@ -3,7 +3,8 @@ use Rattle.std.proofs.Common.{◌≡◌, ℕ, suc, ◌+◌, ◌-◌, ◌<◌, �
 use Rattle.mo_incidence.specs.Signature.{Signature, equations, row_len, unknown_at, order_at}
 use Rattle.mo_incidence.specs.Assignment.{Assigns, CoversAll}
 use Rattle.mo_incidence.specs.Offsets.{IsTight, by_place, by_number}
-use Rattle.mo_blocks.specs.Dummies.{dummy, greatest, dummies_of, HaveOwn, AreHighest, AreFollowed}
+use Rattle.mo_incidence.specs.Dummies.{dummy, greatest, dummies_of}
+use Rattle.mo_blocks.specs.Stages.{HaveOwn, AreHighest, AreFollowed}
 use Rattle.mo_blocks.proofs.Dummying.{dummies-only, dummies-all, greatest-above, tight-low}
 
 tight-entry : (g : Signature) (c d : ℕ → ℕ) (i j : ℕ) → IsTight g c d i j → (k : ℕ) × (k < row_len g i) × (unknown_at g i k ≡ j) × (d j ≡ c i + order_at g i k)

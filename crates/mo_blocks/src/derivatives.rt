@@ -4,7 +4,8 @@ ghost use Rattle.std.proofs.Common.{suc};
 ghost use Rattle.mo_incidence.specs.Signature.{equations};
 ghost use Rattle.mo_incidence.specs.Assignment.{Assigns, CoversAll};
 ghost use Rattle.mo_incidence.specs.Offsets.{IsTight, by_place, by_number};
-ghost use Rattle.mo_blocks.specs.Dummies.{differentiated, dummy, kept, dummies_of, states_of, derivatives_below, derivatives_to, HaveOwn, AreHighest, AreFollowed};
+ghost use Rattle.mo_incidence.specs.Dummies.{differentiated, dummy, dummies_of, states_of};
+ghost use Rattle.mo_blocks.specs.Stages.{kept, derivatives_below, derivatives_to, HaveOwn, AreHighest, AreFollowed};
 
 use mo_incidence::{Dummies, Incidence, Offsets};
 use mo_syntax::NoMemory;

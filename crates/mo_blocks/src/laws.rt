@@ -4,7 +4,7 @@ ghost use Rattle.mo_incidence.specs.Counting.{sum_below};
 ghost use Rattle.mo_incidence.specs.Signature.{Signature, equations, IsSound};
 ghost use Rattle.mo_incidence.specs.Assignment.{Assigns, CoversAll};
 ghost use Rattle.mo_incidence.specs.Offsets.{IsTight, sum_unknowns};
-ghost use Rattle.mo_blocks.specs.Dummies.{dummies_of, states_of};
+ghost use Rattle.mo_incidence.specs.Dummies.{dummies_of, states_of};
 
 /// There are as many dummies as the sum of c over the equations. With them the states of a square system are as many as the sum of d
 /// over the unknowns, where each equation has an unknown of its own by a tight entry (Mattsson and Söderlind 1993, Pryce 2001).

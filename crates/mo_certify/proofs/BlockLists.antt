@@ -4,8 +4,8 @@ use Rattle.std.specs.Prelude.{IsTrue, Vec}
 use Rattle.std.specs.Global.{Global}
 use Rattle.mo_incidence.specs.Signature.{Signature, equations}
 use Rattle.mo_incidence.specs.Offsets.{by_place, by_number}
-use Rattle.mo_blocks.specs.Blocks.{Needs, AreBlocksInOrder, numbers_in}
-use Rattle.mo_blocks.proofs.Unique.{order-unique}
+use Rattle.mo_incidence.specs.Blocks.{Needs, AreBlocksInOrder, numbers_in}
+use Rattle.mo_graph.proofs.Unique.{order-unique}
 use Rattle.mo_certify.specs.Offsets.{AreOffsets}
 
 not-false : (r : Bool) → (r ≡ false → ⊥) → r ≡ true

@@ -2,12 +2,12 @@
 ghost use Rattle.std.specs.Prelude.{◌≡◌, ◌↔◌, IsTrue, IfOk, true, false};
 ghost use Rattle.mo_incidence.specs.Signature.{equations};
 ghost use Rattle.mo_incidence.specs.Offsets.{by_place, by_number};
-ghost use Rattle.mo_blocks.specs.Blocks.{AreBlocksInOrder, numbers_in};
+ghost use Rattle.mo_incidence.specs.Blocks.{AreBlocksInOrder, numbers_in};
 ghost use Rattle.mo_certify.specs.Offsets.{AreOffsets};
 
 use crate::admissible::offsets_hold;
-use mo_blocks::blocks;
-use mo_incidence::{Blocks, Incidence, Offsets};
+use mo_graph::in_order;
+use mo_incidence::{Blocks, Incidence, Offsets, needs};
 use mo_syntax::NoMemory;
 use std::alloc::Global;
 
@@ -59,6 +59,7 @@ pub fn blocks_hold(
     if inc.equations() != inc.unknowns() {
         return Ok(false);
     }
-    let found = blocks(alloc, inc, offsets)?;
-    Ok(same_lists(&found.0, &listed.0))
+    let edges = needs(alloc, inc, offsets)?;
+    let found = in_order(alloc, edges, inc.equations() as usize)?;
+    Ok(same_lists(&found, &listed.0))
 }

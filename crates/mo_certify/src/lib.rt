@@ -16,8 +16,3 @@ pub use admissible::offsets_hold;
 pub use block_lists::blocks_hold;
 pub use deficiency::deficit_holds;
 pub use least::least_holds;
-
-#[cfg(test)]
-mod block_tests;
-#[cfg(test)]
-mod tests;

@@ -16,7 +16,7 @@ use Rattle.mo_incidence.specs.Model.{row_of, incidence_of}
 use Rattle.mo_incidence.proofs.Counting.{distinct-room}
 use Rattle.mo_pantelides.proofs.Tight.{tight-entry-of}
 use Rattle.mo_blocks.proofs.Dummying.{tight-low}
-use Rattle.mo_blocks.proofs.Owning.{tight-known}
+use Rattle.mo_incidence.proofs.Owning.{tight-known}
 use Rattle.mo_report.specs.declared.report.Report.{Report}
 use Rattle.mo_report.specs.Right.{AreLeastOffsets, AreOrdersAt, HasSquareParts, HasNoSquareParts, IsRightFor, singular, underdetermined, square}
 use Rattle.mo_report.specs.Right.{IsRightReport}

@@ -4,11 +4,11 @@ use Rattle.std.proofs.Math.Seq.{take-append-le, drop-append-le, take-length, dro
 use Rattle.std.proofs.Math.ListN.{get_or-append, length-map}
 use Rattle.std.proofs.lemmas.List.{get_or-map}
 use Rattle.std.proofs.lemmas.Bool.Decides.{eqb_tells}
-use Rattle.mo_incidence.specs.Counting.{sum_below}
+use Rattle.mo_graph.specs.Counting.{sum_below}
 use Rattle.mo_incidence.specs.Signature.{Signature, equations, row_len, unknown_at, order_at, entries, IsSound}
 use Rattle.mo_incidence.specs.Flat.{row_at, signature, IsCut, IsFlat}
 use Rattle.mo_incidence.specs.Given.{given, IsRow}
-use Rattle.mo_incidence.proofs.Counting.{sum-same, sum-more}
+use Rattle.mo_graph.proofs.Counting.{sum-same, sum-more}
 use Rattle.mo_incidence.proofs.Rows.{equations-signature, rows-signature, entries-signature}
 
 -- the row is right up to place k, before which `before` is the unknown, or 0 at the start

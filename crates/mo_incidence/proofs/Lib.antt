@@ -1,4 +1,4 @@
-pub mod Counting
+pub use Rattle.mo_graph.proofs.Counting
 pub mod Rows
 pub mod Building
 pub mod Found
@@ -7,3 +7,5 @@ pub mod Refusals
 pub mod RowLaw
 pub mod Sorting
 pub mod Unknowns
+pub mod Owning
+pub mod Transversals

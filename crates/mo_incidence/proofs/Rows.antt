@@ -2,10 +2,10 @@
 use Rattle.std.proofs.Common.{◌≡◌, ℕ, zero, suc, ◌+◌, ◌-◌, ◌<◌, ◌≤◌, List, [], length, get_or, drop, refl, sym, ap, ◌∙◌, arith, length-take, length-drop}
 use Rattle.std.proofs.Math.Seq.{get_or-take, get_or-drop}
 use Rattle.std.proofs.lemmas.List.FromFn.{length-map-range_with_len, get_or-map-range_with_len}
-use Rattle.mo_incidence.specs.Counting.{sum_below}
+use Rattle.mo_graph.specs.Counting.{sum_below}
 use Rattle.mo_incidence.specs.Signature.{Signature, equations, row_len, unknown_at, order_at, entries, IsSound}
 use Rattle.mo_incidence.specs.Flat.{row_at, signature, IsCut, IsFlat}
-use Rattle.mo_incidence.proofs.Counting.{sum-same}
+use Rattle.mo_graph.proofs.Counting.{sum-same}
 
 pub equations-signature : (u : ℕ) (s : List ℕ) (f : List (ℕ × ℕ)) → equations (signature u s f) ≡ length s - 1
 unfolding equations signature

@@ -3,10 +3,10 @@
 -- largest assignment leaves out are the structurally singular part of Pantelides (C. C. Pantelides, The consistent
 -- initialization of differential-algebraic systems, SIAM J. Sci. Stat. Comput. 9, 1988) and the overdetermined part of
 -- Dulmage and Mendelsohn (Coverings of bipartite graphs, Canad. J. Math. 10, 1958).
-use Rattle.std.specs.Prelude.{◌≡◌, ◌≢◌, ℕ, ◌+◌, ◌<◌, ◌≤◌, List, length, Contains}
-use Rattle.std.specs.List.Sorted.{IsStrictlyIncreasing}
+use Rattle.std.specs.Prelude.{◌≡◌, ◌≢◌, ℕ, ◌+◌, ◌<◌, ◌≤◌, List, length}
 use Rattle.std.proofs.Common.{suc}
-use Rattle.mo_incidence.specs.Counting.{count_below}
+use Rattle.mo_graph.specs.Counting.{count_below}
+pub use Rattle.mo_graph.specs.Lists.{ListsWhere}
 use Rattle.mo_incidence.specs.Signature.{Signature, equations, row_len, unknown_at}
 
 -- the equation at place i mentions unknown j
@@ -42,12 +42,6 @@ CanCoverAll g = (q : ℕ → ℕ) × IsAssignment g q × CoversAll g q
 -- some assignment that covers every equation leaves unknown j out
 abbrev pub IsUndetermined : Signature → ℕ → Type 0
 IsUndetermined g j = (q : ℕ → ℕ) × IsAssignment g q × CoversAll g q × ((i : ℕ) → i < equations g → q i ≢ j)
-
--- the list ascends and has exactly the numbers from 1 to n of which P holds
-pub record ListsWhere (P : ℕ → Type 0) (n : ℕ) (xs : List ℕ) : Type 0 where
-  pub ascending : IsStrictlyIncreasing xs
-  pub only : (x : ℕ) → Contains xs x → (0 < x) × (x ≤ n) × P x
-  pub all : (x : ℕ) → 0 < x → x ≤ n → P x → Contains xs x
 
 -- equation number x is in the deficit
 abbrev pub IsDeficient : Signature → ℕ → Type 0

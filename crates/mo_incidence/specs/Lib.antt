@@ -1,4 +1,4 @@
-pub mod Counting
+pub use Rattle.mo_graph.specs.Counting
 pub mod Signature
 pub mod Flat
 pub mod Assignment
@@ -7,3 +7,7 @@ pub mod Given
 pub mod Gathered
 pub mod Model
 pub mod Reasons
+pub mod Blocks
+pub mod Dummies
+pub mod Needing
+pub mod Transversal

@@ -3,7 +3,7 @@
 -- derivative of each is the highest.
 use Rattle.std.specs.Prelude.{◌≡◌, ◌≢◌, ℕ, ◌+◌, ◌-◌, ◌<◌, ◌≤◌, List}
 use Rattle.std.proofs.Common.{get_or, zero, suc}
-use Rattle.mo_incidence.specs.Counting.{sum_below}
+use Rattle.mo_graph.specs.Counting.{sum_below}
 use Rattle.mo_incidence.specs.Signature.{Signature, equations, row_len, unknown_at, order_at}
 use Rattle.mo_incidence.specs.Assignment.{Assigns, CoversAll}
 

@@ -3,7 +3,7 @@
 -- Equations are named by their places, from 0, and unknowns by their numbers, from 1.
 use Rattle.std.specs.Prelude.{ℕ, ◌+◌, ◌<◌, ◌≤◌, List, [], length}
 use Rattle.std.proofs.Common.{get_or}
-use Rattle.mo_incidence.specs.Counting.{sum_below}
+use Rattle.mo_graph.specs.Counting.{sum_below}
 
 -- how many unknowns there are, and for each equation its entries
 pub record Signature : Type 0 where

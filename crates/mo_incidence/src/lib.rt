@@ -2,6 +2,7 @@
 //!
 //! - [`incidence`] is the incidence of a flat model.
 //! - [`Incidence`] holds the entries row by row; [`Incidence::from_rows`] makes one from given rows.
+//! - [`needs`] says which equations need which, by given offsets.
 //! - [`Counted`] is a view of an incidence that only a counter can read, one step for each entry.
 //! - [`Offsets`], [`Deficit`], [`Reason`], [`Blocks`] and [`Dummies`] are what the analyses above find.
 //!
@@ -14,12 +15,14 @@ mod counter;
 mod findings;
 mod gather;
 mod model;
+mod needing;
 mod table;
 
 pub use builder::RowsError;
 pub use counter::Counted;
 pub use findings::{Blocks, Deficit, Dummies, Offsets, Reason};
 pub use model::incidence;
+pub use needing::needs;
 pub use table::Incidence;
 
 #[cfg(test)]

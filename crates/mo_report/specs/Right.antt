@@ -12,8 +12,8 @@ use Rattle.mo_incidence.specs.Assignment.{Assigns, CoversAll, ListsWhere, IsDefi
 use Rattle.mo_incidence.specs.Offsets.{IsTight, IsLeast, by_place, by_number, sum_unknowns}
 use Rattle.mo_incidence.specs.Reasons.{AreReasonsOf}
 use Rattle.mo_incidence.specs.Model.{incidence_of}
-use Rattle.mo_blocks.specs.Blocks.{AreBlocksInOrder, numbers_in}
-use Rattle.mo_blocks.specs.Dummies.{dummies_of, states_of, greatest}
+use Rattle.mo_incidence.specs.Blocks.{AreBlocksInOrder, numbers_in}
+use Rattle.mo_incidence.specs.Dummies.{dummies_of, states_of, greatest}
 use Rattle.mo_report.specs.declared.report.Report.{Report}
 use Rattle.mo_report.specs.Size.{unknown_names}
 

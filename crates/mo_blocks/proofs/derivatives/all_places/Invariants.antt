@@ -1,5 +1,5 @@
 use Rattle.std.proofs.Common.{◌≡◌, ℕ}
-use Rattle.mo_blocks.specs.Dummies.{differentiated}
+use Rattle.mo_incidence.specs.Dummies.{differentiated}
 use Rattle.mo_blocks.proofs.derivatives.all_places.Given as goal
 
 abbrev pub invariant-loop-i : goal.invariant-loop-i

@@ -2,8 +2,8 @@ use Rattle.std.proofs.Common.{◌≡◌, ◌<◌, ◌+◌, length, arith, rules,
 use Rattle.std.proofs.lemmas.Bool.Decides.{nat_tests}
 use Rattle.mo_incidence.specs.Signature.{equations}
 use Rattle.mo_incidence.specs.Offsets.{by_place, by_number}
-use Rattle.mo_blocks.specs.Dummies.{greatest}
-use Rattle.mo_blocks.proofs.Owning.{tight-known}
+use Rattle.mo_incidence.specs.Dummies.{greatest}
+use Rattle.mo_incidence.proofs.Owning.{tight-known}
 use Rattle.mo_blocks.proofs.Dummying.{at-diff, tight-low, stage-next, keep-next, stage-low, stage-over, dummies-over, falls-below}
 use Rattle.mo_blocks.proofs.derivatives.choose.Goals as goal
 

@@ -1,7 +1,7 @@
 use Rattle.std.proofs.Common.{◌≡◌, ◌+◌, ◌-◌}
 use Rattle.mo_incidence.specs.Signature.{equations}
 use Rattle.mo_incidence.specs.Offsets.{by_place, by_number}
-use Rattle.mo_blocks.specs.Dummies.{differentiated, dummies_to, greatest}
+use Rattle.mo_incidence.specs.Dummies.{differentiated, dummies_to, greatest}
 use Rattle.mo_blocks.proofs.derivatives.choose.Given as goal
 
 abbrev pub invariant-loop-alloc : goal.invariant-loop-alloc

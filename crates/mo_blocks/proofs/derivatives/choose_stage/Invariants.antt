@@ -1,6 +1,6 @@
 use Rattle.std.proofs.Common.{◌≡◌, ◌++◌, map, take}
 use Rattle.mo_incidence.specs.Offsets.{by_place, by_number}
-use Rattle.mo_blocks.specs.Dummies.{dummy}
+use Rattle.mo_incidence.specs.Dummies.{dummy}
 use Rattle.mo_blocks.proofs.derivatives.choose_stage.Given as goal
 
 abbrev pub invariant-loop-place : goal.invariant-loop-place

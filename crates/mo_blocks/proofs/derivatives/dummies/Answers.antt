@@ -1,5 +1,5 @@
 use Rattle.std.proofs.Common.{◌≡◌, ◌∙◌, length, arith}
-use Rattle.mo_blocks.proofs.Lists.{written-whole}
+use Rattle.mo_graph.proofs.Lists.{written-whole}
 use Rattle.mo_blocks.proofs.Dummying.{depth-low, states-there}
 use Rattle.mo_blocks.proofs.Staging.{own-dummies, highest-dummies, followed-dummies, chosen-here}
 use Rattle.mo_blocks.proofs.derivatives.dummies.Goals as goal

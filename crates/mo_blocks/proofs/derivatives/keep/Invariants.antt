@@ -1,6 +1,6 @@
 use Rattle.std.proofs.Common.{◌≡◌, ◌+◌, ◌++◌, drop}
 use Rattle.mo_incidence.specs.Offsets.{by_place}
-use Rattle.mo_blocks.specs.Dummies.{kept}
+use Rattle.mo_blocks.specs.Stages.{kept}
 use Rattle.mo_blocks.proofs.derivatives.keep.Given as goal
 
 abbrev pub invariant-loop-place : goal.invariant-loop-place

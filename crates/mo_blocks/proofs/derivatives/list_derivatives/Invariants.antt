@@ -1,5 +1,5 @@
 use Rattle.std.proofs.Common.{◌≡◌, ◌++◌}
-use Rattle.mo_blocks.specs.Dummies.{derivatives_below}
+use Rattle.mo_blocks.specs.Stages.{derivatives_below}
 use Rattle.mo_blocks.proofs.derivatives.list_derivatives.Given as goal
 
 abbrev pub invariant-loop-k : goal.invariant-loop-k

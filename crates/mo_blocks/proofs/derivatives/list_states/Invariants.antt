@@ -1,5 +1,5 @@
 use Rattle.std.proofs.Common.{◌≡◌, ◌-◌, slice_index}
-use Rattle.mo_blocks.specs.Dummies.{derivatives_to}
+use Rattle.mo_blocks.specs.Stages.{derivatives_to}
 use Rattle.mo_blocks.proofs.derivatives.list_states.Given as goal
 
 abbrev pub invariant-loop-u : goal.invariant-loop-u

@@ -1,7 +1,7 @@
 use Rattle.std.proofs.Common.{◌≢◌, ◌<◌, ◌-◌, arith, slice_index_or, get_or-set_same, get_or-set_other, ◌∙◌, inl, inr}
 use Rattle.std.proofs.lemmas.Bool.Decides.{eqb_tells}
 use Rattle.mo_incidence.specs.Signature.{equations}
-use Rattle.mo_blocks.proofs.Owning.{tight-known}
+use Rattle.mo_incidence.proofs.Owning.{tight-known}
 use Rattle.mo_blocks.proofs.derivatives.note_depths.Goals as goal
 
 pub bounds-depth-pairs : goal.bounds-depth-pairs

@@ -1,8 +1,8 @@
 use Rattle.std.proofs.Common.{◌∙◌, ℕ, List, [], get_or, sym, ap, arith, inl, inr}
 use Rattle.std.proofs.lemmas.Bool.Decides.{eqb_tells}
 use Rattle.std.proofs.lemmas.List.{ext_get_or}
-use Rattle.mo_blocks.specs.Blocks.{numbers_in}
-use Rattle.mo_blocks.proofs.Lists.{numbers-at, length-numbers}
+use Rattle.mo_incidence.specs.Blocks.{numbers_in}
+use Rattle.mo_graph.proofs.Lists.{numbers-at, length-numbers}
 use Rattle.mo_certify.proofs.block_lists.same_lists.Goals as goal
 
 pub returns-then-not-same_numbers-clause-no : goal.returns-then-not-same_numbers-clause-no

@@ -1,6 +1,6 @@
 use Rattle.std.proofs.Common.{◌≡◌}
 use Rattle.mo_incidence.specs.Offsets.{by_place}
-use Rattle.mo_blocks.specs.Dummies.{greatest}
+use Rattle.mo_incidence.specs.Dummies.{greatest}
 use Rattle.mo_front.proofs.degrees.greatest.Given as goal
 
 abbrev pub invariant-loop-i : goal.invariant-loop-i

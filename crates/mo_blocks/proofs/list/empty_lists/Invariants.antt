@@ -1,9 +1,0 @@
-use Rattle.std.proofs.Common.{◌≡◌, ℕ, [], length, get_or}
-use Rattle.mo_blocks.specs.Blocks.{numbers_in}
-use Rattle.mo_blocks.proofs.list.empty_lists.Given as goal
-
-abbrev pub invariant-loop-b : goal.invariant-loop-b
-invariant-loop-b l = record {
-  count : length (numbers_in l.lists.items) ≡ l._b;
-  empty : (b : ℕ) → get_or (numbers_in l.lists.items) b [] ≡ [];
-}

@@ -1,6 +1,0 @@
-use Rattle.mo_incidence.specs.Offsets.{by_place, by_number}
-use Rattle.mo_blocks.specs.Edges.{HasNeeds}
-use Rattle.mo_blocks.proofs.needs.list_needs.Given as goal
-
-abbrev pub invariant-loop-i : goal.invariant-loop-i
-invariant-loop-i l = HasNeeds l.inc (by_place l.c) (by_number l.d) (by_place l.pairs) l.edges.sources.items l.edges.targets.items l.i 0

@@ -1,7 +1,0 @@
-use Rattle.std.proofs.Common.{arith}
-use Rattle.mo_blocks.proofs.Owning.{owners-next}
-use Rattle.mo_blocks.proofs.needs.note_owners.Goals as goal
-
-pub loop-i-preserved : goal.loop-i-preserved
-loop-i-preserved c =
-    owners-next _ _ _ c.loop-i.invariant (omega (arith, c.requires.known c.loop-i.i (omega arith))) (λ r l same. let e = c.requires.apart r c.loop-i.i (omega arith) (omega arith) same in omega arith)

@@ -1,6 +1,0 @@
-use Rattle.mo_incidence.specs.Offsets.{by_place}
-use Rattle.mo_blocks.specs.Edges.{AreOwners}
-use Rattle.mo_blocks.proofs.needs.note_owners.Given as goal
-
-abbrev pub invariant-loop-i : goal.invariant-loop-i
-invariant-loop-i l = AreOwners l.i (by_place l.pairs) l.owner

@@ -1,0 +1,11 @@
+pub mod Counting
+pub mod Chains
+pub mod Walks
+pub mod Gathers
+pub mod Places
+pub mod Ready
+pub mod Waking
+pub mod Members
+pub mod Lists
+pub mod Arranging
+pub mod Unique

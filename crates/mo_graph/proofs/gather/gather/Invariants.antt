@@ -1,0 +1,12 @@
+use Rattle.std.proofs.Common.{◌≤◌, length}
+use Rattle.mo_graph.specs.Gathering.{IsGathered}
+use Rattle.mo_graph.proofs.gather.gather.Given as goal
+
+abbrev pub invariant-loop-left : goal.invariant-loop-left
+invariant-loop-left l = record {
+  gathered : IsGathered (length l.class) l.sources l.targets l.order l.count l.class l.queue l.tail l.tail l.tail l.number l.left;
+  left : l.left ≤ l.count;
+}
+
+abbrev pub decreases-loop-left : goal.decreases-loop-left
+decreases-loop-left l = l.left
