@@ -7,10 +7,10 @@ use Rattle.mo_syntax.specs.declared.place.Place.{Place}
 use Rattle.mo_flat.specs.declared.connect.Connects.{Connects}
 use Rattle.mo_flat.specs.declared.connect.EndLeaf.{EndLeaf}
 use Rattle.mo_flat.specs.declared.connect.FaceSet.{FaceSet}
-use Rattle.mo_flat.specs.SoundConnects.{IsAt, IsLeafIn, Ascends, IsListedAsFlow, IsSoundConnects}
+use Rattle.mo_flat.specs.SoundConnects.{IsAt, IsLeafIn, Ascends, IsSoundConnects}
 use Rattle.mo_connect.specs.declared.joins.Join.{Join}
 use Rattle.mo_connect.specs.Joins.{number_of, HasDistinctLeaves, JoinsConnectAt}
-use Rattle.mo_connect.specs.Sets.{seen, IsJoined, IsFlowLeaf, IsDeclared, IsConnectionSet, IsInSome, AreConnectionSets, IsOfLeaf, HasLeaves}
+use Rattle.mo_connect.specs.Sets.{IsJoined, IsDeclared, IsConnectionSet, IsInSome, AreConnectionSets, IsOfLeaf, HasLeaves}
 use Rattle.mo_connect.proofs.JoinLemmas.{is-at, is-at-same}
 
 -- ---- lists whose keys ascend

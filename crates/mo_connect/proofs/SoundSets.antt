@@ -1,5 +1,5 @@
 -- The equations of sets whose members are numbers are sound.
-use Rattle.std.proofs.Common.{◌≡◌, ℕ, zero, suc, ◌<◌, ◌≤◌, inl, inr, Bool, true, false, List, [], ◌∷◌, ◌++◌, map, flat_map, Option, Some, None, length, get_or, pos, refl, sym, subst, arith, IsSome, All, Result}
+use Rattle.std.proofs.Common.{◌≡◌, ℕ, zero, suc, ◌<◌, inl, inr, Bool, true, false, List, [], ◌∷◌, map, flat_map, Option, Some, None, length, pos, refl, sym, subst, arith, IsSome, All, Result}
 use Rattle.std.specs.Prelude.{◌&&◌, nat_le, IfOk}
 use Rattle.std.specs.Option.{option_map}
 use Rattle.std.proofs.lemmas.Bool.Decides.{leb_tells}
@@ -11,7 +11,6 @@ use Rattle.mo_flat.specs.declared.connect.FaceSet.{FaceSet}
 use Rattle.mo_flat.specs.declared.expr.FlatExpr.{FlatExpr}
 use Rattle.mo_flat.specs.declared.model.FlatEquation.{FlatEquation}
 use Rattle.mo_flat.specs.declared.model.FlatVar.{FlatVar}
-use Rattle.mo_flat.specs.Roles.{variable_at}
 use Rattle.mo_flat.specs.Sound.{FlatKind, IsSoundEquation, IsSoundNumber, flat_kind, is_numeric}
 use Rattle.mo_flat.proofs.SoundForms.{IsGood, Each, good-Sum, good-Var, good-Whole}
 use Rattle.mo_connect.specs.Equations.{IsNumericVariable, HasNumericMembers, variable_of, term_of, equality_with, potential_equations, sum_of, flow_equation, equations_of}

@@ -1,45 +1,38 @@
 -- What tokens spell by the productions of modifications, equations, statements, classes and files is sound.
-use Rattle.std.proofs.Common.{◌≡◌, ℕ, Bool, true, false, List, [], ◌∷◌, ◌++◌, map, Option, Some, None, refl, sym, ap, ◌∙◌}
+use Rattle.std.proofs.Common.{◌≡◌, Bool, true, List, [], ◌∷◌, map, Option, Some, None, refl, sym, ap, ◌∙◌}
 use Rattle.std.specs.Prelude.{◌&&◌}
 use Rattle.std.specs.List.{list_all}
-use Rattle.std.proofs.lemmas.List.Folds.{list_all-append, list_all-map}
-use Rattle.mo_syntax.specs.declared.place.Place.{Place}
+use Rattle.std.proofs.lemmas.List.Folds.{list_all-map}
 use Rattle.mo_syntax.specs.declared.expr.Expr.{Expr}
 use Rattle.mo_syntax.specs.declared.expr.Args.{Args}
 use Rattle.mo_syntax.specs.declared.expr.Arg.{Arg}
-use Rattle.mo_syntax.specs.declared.expr.CalleeOf.TheVariants.{Named as called_name, Der as called_der, Initial as called_initial, Pure as called_pure}
-use Rattle.mo_syntax.specs.declared.expr.IndexOf.{IndexOf}
+use Rattle.mo_syntax.specs.declared.expr.CalleeOf.TheVariants.{Named as called_name}
 use Rattle.mo_syntax.specs.declared.expr.Node.{Node, Node-F, out-Node}
 use Rattle.mo_syntax.specs.declared.expr.ReferenceOf.{ReferenceOf}
 use Rattle.mo_syntax.specs.declared.equation.EquationKind.{EquationKind, EquationKind-F, out-EquationKind}
 use Rattle.mo_syntax.specs.declared.equation.EquationKind.TheVariants.{outs-Equal, outs-If as outs-if_equation, outs-For as outs-for_equation, outs-When as outs-when_equation, outs-Connect, outs-Call as outs-call_equation}
 use Rattle.mo_syntax.specs.declared.equation.StatementKind.{StatementKind, StatementKind-F, out-StatementKind}
 use Rattle.mo_syntax.specs.declared.equation.StatementKind.TheVariants.{outs-Assign, outs-Call as outs-call_statement, outs-Outputs, outs-Break, outs-Return, outs-If as outs-if_statement, outs-For as outs-for_statement, outs-While as outs-while_statement, outs-When as outs-when_statement}
-use Rattle.mo_syntax.specs.declared.class.ArgumentOf.{ArgumentOf}
 use Rattle.mo_syntax.specs.declared.class.Body.{Body, Body-F, out-Body}
-use Rattle.mo_syntax.specs.declared.class.Body.TheVariants.{outs-Long, outs-Short, outs-Enumeration, outs-Der}
+use Rattle.mo_syntax.specs.declared.class.Body.TheVariants.{outs-Short, outs-Enumeration}
 use Rattle.mo_syntax.specs.declared.class.ClassDefOf.{ClassDefOf}
 use Rattle.mo_syntax.specs.declared.class.ComponentOf.{ComponentOf}
-use Rattle.mo_syntax.specs.declared.class.Element.{Element, Element-F, out-Element, roll-Element, out-roll-Element}
+use Rattle.mo_syntax.specs.declared.class.Element.{Element, roll-Element, out-roll-Element}
 use Rattle.mo_syntax.specs.declared.class.ElementFlags.{ElementFlags}
 use Rattle.mo_syntax.specs.declared.class.Give.{Give, Give-F, out-Give}
 use Rattle.mo_syntax.specs.declared.class.Give.TheVariants.{outs-Modify, outs-Redeclare, outs-Replaceable}
-use Rattle.mo_syntax.specs.declared.class.Import.{Import}
-use Rattle.mo_syntax.specs.declared.class.Item.{Item, Item-F, out-Item}
-use Rattle.mo_syntax.specs.declared.class.Item.TheVariants.{Member, outs-Import, outs-Extends, outs-Member, outs-Equations, outs-Algorithm}
-use Rattle.mo_syntax.specs.declared.class.ModsOf.{ModsOf}
+use Rattle.mo_syntax.specs.declared.class.Item.{Item}
 use Rattle.mo_syntax.specs.declared.class.Prefix.{Prefix}
-use Rattle.mo_syntax.specs.declared.class.What.{What, What-F, out-What}
+use Rattle.mo_syntax.specs.declared.class.What.{What}
 use Rattle.mo_syntax.specs.declared.class.What.TheVariants.{Class, Component, outs-Class, outs-Component}
-use Rattle.mo_syntax.specs.SoundTree.{Naming, some_by, option_by, node_by, branches_by, equation_kind_by, statement_kind_by, argument_by, limit_by, component_by, body_by, give_by, item_by, what_by, element_by, is_sound_expr, is_sound_args, is_sound_option, are_sound_options, is_sound_reference, are_sound_indices, is_sound_equation_kind, is_sound_equation, is_sound_statement_kind, is_sound_statement, is_sound_path, is_sound_import, is_sound_mods, is_sound_body, is_sound_give, is_sound_item, is_sound_what, is_sound_element, is_sound_class, is_sound_within, is_sound_file}
-use Rattle.mo_syntax.proofs.SoundParts.{expr_is, node_is, equation_kind_is, statement_kind_is, body_is, give_is, item_is, what_is, element_is}
+use Rattle.mo_syntax.specs.SoundTree.{Naming, some_by, option_by, node_by, equation_kind_by, statement_kind_by, argument_by, limit_by, component_by, body_by, give_by, what_by, element_by, is_sound_expr, is_sound_args, is_sound_option, are_sound_options, is_sound_reference, is_sound_equation_kind, is_sound_equation, is_sound_statement_kind, is_sound_statement, is_sound_path, is_sound_mods, is_sound_body, is_sound_give, is_sound_item, is_sound_what, is_sound_element, is_sound_class}
+use Rattle.mo_syntax.proofs.SoundParts.{expr_is, node_is, equation_kind_is, statement_kind_is, body_is, give_is, what_is, element_is}
 use Rattle.mo_grammar.specs.Lexeme.{Lexeme}
-use Rattle.mo_grammar.specs.Trees.{or_nothing}
-use Rattle.mo_grammar.specs.ClassTrees.{Mods, Binding, Declares, Limit, Argued, Equation, Statement, Branched, Declared, Components, Placed, Imported, Taken, mods_or_none, text_of, path_of, binding_or_none, argument_element, name_called, name_called_by, call_of, equality, reference_statement, Behind, component_of, whats_of_components, elements_of, import_of, imported, place_of_names, appended_items, within_of, argument_of}
-use Rattle.mo_grammar.specs.Symbols.{Symbol, ValueOf, Form, Expressions, Simples, CallArguments, Indices, References, Subscripts, TypeSpecs, Names, ClassMods, ModArguments, EquationItems, ForEquations, WhenEquations, ElseEquations, IfEquations, StatementItems, ImportNames, ElementItems, Compositions, Sections, SectionEquations, ClassDefinitions}
-use Rattle.mo_grammar.specs.Classes.{class_mod, modification, declaration, component1, constraint, literals, enumeration, short_class, short_spec, argument_declares, replaceable_arg, argument, for_equations, for_eq, when_equations, when_eq, else_equations, if_equations, if_eq, connect_eq, equality_or_call, equation_item, statements, statement_branch, if_st, for_st, while_st, when_st, statement_kind, statement, import_names, import_clause, component, components, declares, element, elements, class_end, annotated_end, external_end, section, initial_section, other_section, sections, section_equations, composition, long_spec, extends_spec, der_spec, equals_spec, class_spec, class_def, file, commented}
+use Rattle.mo_grammar.specs.ClassTrees.{Mods, Binding, Declares, Limit, Argued, Equation, Statement, Declared, mods_or_none, text_of, path_of, binding_or_none, name_called, name_called_by, call_of, equality, reference_statement, Behind, component_of, argument_of}
+use Rattle.mo_grammar.specs.Symbols.{Form, Expressions, Simples, CallArguments, Indices, References, Subscripts, TypeSpecs, Names, ClassMods, ModArguments, EquationItems, ForEquations, WhenEquations, ElseEquations, IfEquations, StatementItems}
+use Rattle.mo_grammar.specs.Classes.{class_mod, modification, declaration, component1, constraint, literals, enumeration, short_class, short_spec, argument_declares, replaceable_arg, argument, for_equations, when_equations, else_equations, if_equations, equation_item, statements, statement_branch, statement, component, commented}
 use Rattle.mo_grammar.proofs.Codes.{both}
-use Rattle.mo_grammar.proofs.SoundSteps.{all_true, one_more, each_of_some, named_token, AreSoundEquations, IsSoundBranched, IsSoundBranchedElse, taken_test, IsSoundImported, Makes, OfOption, Sound, anything, by_symbol, by_name, by_seq, by_either, by_either2, by_made, by_weaker, by_placed, by_nested, by_under, by_unless, by_many, by_optional, by_behind, by_before, by_between, by_separated, by_listed}
+use Rattle.mo_grammar.proofs.SoundSteps.{all_true, named_token, AreSoundEquations, IsSoundBranched, IsSoundBranchedElse, Makes, OfOption, anything, by_symbol, by_name, by_seq, by_either, by_either2, by_made, by_weaker, by_placed, by_nested, by_unless, by_many, by_optional, by_behind, by_before, by_between, by_listed}
 use Rattle.mo_grammar.proofs.SoundExpressions.{option_passes, options_or_nothing, outputs_made, args_or_none_sound}
 
 -- ---- names

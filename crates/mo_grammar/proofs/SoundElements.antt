@@ -1,5 +1,5 @@
 -- What tokens spell by the productions of imports, elements, sections, classes and files is sound.
-use Rattle.std.proofs.Common.{◌≡◌, ℕ, Bool, true, false, List, [], ◌∷◌, ◌++◌, map, Option, Some, None, refl, ap, ◌∙◌}
+use Rattle.std.proofs.Common.{◌≡◌, Bool, true, false, List, [], ◌∷◌, map, Option, Some, None, refl, ap, ◌∙◌}
 use Rattle.std.specs.List.{list_all}
 use Rattle.std.proofs.lemmas.List.Folds.{list_all-append}
 use Rattle.mo_syntax.specs.declared.place.Place.{Place}
@@ -7,23 +7,20 @@ use Rattle.mo_syntax.specs.declared.expr.Expr.{Expr}
 use Rattle.mo_syntax.specs.declared.expr.ReferenceOf.{ReferenceOf}
 use Rattle.mo_syntax.specs.declared.class.Body.{Body}
 use Rattle.mo_syntax.specs.declared.class.Body.TheVariants.{outs-Long, outs-Der}
-use Rattle.mo_syntax.specs.declared.class.ClassDefOf.{ClassDefOf}
 use Rattle.mo_syntax.specs.declared.class.Element.{Element}
-use Rattle.mo_syntax.specs.declared.class.FileTree.{FileTree}
 use Rattle.mo_syntax.specs.declared.class.Give.{Give}
-use Rattle.mo_syntax.specs.declared.class.Import.{Import}
 use Rattle.mo_syntax.specs.declared.class.Item.{Item, Item-F, out-Item}
 use Rattle.mo_syntax.specs.declared.class.Item.TheVariants.{outs-Import, outs-Extends, outs-Member, outs-Equations, outs-Algorithm}
 use Rattle.mo_syntax.specs.declared.class.Prefix.{Prefix}
 use Rattle.mo_syntax.specs.declared.class.What.{What}
 use Rattle.mo_syntax.specs.declared.class.What.TheVariants.{Component}
-use Rattle.mo_syntax.specs.SoundTree.{Naming, some_by, limit_by, item_by, is_sound_expr, is_sound_option, are_sound_options, is_sound_reference, is_sound_import, is_sound_mods, is_sound_body, is_sound_give, is_sound_item, is_sound_what, is_sound_element, is_sound_class, is_sound_within, is_sound_file}
+use Rattle.mo_syntax.specs.SoundTree.{Naming, some_by, limit_by, item_by, is_sound_expr, are_sound_options, is_sound_reference, is_sound_import, is_sound_body, is_sound_give, is_sound_item, is_sound_what, is_sound_element, is_sound_class, is_sound_within, is_sound_file}
 use Rattle.mo_syntax.proofs.SoundParts.{item_is}
 use Rattle.mo_grammar.specs.Lexeme.{Lexeme}
 use Rattle.mo_grammar.specs.Trees.{or_nothing}
-use Rattle.mo_grammar.specs.ClassTrees.{Limit, Declared, Components, Placed, Imported, Taken, Inside, text_of, component_of, whats_of_components, elements_of, import_of, imported, appended_items, within_of}
+use Rattle.mo_grammar.specs.ClassTrees.{Limit, Declared, Placed, Imported, Taken, Inside, component_of, elements_of, import_of, imported, appended_items, within_of}
 use Rattle.mo_grammar.specs.Symbols.{Expressions, Subscripts, TypeSpecs, Names, ClassMods, EquationItems, ImportNames, ElementItems, Compositions, Sections, SectionEquations, ClassDefinitions}
-use Rattle.mo_grammar.specs.Classes.{import_names, import_clause, component, components, declares, element, elements, class_end, annotated_end, external_end, section, initial_section, other_section, sections, section_equations, composition, long_spec, extends_spec, der_spec, equals_spec, class_spec, class_def, file}
+use Rattle.mo_grammar.specs.Classes.{import_names, import_clause, declares, element, elements, class_end, annotated_end, external_end, section, initial_section, other_section, sections, section_equations, composition, long_spec, extends_spec, der_spec, equals_spec, class_def, file}
 use Rattle.mo_grammar.proofs.Codes.{both}
 use Rattle.mo_grammar.proofs.Holding.{HoldsEach}
 use Rattle.mo_grammar.proofs.SoundSteps.{all_true, each_of_some, named_token, AreSoundEquations, taken_test, IsSoundImported, Makes, OfOption, anything, by_symbol, by_name, by_seq, by_either, by_either2, by_made, by_weaker, by_placed, by_nested, by_under, by_many, by_optional, by_behind, by_before, by_between, by_separated_each, by_listed}

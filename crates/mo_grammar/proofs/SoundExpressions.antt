@@ -3,29 +3,28 @@ use Rattle.std.proofs.Common.{◌≡◌, ℕ, Bool, true, false, List, [], ◌�
 use Rattle.std.specs.Prelude.{if◌then◌else◌}
 use Rattle.std.specs.List.{list_all}
 use Rattle.mo_syntax.specs.declared.place.Place.{Place}
-use Rattle.mo_syntax.specs.declared.expr.CalleeOf.{CalleeOf}
 use Rattle.mo_syntax.specs.declared.expr.CalleeOf.TheVariants.{Named, Der, Initial, Pure}
 use Rattle.mo_syntax.specs.declared.expr.FactorOf.{FactorOf}
 use Rattle.mo_syntax.specs.declared.expr.IndexOf.{IndexOf}
 use Rattle.mo_syntax.specs.declared.expr.ReferenceOf.{ReferenceOf}
 use Rattle.mo_syntax.specs.declared.expr.TermOf.{TermOf}
 use Rattle.mo_syntax.specs.declared.expr.Expr.{Expr}
-use Rattle.mo_syntax.specs.declared.expr.Args.{Args, Args-F, out-roll-Args}
-use Rattle.mo_syntax.specs.declared.expr.Arg.{Arg, Arg-F, out-Arg}
+use Rattle.mo_syntax.specs.declared.expr.Args.{Args, out-roll-Args}
+use Rattle.mo_syntax.specs.declared.expr.Arg.{Arg}
 use Rattle.mo_syntax.specs.declared.expr.Arg.TheVariants.{Value, Partial, outs-Value, outs-Partial}
 use Rattle.mo_syntax.specs.declared.expr.Node.{Node, Node-F, out-Node}
 use Rattle.mo_syntax.specs.declared.expr.Node.TheVariants.{Sum, outs-Whole, outs-Decimal, outs-Str, outs-Truth, outs-Ref, outs-Sum, outs-Product, outs-Power, outs-Relation, outs-Not, outs-All, outs-Any, outs-Range, outs-If, outs-Call, outs-Tuple, outs-Array, outs-ArrayFor, outs-Matrix, outs-EndMark}
-use Rattle.mo_syntax.specs.SoundTree.{Naming, some_by, option_by, part_by, callee_by, index_by, named_by, begins_multiplied, branch_by, node_by, args_by, arg_by, is_sound_expr, is_sound_node, is_sound_args, is_sound_arg, is_sound_option, are_sound_options, is_sound_reference, are_sound_indices}
+use Rattle.mo_syntax.specs.SoundTree.{Naming, some_by, option_by, part_by, callee_by, index_by, named_by, branch_by, node_by, args_by, arg_by, is_sound_expr, is_sound_args, is_sound_arg, is_sound_option, are_sound_options, is_sound_reference, are_sound_indices}
 use Rattle.mo_syntax.proofs.SoundParts.{expr_is, node_is, args_are, arg_is}
-use Rattle.mo_grammar.specs.Lexeme.{Lexeme, code_of}
+use Rattle.mo_grammar.specs.Lexeme.{Lexeme}
 use Rattle.mo_grammar.specs.Codes.{comma}
 use Rattle.mo_grammar.specs.Grammar.{symbol}
 use Rattle.mo_grammar.specs.Forms.{behind, optional}
-use Rattle.mo_grammar.specs.Trees.{expr_at, plain_part, or_nothing, reference_node, callee_of, args_of, args_or_none, Given, given_or_none, Following, whole_tree, terms_tree, sum_tree, product_tree, power_tree, relation_tree, not_tree, any_tree, all_tree, range_tree, range_node, outputs_tree, array_node, is_minus, term_of, first_term, InBraces}
-use Rattle.mo_grammar.specs.Symbols.{Symbol, ValueOf, Form, Expressions, Simples, Logicals, Conjunctions, Negations, Relations, Sums, Products, Powers, Primaries, CallArguments, Arguments, MoreArguments, OneArgument, Indices, References, Subscripts, TypeSpecs, Names}
-use Rattle.mo_grammar.specs.Expressions.{name, type_spec, part, reference, subscript, subscripts, index, indices, named, named_list, function_argument, arg, more_arguments, args, call_args, outputs, exprs, array_args, literal, word_call, output_list, matrix, array, primary, factor, further_factor, term, further_term, arith, relation, neg, conj, logical, simple, further_branch, if_expression, expr}
+use Rattle.mo_grammar.specs.Trees.{expr_at, plain_part, or_nothing, reference_node, callee_of, args_of, args_or_none, Given, given_or_none, Following, terms_tree, sum_tree, product_tree, power_tree, relation_tree, not_tree, any_tree, all_tree, range_tree, outputs_tree, array_node, is_minus, term_of, InBraces}
+use Rattle.mo_grammar.specs.Symbols.{Expressions, Simples, Logicals, Conjunctions, Negations, Relations, Sums, Products, Powers, Primaries, CallArguments, Arguments, MoreArguments, OneArgument, Indices, References, Subscripts, TypeSpecs, Names}
+use Rattle.mo_grammar.specs.Expressions.{name, type_spec, part, reference, subscript, subscripts, index, indices, named, named_list, function_argument, arg, more_arguments, args, call_args, outputs, exprs, array_args, literal, word_call, primary, factor, term, arith, relation, neg, conj, logical, simple, further_branch, if_expression, expr}
 use Rattle.mo_grammar.proofs.Codes.{both}
-use Rattle.mo_grammar.proofs.SoundSteps.{all_true, one_more, each_of_some, named_token, Makes, OfOption, Sound, anything, by_symbol, by_name, by_seq, by_either, by_either2, by_made, by_weaker, by_placed, by_nested, by_many, by_optional, by_behind, by_between, by_separated, by_listed}
+use Rattle.mo_grammar.proofs.SoundSteps.{all_true, named_token, Makes, OfOption, anything, by_symbol, by_name, by_seq, by_either, by_either2, by_made, by_weaker, by_placed, by_nested, by_many, by_optional, by_behind, by_between, by_separated, by_listed}
 
 -- ---- options and lists
 

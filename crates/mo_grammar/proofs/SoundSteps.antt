@@ -1,11 +1,11 @@
 -- What is sound of the values of each production, and what follows for a part of the grammar from what holds of its own parts.
-use Rattle.std.proofs.Common.{◌≡◌, ℕ, Bool, true, false, List, [], ◌∷◌, inl, inr, Option, Some, None, IsTrue, refl, subst}
+use Rattle.std.proofs.Common.{◌≡◌, ℕ, Bool, true, List, [], ◌∷◌, inl, inr, Option, Some, None, IsTrue, refl, subst}
 use Rattle.std.specs.Prelude.{◌&&◌}
 use Rattle.std.specs.List.{list_all}
-use Rattle.mo_syntax.specs.SoundTree.{Naming, some_by, option_by, named_by, is_sound_expr, is_sound_args, is_sound_arg, is_sound_option, are_sound_options, is_sound_reference, are_sound_indices, branches_by, is_sound_equation, is_sound_statement, is_sound_mods, argument_by, is_sound_give, is_sound_item, is_sound_class, is_sound_file}
+use Rattle.mo_syntax.specs.SoundTree.{Naming, some_by, option_by, named_by, is_sound_expr, is_sound_args, is_sound_arg, are_sound_options, is_sound_reference, are_sound_indices, branches_by, is_sound_equation, is_sound_statement, is_sound_mods, argument_by, is_sound_give, is_sound_item, is_sound_class, is_sound_file}
 use Rattle.mo_grammar.specs.Lexeme.{Lexeme, code_of}
-use Rattle.mo_grammar.specs.Grammar.{EndName, Opening, Limits, renamed, empty, token, seq, either, either2, many, made, placed, nested, end_name, under, unless, symbol, has, identifiers}
-use Rattle.mo_grammar.specs.Forms.{joined, optional, flag, behind, before, between, separated}
+use Rattle.mo_grammar.specs.Grammar.{Opening, Limits, renamed, empty, token, seq, either, either2, many, made, placed, nested, under, unless, symbol, has, identifiers}
+use Rattle.mo_grammar.specs.Forms.{optional, behind, before, between, separated}
 use Rattle.mo_grammar.specs.ClassTrees.{Equation, Branched, BranchedElse, Imported}
 use Rattle.mo_grammar.specs.Symbols.{Symbol, ValueOf, Form, Expressions, Simples, Logicals, Conjunctions, Negations, Relations, Sums, Products, Powers, Primaries, CallArguments, Arguments, MoreArguments, OneArgument, Indices, References, Subscripts, TypeSpecs, Names, ClassMods, ModArguments, EquationItems, ForEquations, WhenEquations, ElseEquations, IfEquations, StatementItems, ImportNames, ElementItems, Compositions, Sections, SectionEquations, ClassDefinitions, Files}
 use Rattle.mo_grammar.proofs.Holding.{Fact, HoldsBy, HoldsEach, HoldsOr, each_follows}

@@ -17,7 +17,7 @@ use Rattle.mo_grammar.specs.Productions.{rule}
 use Rattle.mo_grammar.specs.Symbols.{Symbol, ValueOf, Expressions, Simples, Logicals, Conjunctions, Negations, Relations, Sums, Products, Powers, Primaries, CallArguments, Arguments, MoreArguments, OneArgument, Indices, References, Subscripts, TypeSpecs, Names, ClassMods, ModArguments, EquationItems, ForEquations, WhenEquations, ElseEquations, IfEquations, StatementItems, ImportNames, ElementItems, Compositions, Sections, SectionEquations, ClassDefinitions, Files}
 use Rattle.mo_grammar.proofs.Codes.{one_of}
 use Rattle.mo_grammar.proofs.Holding.{HoldsBy, spelled_holds}
-use Rattle.mo_grammar.proofs.SoundSteps.{NamedToken, Sound, SoundFact, Makes}
+use Rattle.mo_grammar.proofs.SoundSteps.{NamedToken, Sound, SoundFact}
 use Rattle.mo_grammar.proofs.SoundExpressions as of
 use Rattle.mo_grammar.proofs.SoundClasses as part
 use Rattle.mo_grammar.proofs.SoundElements as class

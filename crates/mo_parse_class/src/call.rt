@@ -1,9 +1,11 @@
 //! The file that a list of tokens spells.
-ghost use Rattle.std.specs.Prelude.{◌≡◌, IfOk, IfErr};
+ghost use Rattle.std.specs.Prelude.{◌≡◌, IfOk, IfErr, IsTrue};
+ghost use Rattle.mo_syntax.specs.SoundTree.{Naming, is_sound_file};
 ghost use Rattle.mo_syntax.specs.declared.class.FileTree.{FileTree as Tree};
 ghost use Rattle.mo_grammar.specs.Lexeme.{lexemes};
 ghost use Rattle.mo_grammar.specs.Symbols.{Files};
 ghost use Rattle.mo_grammar.specs.Language.{whole_limits, Spells};
+ghost use Rattle.mo_grammar.specs.Naming.{IdentifiersPass};
 ghost use Rattle.mo_parse_class.specs.WholeFiles.{EndsAtEnd, IsTree, IsFirstImpossible, answered, answered_tree};
 
 use crate::file::file;
@@ -17,11 +19,13 @@ use std::alloc::Global;
 /// Answers its tree where the whole list spells one, within the limits: at most 128 constructs and 32 classes open inside one
 /// another. Otherwise it stops at the first token that is impossible behind those before it: with rule 8 where the token
 /// could stand there were nesting not limited, otherwise with rule 7 where it could were the names behind `end` free besides,
-/// otherwise with rule 6. `NoMemory` is the only other answer.
+/// otherwise with rule 6. `NoMemory` is the only other answer. The tree is sound, and each name in it is that of an
+/// identifier: it passes each test that the identifiers among the tokens pass.
 pub fn stored_definition(alloc: Global, tokens: &[Token]) -> Result<FileTree, Stop>
     requires ends { EndsAtEnd (lexemes tokens.now) }
     ensures found { IfOk result (λ tree. Spells Files whole_limits (lexemes tokens.now) tree) }
     ensures only { (tree : Tree) → Spells Files whole_limits (lexemes tokens.now) tree → IsTree tree result }
+    ensures sound { (is_name : Naming) → IdentifiersPass is_name (lexemes tokens.now) → IfOk result (λ tree. IsTrue (is_sound_file is_name tree)) }
     ensures refused { IfErr result (IsFirstImpossible (lexemes tokens.now)) }
 {
     let left = Left {

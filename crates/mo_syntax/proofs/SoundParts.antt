@@ -1,22 +1,17 @@
 -- A part of a tree is sound where its form is and its own parts are.
-use Rattle.std.proofs.Common.{◌≡◌, Bool, true, false, List, [], ◌∷◌, map, Option, Some, None, refl, ap, ◌∙◌}
+use Rattle.std.proofs.Common.{◌≡◌, Bool, List, [], ◌∷◌, map, Option, Some, None, refl, ap, ◌∙◌}
 use Rattle.std.specs.Prelude.{◌&&◌}
 use Rattle.std.specs.List.{list_all}
 use Rattle.mo_syntax.specs.declared.expr.Arg.TheShapes as shapes
-use Rattle.mo_syntax.specs.declared.expr.BranchOf.{BranchOf}
-use Rattle.mo_syntax.specs.declared.expr.CalleeOf.{CalleeOf}
 use Rattle.mo_syntax.specs.declared.expr.CalleeOf.TheVariants.{Named, Der, Initial, Pure}
 use Rattle.mo_syntax.specs.declared.expr.FactorOf.{FactorOf}
 use Rattle.mo_syntax.specs.declared.expr.IndexOf.{IndexOf}
-use Rattle.mo_syntax.specs.declared.expr.PartOf.{PartOf}
 use Rattle.mo_syntax.specs.declared.expr.ReferenceOf.{ReferenceOf}
-use Rattle.mo_syntax.specs.declared.expr.Expr.{Expr, Expr-F, fold_out-Expr, map-Expr, out-Expr}
+use Rattle.mo_syntax.specs.declared.expr.Expr.{Expr, fold_out-Expr}
 use Rattle.mo_syntax.specs.declared.expr.Node.{Node, Node-F, fold_out-Node, map-Node, out-Node}
 use Rattle.mo_syntax.specs.declared.expr.Args.{Args, Args-F, fold_out-Args, map-Args, out-Args}
 use Rattle.mo_syntax.specs.declared.expr.Arg.{Arg, Arg-F, fold_out-Arg, map-Arg, out-Arg}
-use Rattle.mo_syntax.specs.declared.equation.EquationOf.{EquationOf}
 use Rattle.mo_syntax.specs.declared.equation.EquationKind.{EquationKind, EquationKind-F, fold_out-EquationKind, map-EquationKind, out-EquationKind}
-use Rattle.mo_syntax.specs.declared.equation.StatementOf.{StatementOf}
 use Rattle.mo_syntax.specs.declared.equation.StatementKind.{StatementKind, StatementKind-F, fold_out-StatementKind, map-StatementKind, out-StatementKind}
 use Rattle.mo_syntax.specs.declared.class.ElementFlags.{ElementFlags}
 use Rattle.mo_syntax.specs.declared.class.ModsOf.{ModsOf}
@@ -25,7 +20,7 @@ use Rattle.mo_syntax.specs.declared.class.Give.{Give, Give-F, fold_out-Give, map
 use Rattle.mo_syntax.specs.declared.class.Item.{Item, Item-F, fold_out-Item, map-Item, out-Item}
 use Rattle.mo_syntax.specs.declared.class.What.{What, What-F, fold_out-What, map-What, out-What}
 use Rattle.mo_syntax.specs.declared.class.Element.{Element, Element-F, fold_out-Element, map-Element, out-Element}
-use Rattle.mo_syntax.specs.SoundTree.{Naming, itself, is_nonempty, option_by, part_by, reference_by, callee_by, index_by, named_by, begins_multiplied, branch_by, some_by, node_by, args_by, arg_by, expr_by, is_sound_expr, is_sound_node, is_sound_args, is_sound_arg, is_sound_option, are_sound_options, is_sound_reference, branches_by, equation_by, equation_kind_by, is_sound_equation_kind, statement_by, statement_kind_by, is_sound_statement_kind, argument_by, mods_by, body_by, give_by, item_by, what_by, element_by, is_sound_body, is_sound_give, is_sound_item, is_sound_what, is_sound_element}
+use Rattle.mo_syntax.specs.SoundTree.{Naming, itself, is_nonempty, option_by, part_by, reference_by, index_by, begins_multiplied, branch_by, some_by, node_by, args_by, arg_by, expr_by, is_sound_expr, is_sound_node, is_sound_args, is_sound_arg, is_sound_option, are_sound_options, is_sound_reference, equation_kind_by, is_sound_equation_kind, statement_kind_by, is_sound_statement_kind, argument_by, body_by, give_by, item_by, what_by, element_by, is_sound_body, is_sound_give, is_sound_item, is_sound_what, is_sound_element}
 
 -- ---- lists of what was tested
 
