@@ -175,7 +175,7 @@ redeclarations table sources name index = redeclarations_in (said_by_all table n
 abbrev pub redeclared : Table → List Source → List ℕ → List ℕ → Option Redeclaration
 redeclared table sources name index = first_of (redeclarations table sources name index)
 
--- the source with a list in its place; an empty list is no source
+-- The source with the list of a redeclaration in its place. It has not passed through a component yet, and an empty list is no source.
 abbrev pub with_list : Source → Modifiers → List Source
 with_list source modifiers =
     if is_nothing modifiers then [] else
@@ -185,7 +185,7 @@ with_list source modifiers =
         pending = source.piece.pending;
         listing = source.piece.listing;
         last = source.piece.last;
-        outside = source.piece.outside;
+        outside = false;
         origin = source.piece.origin;
       };
       scope = source.scope;
