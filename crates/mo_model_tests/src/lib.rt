@@ -1,4 +1,5 @@
-//! Tests of flat models: expressions and models with what the analyses of them give.
+//! Tests of flat models: their texts, what array expressions mean (kinds, dimensions, subscripts, elements, equations), and
+//! derivatives and reduced models.
 //!
 //! They stand apart from the crates that they call, so that these are proved without them.
 #![tactic(auto)]
@@ -6,6 +7,16 @@
 #[cfg(test)]
 mod derivative_rows;
 #[cfg(test)]
+mod dims;
+#[cfg(test)]
+mod equations;
+#[cfg(test)]
+mod kinds;
+#[cfg(test)]
 mod postfix;
 #[cfg(test)]
 mod reduced_rows;
+#[cfg(test)]
+mod texts;
+#[cfg(test)]
+mod words;
