@@ -1,9 +1,10 @@
 //! Dummy derivatives, and the states that are left.
 ghost use Rattle.std.specs.Prelude.{◌≡◌, ◌≢◌, ℕ, ◌+◌, ◌-◌, ◌<◌, ◌≤◌, ◌++◌, length, map, slice_index, IfOk, OnOk};
 ghost use Rattle.std.proofs.Common.{suc};
+ghost use Rattle.mo_incidence.specs.Counting.{sum_below};
 ghost use Rattle.mo_incidence.specs.Signature.{equations};
 ghost use Rattle.mo_incidence.specs.Assignment.{Assigns, CoversAll};
-ghost use Rattle.mo_incidence.specs.Offsets.{IsTight, by_place, by_number};
+ghost use Rattle.mo_incidence.specs.Offsets.{IsTight, by_place, by_number, sum_unknowns};
 ghost use Rattle.mo_incidence.specs.Dummies.{differentiated, dummy, dummies_of, states_of};
 ghost use Rattle.mo_blocks.specs.Stages.{kept, derivatives_below, derivatives_to, HaveOwn, AreHighest, AreFollowed};
 
@@ -135,6 +136,8 @@ pub fn dummies(alloc: Global, inc: &Incidence, offsets: &Offsets) -> Result<Dumm
     ensures own { IfOk result (λ found. HaveOwn (by_place offsets.now.c.items) (by_place offsets.now.pairs.items) (equations inc.now) found.chosen.items) }
     ensures highest { IfOk result (λ found. AreHighest inc.now (by_place offsets.now.c.items) found.chosen.items) }
     ensures followed { IfOk result (λ found. AreFollowed found.chosen.items) }
+    ensures dummies_count { IfOk result (λ found. length found.chosen.items ≡ sum_below (by_place offsets.now.c.items) (equations inc.now)) }
+    ensures states_count { IfOk result (λ found. length found.states.items + sum_below (by_place offsets.now.c.items) (equations inc.now) ≡ sum_unknowns inc.now (by_number offsets.now.d.items)) }
 {
     let _equations = inc.equations();
     let chosen = choose(alloc, inc, &offsets.c, &offsets.d, &offsets.pairs)?;

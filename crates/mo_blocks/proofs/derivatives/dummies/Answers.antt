@@ -1,5 +1,7 @@
 use Rattle.std.proofs.Common.{◌≡◌, ◌∙◌, length, arith}
 use Rattle.mo_graph.proofs.Lists.{written-whole}
+use Rattle.mo_incidence.specs.Offsets.{by_place, by_number}
+use Rattle.mo_blocks.proofs.Counts.{count-dummies, count-states}
 use Rattle.mo_blocks.proofs.Dummying.{depth-low, states-there}
 use Rattle.mo_blocks.proofs.Staging.{own-dummies, highest-dummies, followed-dummies, chosen-here}
 use Rattle.mo_blocks.proofs.derivatives.dummies.Goals as goal
@@ -24,3 +26,13 @@ returns-clause-highest c = rw (chosen-here _ _ _ _ _ _ _ _ c.deref.ensures.value
 
 pub returns-clause-followed : goal.returns-clause-followed
 returns-clause-followed c = rw (chosen-here _ _ _ _ _ _ _ _ c.deref.ensures.value c.deref-2.ensures.value c.deref-3.ensures.value c.in_ok-chosen.ensures) (followed-dummies _ _ _ _ c.requires.tight c.requires.all)
+
+pub returns-clause-dummies_count : goal.returns-clause-dummies_count
+returns-clause-dummies_count c = rw (chosen-here _ _ _ _ _ _ _ _ c.deref.ensures.value c.deref-2.ensures.value c.deref-3.ensures.value c.in_ok-chosen.ensures) (count-dummies (by_place c.args.offsets.now.c.items) (by_number c.args.offsets.now.d.items) (by_place c.args.offsets.now.pairs.items) _)
+
+pub returns-clause-states_count : goal.returns-clause-states_count
+returns-clause-states_count c =
+    let full : c.in_ok-depth.depth.len ≡ length c.note_depths.new.depth = omega (arith, c.deref_mut.ensures.len, c.note_depths.auto.depth) in
+    rw (states-there _ _ _ _ _ _ _ _ _ c.equations-equations.ensures.sound c.requires.square c.requires.lengths.1 c.requires.tight c.requires.all c.note_depths.ensures
+    c.deref-4.ensures.value c.deref-6.ensures.value c.deref-7.ensures.value (c.deref-8.ensures.value ∙ written-whole _ _ _ full) _ c.in_ok-states.ensures)
+    (count-states _ _ _ _ c.equations-equations.ensures.sound c.requires.square c.requires.tight c.requires.all)
