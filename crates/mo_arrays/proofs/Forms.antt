@@ -16,8 +16,10 @@ use Rattle.mo_flat.specs.declared.array.ArrayNode.TheVariants.{rolls-Whole, roll
 use Rattle.mo_flat.specs.declared.expr.FlatExpr.{FlatExpr}
 use Rattle.mo_flat.specs.declared.expr.FlatExpr.TheVariants.{Whole as whole, Decimal as decimal, Str as text_of, Truth as truth, Literal as literal, Time as time, Power as power, Relation as relation, Not as negated, All as all_of, Any as any_of, If as choice, Der as derivative, Call as called}
 use Rattle.mo_typing.specs.Dims.{Dims}
-use Rattle.mo_arrays.specs.Shape.{shape_of}
-use Rattle.mo_arrays.specs.Elements.{Index, Part, element_of, element_of_node, element_node, element_part, part_of, factor_of, at, sum_of, product_of, chain_of, chain_before, call, element_among, sized_element, size_element, range_element, variable, located}
+use Rattle.mo_typing.specs.Shape.{shape_of}
+use Rattle.mo_typing.specs.Indices.{Index, range_element, located}
+use Rattle.mo_arrays.specs.Elements.{Part, element_of, element_of_node, element_node, element_part, at, sum_of, product_of, chain_of, call, element_among, sized_element, size_element, variable}
+use Rattle.mo_arrays.specs.steps.Parts.{part_of, factor_of, chain_before}
 
 abbrev Element : Type 0
 Element = Index → FlatExpr

@@ -1,8 +1,11 @@
-pub mod Checking
 pub mod Forms
-pub mod Lists
 pub mod Numbers
+pub mod SoundCalls
+pub mod SoundChains
+pub mod SoundDims
+pub mod SoundEquations
+pub mod SoundKinds
+pub mod SoundLaw
+pub mod SoundNodes
+pub mod SoundParts
 pub mod Splitting
-pub mod Trees
-pub mod Agreeing
-pub mod ShapeLaw

@@ -6,7 +6,9 @@ use Rattle.std.proofs.lemmas.Simd.{map-map}
 use Rattle.mo_flat.specs.declared.array.ArrayExpr.{ArrayExpr}
 use Rattle.mo_flat.specs.declared.expr.FlatExpr.{FlatExpr}
 use Rattle.mo_typing.specs.Dims.{Dims}
-use Rattle.mo_arrays.specs.Elements.{Index, Chain, numbers_to, indices, inner_term, inner_terms_with, inner_term_with, part_of}
+use Rattle.mo_typing.specs.Indices.{Index, numbers_to, indices}
+use Rattle.mo_arrays.specs.Elements.{Chain, inner_term}
+use Rattle.mo_arrays.specs.steps.Parts.{inner_terms_with, inner_term_with, part_of}
 
 next : (k : ℕ) → numbers_to (k + 1) ≡ numbers_to k ++ (k + 1) ∷ []
 next k = rw add-one refl

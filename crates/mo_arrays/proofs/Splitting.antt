@@ -6,8 +6,10 @@ use Rattle.std.proofs.lemmas.List.Sums.{fold-append}
 use Rattle.std.proofs.lemmas.Option.{slice_get-get_or}
 use Rattle.mo_flat.specs.declared.array.ArrayExpr.{ArrayExpr}
 use Rattle.mo_typing.specs.Dims.{Dims}
-use Rattle.mo_arrays.specs.Shape.{is_matrix_factor, multiplied, operand}
-use Rattle.mo_arrays.specs.Elements.{Index, factor_of, chain_of, chain_before, begun_with, begun_by, behind_last, latest, acting, extended, unbegun, at, part_of, plain, inner_with}
+use Rattle.mo_typing.specs.Shape.{is_matrix_factor, multiplied, operand}
+use Rattle.mo_typing.specs.Indices.{Index}
+use Rattle.mo_arrays.specs.Elements.{chain_of, extended, unbegun, at, plain}
+use Rattle.mo_arrays.specs.steps.Parts.{factor_of, chain_before, begun_with, begun_by, behind_last, latest, acting, part_of, inner_with}
 
 -- what is known of the first j factors
 pub record IsSplit (factors : List (Bool × Bool × ArrayExpr)) (j : ℕ) (last : Option ℕ) (dims : Option Dims) : Type 0 where

@@ -1,46 +1,24 @@
 -- The elements of an array expression, one scalar expression for each index (Modelica Language Specification 3.5, sections 10.3 on
 -- functions, 10.4 on constructors and ranges, 10.5 on indexing and 10.6 on operators). Indices count from 1, the first
 -- dimension first. An index that lies outside has a literal in place of an element.
-use Rattle.std.specs.Prelude.{ℕ, zero, suc, ◌+◌, ◌-◌, ◌*◌, ℤ, pos, ◌+ℤ◌, ◌*ℤ◌, Bool, true, false, ◌&&◌, List, [], ◌∷◌, ◌++◌, map, flat_map, fold, length, take, drop, Option, Some, None, if◌then◌else◌, nat_eq, slice_get}
+use Rattle.std.specs.Prelude.{ℕ, ◌+◌, ◌-◌, ℤ, pos, Bool, true, false, ◌&&◌, List, [], ◌∷◌, ◌++◌, map, fold, length, take, drop, Option, Some, None, if◌then◌else◌, nat_eq, slice_get}
 use Rattle.mo_syntax.specs.declared.place.Place.{Place}
 use Rattle.mo_tables.specs.declared.functions.TheConstants.{CROSS, IDENTITY, NDIMS, ONES, PRODUCT, SUM, TRANSPOSE}
 use Rattle.mo_flat.specs.declared.array.ArrayExpr.{ArrayExpr, ArrayExpr-F, para-ArrayExpr}
 use Rattle.mo_flat.specs.declared.array.ArrayNode.{ArrayNode, ArrayNode-F, para-ArrayNode}
-use Rattle.mo_flat.specs.declared.array.Subscript.{Subscript}
-use Rattle.mo_flat.specs.declared.array.Subscript.TheVariants.{All as every, One, Many}
 use Rattle.mo_flat.specs.declared.expr.FlatExpr.{FlatExpr}
 use Rattle.mo_flat.specs.declared.expr.FlatExpr.TheVariants.{Whole, Decimal, Str, Truth, Literal, Time, Var, Der, Sum, Product, Power, Call, Relation, Not, All, Any, If}
-use Rattle.mo_typing.specs.Dims.{Dims, is_scalar}
-use Rattle.mo_arrays.specs.Shape.{Operand, shape_of, or_scalar, size_of, is_matrix_factor, multiplied, swapped}
-
-abbrev pub Index : Type 0
-Index = List ℕ
-
--- the numbers from 1 to n
-abbrev pub numbers_to : ℕ → List ℕ
-numbers_to zero = []
-numbers_to (suc n) = numbers_to n ++ suc n ∷ []
-
--- all indices, the last one fastest
-abbrev pub indices : Dims → List Index
-indices [] = [] ∷ []
-indices (n ∷ dims) = flat_map (λ k. map (λ index. k ∷ index) (indices dims)) (numbers_to n)
+use Rattle.mo_typing.specs.Dims.{Dims}
+use Rattle.mo_typing.specs.Shape.{Operand, shape_of, or_scalar, size_of, is_matrix_factor, multiplied, swapped}
+use Rattle.mo_typing.specs.Indices.{Index, numbers_to, indices, own, or_else, first_number, located, variable_at, range_element, is_diagonal}
 
 -- an expression with its elements
 abbrev pub Part : Type 0
 Part = ArrayExpr × (Index → FlatExpr)
 
-abbrev pub or_else : {A : Type 0} → Option A → A → A
-or_else None a = a
-or_else (Some b) a = b
-
 abbrev pub element_in : Option Part → Index → FlatExpr
 element_in None index = Whole (pos 0)
 element_in (Some part) index = part.1 index
-
--- a scalar stands beside each element of an array
-abbrev pub own : Dims → Index → Index
-own dims index = if is_scalar dims then [] else index
 
 abbrev pub at : Part → Index → FlatExpr
 at part index = part.1 (own (shape_of part.0) index)
@@ -64,26 +42,8 @@ plain u = (false, u)
 abbrev pub all_elements : Part → List (Bool × FlatExpr)
 all_elements part = map (λ index. plain (part.1 index)) (indices (shape_of part.0))
 
--- the number at place k, from 1
-abbrev pub number_at : List ℤ → ℕ → ℕ
-number_at ns k = size_of (or_else (slice_get ns (k - 1)) (pos 0))
-
--- the index of the variable's element that an index of the subscripted array means
-abbrev pub located : List Subscript → Index → Index
-located [] index = index
-located (One place n ∷ subs) index = size_of n ∷ located subs index
-located (every ∷ subs) (k ∷ index) = k ∷ located subs index
-located (Many place ns ∷ subs) (k ∷ index) = number_at ns k ∷ located subs index
-located (s ∷ subs) [] = []
-
--- how many elements stand before that of an index, the last index fastest
-abbrev pub offset : ℕ → Dims → Index → ℕ
-offset before [] index = before
-offset before (n ∷ dims) [] = before
-offset before (n ∷ dims) (k ∷ index) = offset (before * n + (k - 1)) dims index
-
 abbrev pub variable : List ℕ → Dims → Index → FlatExpr
-variable vars dims index = Var (or_else (slice_get vars (offset 0 dims index)) 0) 0
+variable vars dims index = Var (variable_at vars dims index) 0
 
 -- A chain of factors so far: its dimensions, none before the first factor, and for an index its factors, from the left.
 pub record Chain : Type 0 where
@@ -99,10 +59,6 @@ unbegun = record { dims = None; factors = λ index. [] }
 
 abbrev pub operand_of : Factor → Operand
 operand_of factor = (factor.0, factor.1, shape_of factor.2.0)
-
-abbrev pub first_number : Index → ℕ
-first_number [] = 0
-first_number (k ∷ index) = k
 
 -- term k: row of the left times column of the right, the chain so far being one factor
 abbrev pub inner_term : (Index → List (Bool × FlatExpr)) → Part → Index → Index → ℕ → Bool × FlatExpr
@@ -164,13 +120,6 @@ abbrev pub size_element : Dims → Option (Place × ℤ) → Index → FlatExpr
 size_element dims None index = size_at dims (first_number index)
 size_element dims (Some at) index = size_at dims (size_of at.1)
 
-abbrev pub is_diagonal : Index → Bool
-is_diagonal (i ∷ j ∷ []) = nat_eq i j
-is_diagonal _ = false
-
-abbrev pub range_element : ℤ → ℤ → Index → ℤ
-range_element first step index = first +ℤ (pos (first_number index - 1) *ℤ step)
-
 -- what `zeros`, `ones` and `identity` hold
 abbrev pub constant : ℕ → Index → FlatExpr
 constant function index =
@@ -214,47 +163,3 @@ element_of = para-ArrayExpr (Index → FlatExpr) (Index → FlatExpr) element_no
 
 abbrev pub element_of_node : ArrayNode → Index → FlatExpr
 element_of_node = para-ArrayNode (Index → FlatExpr) (Index → FlatExpr) element_node element_part
-
--- an expression, a term or factor, a branch with their elements
-abbrev pub part_of : ArrayExpr → Part
-part_of e = (e, element_of e)
-
-abbrev pub factor_of : Bool × Bool × ArrayExpr → Factor
-factor_of factor = (factor.0, factor.1, part_of factor.2)
-
--- the chain of the first n factors
-abbrev pub chain_before : List (Bool × Bool × ArrayExpr) → ℕ → Chain
-chain_before factors n = chain_of (map factor_of (take n factors))
-
--- what stands for a chain that ends with a matrix factor
-abbrev pub inner_with : Chain → Factor → Index → FlatExpr
-inner_with chain factor index = inner_product chain factor.2 (own (or_scalar (multiplied chain.dims (operand_of factor))) index)
-
-abbrev pub begun_with : Chain → Option (Bool × Bool × ArrayExpr) → Index → List (Bool × FlatExpr)
-begun_with chain None index = []
-begun_with chain (Some factor) index = plain (inner_with chain (factor_of factor) index) ∷ []
-
--- the first factor of an element by its last matrix factor, if there is one
-abbrev pub begun_by : List (Bool × Bool × ArrayExpr) → Option ℕ → Index → List (Bool × FlatExpr)
-begun_by factors None index = []
-begun_by factors (Some m) index = begun_with (chain_before factors m) (slice_get factors m) index
-
--- the factors from one place on, before another one, as they act on each element
-abbrev pub acting : List (Bool × Bool × ArrayExpr) → Index → List (Bool × FlatExpr)
-acting factors index = map (λ factor. (factor.0, at (part_of factor.2) index)) factors
-
-abbrev pub behind_last : Option ℕ → ℕ
-behind_last None = 0
-behind_last (Some m) = m + 1
-
--- the terms of an inner product with a factor
-abbrev pub inner_terms_with : Chain → Option (Bool × Bool × ArrayExpr) → Index → Index → ℕ → List (Bool × FlatExpr)
-inner_terms_with chain None row column count = []
-inner_terms_with chain (Some factor) row column count = map (inner_term chain.factors (part_of factor.2) row column) (numbers_to count)
-
-abbrev pub inner_term_with : Chain → Option (Bool × Bool × ArrayExpr) → Index → Index → ℕ → List (Bool × FlatExpr)
-inner_term_with chain None row column k = []
-inner_term_with chain (Some factor) row column k = inner_term chain.factors (part_of factor.2) row column k ∷ []
-
-abbrev pub latest : Bool → ℕ → Option ℕ → Option ℕ
-latest matrix j last = if matrix then Some j else last

@@ -10,8 +10,9 @@ use Rattle.mo_flat.specs.declared.model.FlatEquation.{FlatEquation}
 use Rattle.mo_typing.specs.Outcome.{Outcome, and_then, breaks}
 use Rattle.mo_typing.specs.Kinds.{kind_of, is_number}
 use Rattle.mo_typing.specs.Dims.{Dims, dims_of, matched}
-use Rattle.mo_arrays.specs.Elements.{Index, element_of, indices}
-use Rattle.mo_arrays.specs.Subscripts.{Checked, fine, both, subscripts_of}
+use Rattle.mo_typing.specs.Indices.{Index, indices}
+use Rattle.mo_arrays.specs.Elements.{element_of}
+use Rattle.mo_typing.specs.Subscripts.{Checked, fine, both, subscripts_of}
 
 -- the same kind other than a number
 abbrev pub are_one : Kind → Kind → Bool
@@ -33,10 +34,14 @@ dims_of_sides left right place = and_then (dims_of left) (λ a. and_then (dims_o
 abbrev pub equation : ArrayExpr → ArrayExpr → Place → Index → FlatEquation
 equation left right place index = record { left = element_of left index; right = element_of right index; place = place }
 
+-- the dimensions of two sides, or the first rule that they break
+abbrev pub checked_sides : ArrayExpr → ArrayExpr → Place → Outcome Dims
+checked_sides left right place =
+    and_then (kinds_of_sides left right place) (λ _.
+    and_then (dims_of_sides left right place) (λ dims.
+    and_then (both (subscripts_of left) (subscripts_of right)) (λ _. Ok dims)))
+
 -- the equations of two sides, or the first rule that they break
 abbrev pub equations_of : ArrayExpr → ArrayExpr → Place → Outcome (List FlatEquation)
 equations_of left right place =
-    and_then (kinds_of_sides left right place) (λ _.
-    and_then (dims_of_sides left right place) (λ dims.
-    and_then (both (subscripts_of left) (subscripts_of right)) (λ _.
-    Ok (map (equation left right place) (indices dims)))))
+    and_then (checked_sides left right place) (λ dims. Ok (map (equation left right place) (indices dims)))

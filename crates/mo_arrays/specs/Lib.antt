@@ -1,4 +1,4 @@
 pub mod Elements
 pub mod Equations
-pub mod Shape
-pub mod Subscripts
+pub mod Sound
+pub mod steps

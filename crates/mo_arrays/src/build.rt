@@ -5,7 +5,7 @@ ghost use Rattle.mo_flat.specs.declared.expr.FlatExpr.TheVariants.{Product, Sum}
 ghost use Rattle.mo_arrays.specs.Elements.{sum_of, product_of, plain};
 
 use mo_flat::FlatExpr;
-use mo_syntax::{List, NoMemory};
+use mo_syntax::{List, NoMemory, pair};
 use std::alloc::Global;
 
 /// Whether there is one term or factor, which is not subtracted or divided by.
@@ -65,18 +65,12 @@ pub(crate) fn product_of(factors: List<(bool, FlatExpr)>) -> FlatExpr
 pub(crate) fn product(alloc: Global, a: FlatExpr, b: FlatExpr) -> Result<FlatExpr, NoMemory>
     ensures { IfOk result (λ made. made ≡ Product (plain a ∷ plain b ∷ [])) }
 {
-    let mut factors = List::new(alloc);
-    factors.push((false, a))?;
-    factors.push((false, b))?;
-    Ok(FlatExpr::Product(factors))
+    Ok(FlatExpr::Product(pair(alloc, (false, a), (false, b))?))
 }
 
 /// `a - b`
 pub(crate) fn difference(alloc: Global, a: FlatExpr, b: FlatExpr) -> Result<FlatExpr, NoMemory>
     ensures { IfOk result (λ made. made ≡ Sum (plain a ∷ (true, b) ∷ [])) }
 {
-    let mut terms = List::new(alloc);
-    terms.push((false, a))?;
-    terms.push((true, b))?;
-    Ok(FlatExpr::Sum(terms))
+    Ok(FlatExpr::Sum(pair(alloc, (false, a), (true, b))?))
 }

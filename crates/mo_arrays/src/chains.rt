@@ -1,9 +1,10 @@
 //! Where a chain of factors is multiplied as a matrix or a vector.
 ghost use Rattle.std.specs.Prelude.{◌≡◌, ◌≤◌, ◌++◌, length, slice_range, IfOk};
-ghost use Rattle.mo_arrays.specs.Elements.{Index, chain_before, begun_by, behind_last, latest, acting};
+ghost use Rattle.mo_typing.specs.Indices.{Index};
+ghost use Rattle.mo_arrays.specs.steps.Parts.{chain_before, begun_by, behind_last, latest, acting};
 
-use crate::shape::{Signed, is_matrix_factor, multiplied, shape, with_factor};
 use mo_syntax::{List, NoMemory};
+use mo_typing::shapes::{Signed, is_matrix_factor, multiplied, shape, with_factor};
 use std::alloc::Global;
 
 /// The last factor by which a chain of n factors is multiplied as a matrix or a vector.

@@ -1,25 +1,26 @@
 //! The elements of an array expression, one at a time.
 ghost use Rattle.std.specs.Prelude.{◌≡◌, ◌-◌, ◌<◌, ◌≤◌, ◌++◌, ◌∷◌, [], List, ℕ, map, length, take, drop, slice_get, slice_range, IfOk};
 ghost use Rattle.std.specs.Option.{option_map};
-ghost use Rattle.mo_flat.specs.declared.expr.FlatExpr.TheVariants.{Whole, Power, Relation, If};
-ghost use Rattle.mo_arrays.specs.Shape.{shape_of, or_scalar};
-ghost use Rattle.mo_arrays.specs.Elements.{element_of, element_of_node, part_of, at, own, indices, plain, all_elements, crossed, crossed_at, call, call_of_one, element_among, size_at, size_element, sized_element, first_number, range_element, is_diagonal, constant, chain_before, begun_by, behind_last, acting, inner_terms_with, inner_term_with};
+ghost use Rattle.mo_flat.specs.declared.expr.FlatExpr.TheVariants.{Whole, Product, Power, Relation, If};
+ghost use Rattle.mo_typing.specs.Shape.{shape_of, or_scalar};
+ghost use Rattle.mo_typing.specs.Indices.{own, indices, first_number, range_element, is_diagonal};
+ghost use Rattle.mo_arrays.specs.Elements.{element_of, element_of_node, at, plain, all_elements, crossed, crossed_at, call, call_of_one, element_among, size_at, size_element, sized_element, constant};
+ghost use Rattle.mo_arrays.specs.steps.Parts.{part_of, chain_before, begun_by, behind_last, acting, inner_terms_with, inner_term_with};
 
 use crate::build::{difference, product, product_of, sum_of};
 use crate::chains::{dims_before, last_matrix_factor};
-use crate::indices::{
-    behind_last, constant, first_number, first_of, of_range, of_size, owned, rest_of, rows_of,
-};
-use crate::places::{located, variable};
-use crate::shape::{Signed, is_scalar, joined_lists, multiplied, shape, swapped};
+use crate::indices::{behind_last, constant, of_range, of_size, variable};
 use mo_flat::{ArrayExpr, ArrayNode, FlatExpr};
-use mo_syntax::{Boxed, List, NoMemory, RelOp};
+use mo_syntax::{Boxed, List, NoMemory, RelOp, both};
 use mo_tables::functions;
+use mo_typing::indexing::{first_number, first_of, located, owned, rest_of, rows_of};
+use mo_typing::shapes::{Signed, is_scalar, joined_lists, multiplied, shape, swapped};
 use std::alloc::Global;
 
-/// The element at an index.
+/// The element at an index, which counts from 1 and lies in the dimensions of the expression. Nothing is asked of its subscripts: a
+/// caller that makes several elements calls `subscripts` once before. `NoMemory` is the only other answer.
 #[cycle(elements)]
-pub(crate) fn element_at(alloc: Global, e: &ArrayExpr, index: &[u32]) -> Result<FlatExpr, NoMemory>
+pub fn element_at(alloc: Global, e: &ArrayExpr, index: &[u32]) -> Result<FlatExpr, NoMemory>
     ensures { IfOk result (λ made. made ≡ element_of e.now index.now) }
 {
     element_of_node(alloc, e.node.get(), index)
@@ -119,8 +120,10 @@ fn of_power(
 ) -> Result<FlatExpr, NoMemory>
     ensures { IfOk result (λ made. made ≡ Power (at (part_of base.now) index.now) (at (part_of exponent.now) index.now)) }
 {
-    let a = boxed_at(alloc, base, index)?;
-    let b = boxed_at(alloc, exponent, index)?;
+    let (a, b) = both(
+        boxed_at(alloc, base, index),
+        boxed_at(alloc, exponent, index),
+    )?;
     Ok(FlatExpr::Power(a, b))
 }
 
@@ -134,8 +137,7 @@ fn of_relation(
 ) -> Result<FlatExpr, NoMemory>
     ensures { IfOk result (λ made. made ≡ Relation op (at (part_of left.now) index.now) (at (part_of right.now) index.now)) }
 {
-    let a = boxed_at(alloc, left, index)?;
-    let b = boxed_at(alloc, right, index)?;
+    let (a, b) = both(boxed_at(alloc, left, index), boxed_at(alloc, right, index))?;
     Ok(FlatExpr::Relation(op, a, b))
 }
 
@@ -149,9 +151,7 @@ fn of_branches(
 {
     let mut made = List::new(alloc);
     for branch in branches {
-        let condition = at(alloc, &branch.0, index)?;
-        let value = at(alloc, &branch.1, index)?;
-        made.push((condition, value))?;
+        made.push(both(at(alloc, &branch.0, index), at(alloc, &branch.1, index))?)?;
     }
     Ok(made)
 }
@@ -165,8 +165,10 @@ fn of_choice(
 ) -> Result<FlatExpr, NoMemory>
     ensures { IfOk result (λ made. made ≡ If (map (λ branch. (at (part_of branch.0) index.now, at (part_of branch.1) index.now)) branches.now) (at (part_of other.now) index.now)) }
 {
-    let made = of_branches(alloc, branches, index)?;
-    let value = boxed_at(alloc, other, index)?;
+    let (made, value) = both(
+        of_branches(alloc, branches, index),
+        boxed_at(alloc, other, index),
+    )?;
     Ok(FlatExpr::If(made, value))
 }
 
@@ -278,9 +280,11 @@ fn inner_term(
 {
     let left = joined_lists(alloc, row, &[k])?;
     let right = joined_lists(alloc, &[k], column)?;
-    let a = product_of(chain_at(alloc, factors, m, left.as_slice())?);
-    let b = element_at(alloc, &factors[m].2, right.as_slice())?;
-    product(alloc, a, b)
+    let (a, b) = both(
+        chain_at(alloc, factors, m, left.as_slice()),
+        element_at(alloc, &factors[m].2, right.as_slice()),
+    )?;
+    product(alloc, product_of(a), b)
 }
 
 /// The factors of the element of a chain of the first n factors.
@@ -375,7 +379,22 @@ fn of_call_of_one(
     }
 }
 
-// a[j]*b[k] - a[k]*b[j]
+/// `a[j]*b[k]`
+#[cycle(elements)]
+fn product_at(
+    alloc: Global,
+    a: &ArrayExpr,
+    b: &ArrayExpr,
+    j: u32,
+    k: u32,
+) -> Result<FlatExpr, NoMemory>
+    ensures { IfOk result (λ made. made ≡ Product (plain (element_of a.now (j ∷ [])) ∷ plain (element_of b.now (k ∷ [])) ∷ [])) }
+{
+    let (x, y) = both(element_at(alloc, a, &[j]), element_at(alloc, b, &[k]))?;
+    product(alloc, x, y)
+}
+
+/// `a[j]*b[k] - a[k]*b[j]`
 #[cycle(elements)]
 fn of_cross_at(
     alloc: Global,
@@ -386,10 +405,7 @@ fn of_cross_at(
 ) -> Result<FlatExpr, NoMemory>
     ensures { IfOk result (λ made. made ≡ crossed_at (part_of a.now) (part_of b.now) j k) }
 {
-    let first = element_at(alloc, a, &[j])?;
-    let left = product(alloc, first, element_at(alloc, b, &[k])?)?;
-    let second = element_at(alloc, a, &[k])?;
-    let right = product(alloc, second, element_at(alloc, b, &[j])?)?;
+    let (left, right) = both(product_at(alloc, a, b, j, k), product_at(alloc, a, b, k, j))?;
     difference(alloc, left, right)
 }
 

@@ -2,16 +2,17 @@
 ghost use Rattle.std.specs.Prelude.{◌≡◌, ◌≤◌, ◌++◌, ◌∷◌, map, IfOk, Ok, Err};
 ghost use Rattle.mo_typing.specs.Outcome.{breach, Gives, IfBroken};
 ghost use Rattle.mo_typing.specs.Kinds.{is_number};
-ghost use Rattle.mo_arrays.specs.Elements.{element_of, indices};
-ghost use Rattle.mo_arrays.specs.Subscripts.{subscripts_of, both};
-ghost use Rattle.mo_arrays.specs.Equations.{are_one, sides, kinds_of_sides, dims_of_sides, equation, equations_of};
+ghost use Rattle.mo_typing.specs.Indices.{indices};
+ghost use Rattle.mo_arrays.specs.Elements.{element_of};
+ghost use Rattle.mo_typing.specs.Subscripts.{subscripts_of, both};
+ghost use Rattle.mo_arrays.specs.Equations.{are_one, sides, kinds_of_sides, dims_of_sides, checked_sides, equation, equations_of};
 
 use crate::elements::element_at;
-use crate::shape::joined_lists;
-use crate::subscripts::subscripts;
 use mo_flat::{ArrayExpr, FlatEquation, FlatExpr};
-use mo_syntax::{Broken, Kind, List, NoMemory, Place, Rule, Stop};
-use mo_typing::{dims_of, kind_of, matched};
+use mo_syntax::{Broken, Kind, List, NoMemory, Place, Stop, both};
+use mo_typing::agree::{broken, is_number};
+use mo_typing::shapes::joined_lists;
+use mo_typing::{dims_of, kind_of, matched, subscripts};
 use std::alloc::Global;
 
 /// The element of an expression at an index, which counts from 1 and lies in its dimensions. Rule 32 at the first subscript of
@@ -24,11 +25,25 @@ pub fn element(alloc: Global, e: &ArrayExpr, index: &[u32]) -> Result<FlatExpr, 
     Ok(element_at(alloc, e, index)?)
 }
 
-/// The scalar equations of an equation at `place`, one for each element of its sides, the last index fastest. First the kinds are
-/// asked: what `kind_of` breaks, the left side before the right one; rule 34 at the equation where both sides are Boolean, both
-/// String or both of one enumeration; rule 33 where other kinds than numbers differ. Then the dimensions: what `dims_of` breaks;
-/// rule 33 at another number of them, 31 at other sizes. Then rule 32 at a subscript that lies outside. `NoMemory` is the only
-/// other answer.
+/// The dimensions of both sides of an equation at `place`, which say how many scalar equations it makes. First the kinds are asked:
+/// what `kind_of` breaks, the left side before the right one; rule 34 at the equation where both sides are Boolean, both String or both
+/// of one enumeration; rule 33 where other kinds than numbers differ. Then the dimensions: what `dims_of` breaks; rule 33 at another
+/// number of them, 31 at other sizes. Then rule 32 at a subscript that lies outside. No equation is made. `NoMemory` is the only other
+/// answer.
+pub fn checked_sides(
+    alloc: Global,
+    left: &ArrayExpr,
+    right: &ArrayExpr,
+    place: Place,
+) -> Result<List<u32>, Stop>
+    ensures ok { IfOk result (λ dims. checked_sides left.now right.now place ≡ Ok dims) }
+    ensures refused { IfBroken result (λ broken. checked_sides left.now right.now place ≡ Err broken) }
+{
+    checked(alloc, left, right, place)
+}
+
+/// The scalar equations of an equation at `place`, one for each element of its sides, the last index fastest; it breaks what
+/// `checked_sides` breaks. `NoMemory` is the only other answer.
 pub fn scalar_equations(
     alloc: Global,
     left: &ArrayExpr,
@@ -41,17 +56,6 @@ pub fn scalar_equations(
     equations(alloc, left, right, place)
 }
 
-fn broken(rule: u8, place: Place) -> Broken
-    requires low { 1 ≤ rule }
-    requires high { rule ≤ 46 }
-    ensures { result ≡ breach rule place }
-{
-    Broken {
-        rule: Rule::new(rule),
-        place,
-    }
-}
-
 /// Whether both are the same kind other than a number.
 fn are_one(left: Kind, right: Kind) -> bool
     ensures { result ≡ are_one left right }
@@ -61,16 +65,6 @@ fn are_one(left: Kind, right: Kind) -> bool
         (Kind::Str, Kind::Str) => true,
         (Kind::Enumeration(c), Kind::Enumeration(d)) => c.0 == d.0,
         _ => false,
-    }
-}
-
-fn is_number(kind: Kind) -> bool
-    ensures { result ≡ is_number kind }
-{
-    match kind {
-        Kind::Real => true,
-        Kind::Whole => true,
-        Kind::Truth | Kind::Str | Kind::Enumeration(_) => false,
     }
 }
 
@@ -126,11 +120,11 @@ fn equation_at(
 ) -> Result<FlatEquation, NoMemory>
     ensures { IfOk result (λ made. made ≡ equation left.now right.now place index.now) }
 {
-    Ok(FlatEquation {
-        left: element_at(alloc, left, index)?,
-        right: element_at(alloc, right, index)?,
-        place,
-    })
+    let (left, right) = both(
+        element_at(alloc, left, index),
+        element_at(alloc, right, index),
+    )?;
+    Ok(FlatEquation { left, right, place })
 }
 
 /// The equations of the elements whose indices begin so.
@@ -176,6 +170,23 @@ fn equations_of_rows(
     Ok(made)
 }
 
+fn checked(
+    alloc: Global,
+    left: &ArrayExpr,
+    right: &ArrayExpr,
+    place: Place,
+) -> Result<List<u32>, Stop>
+    ensures { Gives result (checked_sides left.now right.now place) }
+{
+    match kinds_of_sides(left, right, place) {
+        Ok(()) => {}
+        Err(broken) => return Err(Stop::Broken(broken)),
+    }
+    let dims = dims_of_sides(alloc, left, right, place)?;
+    subscripts_of_sides(alloc, left, right)?;
+    Ok(dims)
+}
+
 fn equations(
     alloc: Global,
     left: &ArrayExpr,
@@ -184,11 +195,6 @@ fn equations(
 ) -> Result<List<FlatEquation>, Stop>
     ensures { Gives result (equations_of left.now right.now place) }
 {
-    match kinds_of_sides(left, right, place) {
-        Ok(()) => {}
-        Err(broken) => return Err(Stop::Broken(broken)),
-    }
-    let dims = dims_of_sides(alloc, left, right, place)?;
-    subscripts_of_sides(alloc, left, right)?;
+    let dims = checked(alloc, left, right, place)?;
     Ok(equations_below(alloc, left, right, place, &[], dims.as_slice())?)
 }

@@ -1,10 +1,13 @@
 //! The laws of elements. Each function does nothing: its contract is the law.
-ghost use Rattle.std.specs.Prelude.{◌≡◌, Ok};
-ghost use Rattle.mo_flat.specs.declared.array.ArrayExpr.{ArrayExpr as Tree};
-ghost use Rattle.mo_typing.specs.Dims.{Dims, dims_of};
-ghost use Rattle.mo_arrays.specs.Shape.{shape_of};
+ghost use Rattle.mo_arrays.specs.Sound.{ElementsAreSound, EquationsAreSound};
 
-/// The dimensions by which elements are counted are those of `dims_of`, wherever these break no rule.
-pub fn elements_fill_the_dimensions()
-    ensures { (e : Tree) (dims : Dims) → dims_of e ≡ Ok dims → shape_of e ≡ dims }
+/// The elements of a sound expression that breaks no rule are well shaped, of the kind that `kind_of` gives, an Integer being accepted
+/// for a Real, and have at most as many derivatives around one another as the expression.
+pub fn elements_are_sound()
+    ensures { ElementsAreSound }
+{}
+
+/// The equations of sound sides are sound equations of a model.
+pub fn equations_are_sound()
+    ensures { EquationsAreSound }
 {}

@@ -1,9 +1,12 @@
 //! Elements of array expressions (Modelica Language Specification 3.5, section 8.3.1 and chapter 10).
 //!
-//! - [`element`]: the scalar expression at an index of an array expression, or rule 32 at a subscript that lies outside.
-//! - [`scalar_equations`]: the scalar equations of an equation between two array expressions, or the first rule that it breaks.
+//! - [`element`]: the scalar expression at an index of an array expression, or rule 32 at a subscript that lies outside;
+//!   [`element_at`]: the same where the subscripts were asked before.
+//! - [`checked_sides`]: the dimensions of an equation between two array expressions, or the first rule that it breaks.
+//! - [`scalar_equations`]: its scalar equations.
+//! - [`elements_are_sound`] and [`equations_are_sound`]: laws of these.
 //!
-//! Their definitions stand in specs/Elements, specs/Subscripts and specs/Equations.
+//! Their definitions stand in specs/Elements, specs/Equations and specs/Sound.
 #![tactic(auto)]
 
 mod build;
@@ -12,14 +15,7 @@ mod elements;
 mod equations;
 mod indices;
 mod laws;
-mod places;
-mod shape;
-mod subscripts;
 
-pub use equations::{element, scalar_equations};
-pub use laws::elements_fill_the_dimensions;
-
-#[cfg(test)]
-mod equation_tests;
-#[cfg(test)]
-mod row_words;
+pub use elements::element_at;
+pub use equations::{checked_sides, element, scalar_equations};
+pub use laws::{elements_are_sound, equations_are_sound};

@@ -2,3 +2,4 @@ pub mod Counting
 pub mod Names
 pub mod Printing
 pub mod Reading
+pub mod Good

@@ -77,10 +77,14 @@ is_among codes code = list_any (nat_eq code) codes
 abbrev pub takes : ℕ → ℕ → Bool
 takes function count = (is_among one_argument function && nat_eq count 1) || (is_among two_arguments function && nat_eq count 2)
 
+-- `noEvent` takes a number or a truth value
+abbrev pub kept_kind : Option FlatKind → Option FlatKind
+kept_kind kind = if is_numeric kind || is_truth kind then kind else None
+
 -- the kind of a call: `abs`, `max` and `min` of Integers are Integers, `noEvent` has its argument's kind
 abbrev pub call_kind : ℕ → List (Option FlatKind) → Option FlatKind
 call_kind function kinds =
-    if nat_eq function NO_EVENT then common_kind kinds
+    if nat_eq function NO_EVENT then kept_kind (common_kind kinds)
     else (if is_among (ABS ∷ MAX ∷ MIN ∷ []) function then number_kind kinds else where_holds (list_all is_numeric kinds) real)
 
 -- the kind of a node by the kinds of its parts, none where they do not agree

@@ -1,8 +1,9 @@
 //! Copies of flat expressions and of what holds them.
 ghost use Rattle.std.specs.Prelude.{◌≡◌, IfOk};
+ghost use Rattle.mo_flat.specs.declared.expr.FlatExpr.TheVariants.{If};
 
 use crate::{FlatAssert, FlatEquation, FlatExpr};
-use mo_syntax::{Boxed, List, NoMemory};
+use mo_syntax::{Boxed, List, NoMemory, both};
 use std::alloc::Global;
 
 impl FlatExpr {
@@ -19,9 +20,10 @@ impl FlatEquation {
     pub fn copy(&self, alloc: Global) -> Result<FlatEquation, NoMemory>
         ensures { IfOk result (λ copy. copy ≡ self.now) }
     {
+        let (left, right) = both(copied(alloc, &self.left), copied(alloc, &self.right))?;
         Ok(FlatEquation {
-            left: copied(alloc, &self.left)?,
-            right: copied(alloc, &self.right)?,
+            left,
+            right,
             place: self.place,
         })
     }
@@ -32,20 +34,23 @@ impl FlatAssert {
     pub fn copy(&self, alloc: Global) -> Result<FlatAssert, NoMemory>
         ensures { IfOk result (λ copy. copy ≡ self.now) }
     {
-        let condition = copied(alloc, &self.condition)?;
-        let message = copied(alloc, &self.message)?;
-        match &self.level {
-            None => Ok(FlatAssert {
-                condition,
-                message,
-                level: None,
-            }),
-            Some(level) => Ok(FlatAssert {
-                condition,
-                message,
-                level: Some(copied(alloc, level)?),
-            }),
-        }
+        let level = copied_level(alloc, &self.level);
+        let sides = both(copied(alloc, &self.condition), copied(alloc, &self.message));
+        let ((condition, message), level) = both(sides, level)?;
+        Ok(FlatAssert {
+            condition,
+            message,
+            level,
+        })
+    }
+}
+
+fn copied_level(alloc: Global, level: &Option<FlatExpr>) -> Result<Option<FlatExpr>, NoMemory>
+    ensures { IfOk result (λ copy. copy ≡ level.now) }
+{
+    match level {
+        None => Ok(None),
+        Some(e) => Ok(Some(copied(alloc, e)?)),
     }
 }
 
@@ -66,25 +71,21 @@ fn copied(alloc: Global, e: &FlatExpr) -> Result<FlatExpr, NoMemory>
         FlatExpr::Product(factors) => {
             Ok(FlatExpr::Product(copied_signed(alloc, factors.as_slice())?))
         }
-        FlatExpr::Power(base, exponent) => Ok(FlatExpr::Power(
-            copied_box(alloc, base.get())?,
-            copied_box(alloc, exponent.get())?,
-        )),
+        FlatExpr::Power(base, exponent) => {
+            let (a, b) = copied_boxes(alloc, base.get(), exponent.get())?;
+            Ok(FlatExpr::Power(a, b))
+        }
         FlatExpr::Call(function, args) => {
             Ok(FlatExpr::Call(*function, copied_list(alloc, args.as_slice())?))
         }
-        FlatExpr::Relation(op, left, right) => Ok(FlatExpr::Relation(
-            *op,
-            copied_box(alloc, left.get())?,
-            copied_box(alloc, right.get())?,
-        )),
+        FlatExpr::Relation(op, left, right) => {
+            let (a, b) = copied_boxes(alloc, left.get(), right.get())?;
+            Ok(FlatExpr::Relation(*op, a, b))
+        }
         FlatExpr::Not(inner) => Ok(FlatExpr::Not(copied_box(alloc, inner.get())?)),
         FlatExpr::All(parts) => Ok(FlatExpr::All(copied_list(alloc, parts.as_slice())?)),
         FlatExpr::Any(parts) => Ok(FlatExpr::Any(copied_list(alloc, parts.as_slice())?)),
-        FlatExpr::If(branches, other) => Ok(FlatExpr::If(
-            copied_branches(alloc, branches.as_slice())?,
-            copied_box(alloc, other.get())?,
-        )),
+        FlatExpr::If(branches, other) => copied_choice(alloc, branches.as_slice(), other.get()),
     }
 }
 
@@ -93,6 +94,29 @@ fn copied_box(alloc: Global, e: &FlatExpr) -> Result<Boxed<FlatExpr>, NoMemory>
     ensures { IfOk result (λ copy. copy ≡ e.now) }
 {
     Boxed::new(alloc, copied(alloc, e)?)
+}
+
+#[cycle(copied)]
+fn copied_boxes(
+    alloc: Global,
+    a: &FlatExpr,
+    b: &FlatExpr,
+) -> Result<(Boxed<FlatExpr>, Boxed<FlatExpr>), NoMemory>
+    ensures { IfOk result (λ copies. (copies.0 ≡ a.now) × (copies.1 ≡ b.now)) }
+{
+    both(copied_box(alloc, a), copied_box(alloc, b))
+}
+
+#[cycle(copied)]
+fn copied_choice(
+    alloc: Global,
+    branches: &[(FlatExpr, FlatExpr)],
+    other: &FlatExpr,
+) -> Result<FlatExpr, NoMemory>
+    ensures { IfOk result (λ copy. copy ≡ If branches.now other.now) }
+{
+    let (made, value) = both(copied_branches(alloc, branches), copied_box(alloc, other))?;
+    Ok(FlatExpr::If(made, value))
 }
 
 #[cycle(copied)]
@@ -129,7 +153,7 @@ fn copied_branches(
 {
     let mut made = List::new(alloc);
     for branch in branches {
-        made.push((copied(alloc, &branch.0)?, copied(alloc, &branch.1)?))?;
+        made.push(both(copied(alloc, &branch.0), copied(alloc, &branch.1))?)?;
     }
     Ok(made)
 }

@@ -20,6 +20,3 @@ pub use model::{FlatAssert, FlatEquation, FlatModel, FlatVar};
 pub use model_text::{flat_expr_text, flat_text, write_equation_line};
 pub use nodes::flat_nodes;
 pub use roles::role_of;
-
-#[cfg(test)]
-mod tests;

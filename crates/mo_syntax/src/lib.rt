@@ -12,6 +12,7 @@ mod count;
 mod equation;
 mod expr;
 mod finding;
+mod join;
 mod list;
 mod meaning;
 mod nesting;
@@ -33,6 +34,7 @@ pub use expr::{
     Part, PartOf, Reference, ReferenceOf, RelOp, Term, TermOf,
 };
 pub use finding::{ClassAt, class_at, find_class};
+pub use join::{both, in_box, pair, pushed, single, triple};
 pub use list::List;
 pub use meaning::{ClassId, FrameId, InstancePath, Kind, Role};
 pub use nesting::depth;

@@ -1,6 +1,11 @@
+pub mod Agreeing
 pub mod Calls
+pub mod Checking
 pub mod Gathering
 pub mod Lists
+pub mod Loops
 pub mod Nodes
 pub mod Ranges
-pub mod Shapes
+pub mod ShapeLaw
+pub mod PartDims
+pub mod Trees

@@ -87,6 +87,20 @@ abbrev pub are_enumerations : Kind → Kind → Bool
 are_enumerations (Enumeration a) (Enumeration b) = true
 are_enumerations _ _ = false
 
+-- what is accepted where a kind is wanted: that kind, and an Integer where a Real is wanted
+abbrev pub is_accepted : Kind → Kind → Bool
+is_accepted Real Real = true
+is_accepted Real Whole = true
+is_accepted Whole Whole = true
+is_accepted Truth Truth = true
+is_accepted Str Str = true
+is_accepted (Enumeration a) (Enumeration b) = nat_eq a.0 b.0
+is_accepted _ _ = false
+
+-- a binding, or the value of an attribute
+abbrev pub accepts : Kind → Kind → Place → Outcome (Unit {0})
+accepts want got place = if is_accepted want got then Ok (tt {0}) else breaks (if are_enumerations want got then 39 else 33) place
+
 -- a relation
 abbrev pub relation : Place → Kind → Kind → Outcome Kind
 relation place a b =

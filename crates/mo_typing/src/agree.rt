@@ -1,8 +1,9 @@
-//! What the kinds of operands agree on.
+//! What the kinds of operands agree on: the kind of each operation by those of its operands, or the rule that they break at its
+//! place.
 ghost use Rattle.std.specs.Prelude.{◌≡◌, ◌≤◌, ◌||◌, [], ◌∷◌, nat_eq, nat_lt};
 ghost use Rattle.mo_tables.specs.declared.functions.TheConstants.{ABS, ATAN2, CROSS, IDENTITY, MAX, MIN, NDIMS, NO_EVENT, PRODUCT, SUM, TRANSPOSE};
 ghost use Rattle.mo_typing.specs.Outcome.{breach};
-ghost use Rattle.mo_typing.specs.Kinds.{common, number, wider, with_number, is_truth, truth, with_truth, joined, settled, are_enumerations, relation, is_number, numeric, real_of, kept, both_numeric, call_of_one, call_of_two, takes_sizes, divided, raised};
+ghost use Rattle.mo_typing.specs.Kinds.{common, number, wider, with_number, arithmetic, is_truth, truth, with_truth, joined, settled, are_enumerations, is_accepted, accepts, relation, is_number, numeric, real_of, kept, both_numeric, call_of_one, call_of_two, takes_sizes, divided, raised};
 
 use mo_syntax::{Broken, Kind, Place, Rule};
 use mo_tables::functions;
@@ -18,7 +19,8 @@ pub enum Shared {
     Different,
 }
 
-pub(crate) fn broken(rule: u8, place: Place) -> Broken
+/// A rule from 1 to 46, broken at a place.
+pub fn broken(rule: u8, place: Place) -> Broken
     requires low { 1 ≤ rule }
     requires high { rule ≤ 46 }
     ensures { result ≡ breach rule place }
@@ -29,7 +31,8 @@ pub(crate) fn broken(rule: u8, place: Place) -> Broken
     }
 }
 
-fn common(a: Kind, b: Kind) -> Option<Kind>
+/// The one kind of two values, an Integer being accepted where a Real is wanted; none where they have no kind in common.
+pub fn common(a: Kind, b: Kind) -> Option<Kind>
     ensures { result ≡ common a b }
 {
     match (a, b) {
@@ -44,8 +47,8 @@ fn common(a: Kind, b: Kind) -> Option<Kind>
     }
 }
 
-/// An operand of `+`, `-`, `*`, `/` or `^`.
-fn number(place: Place, kind: Kind) -> Result<Kind, Broken>
+/// An operand of `+`, `-`, `*`, `/` or `^`: rule 39 at an enumeration value, 33 at what is no number.
+pub fn number(place: Place, kind: Kind) -> Result<Kind, Broken>
     ensures { result ≡ number place kind }
 {
     match kind {
@@ -57,7 +60,8 @@ fn number(place: Place, kind: Kind) -> Result<Kind, Broken>
     }
 }
 
-fn wider(a: Kind, b: Kind) -> Kind
+/// Integer where both are, else Real.
+pub fn wider(a: Kind, b: Kind) -> Kind
     ensures { result ≡ wider a b }
 {
     match a {
@@ -70,11 +74,7 @@ fn wider(a: Kind, b: Kind) -> Kind
 }
 
 /// One more operand of arithmetic.
-pub(crate) fn with_number(
-    place: Place,
-    so_far: Result<Kind, Broken>,
-    kind: Kind,
-) -> Result<Kind, Broken>
+pub fn with_number(place: Place, so_far: Result<Kind, Broken>, kind: Kind) -> Result<Kind, Broken>
     ensures { result ≡ with_number place so_far kind }
 {
     let a = so_far?;
@@ -82,8 +82,19 @@ pub(crate) fn with_number(
     Ok(wider(a, b))
 }
 
-/// What must be Boolean.
-pub(crate) fn truth(place: Place, kind: Kind) -> Result<Kind, Broken>
+/// The kind of a sum or a product of these operands: Integer where all are Integers, else Real.
+pub fn arithmetic(place: Place, kinds: &[Kind]) -> Result<Kind, Broken>
+    ensures { result ≡ arithmetic place kinds.now }
+{
+    let mut all = Ok(Kind::Whole);
+    for kind in kinds {
+        all = with_number(place, all, *kind);
+    }
+    all
+}
+
+/// What must be Boolean: rule 33 where it is not.
+pub fn truth(place: Place, kind: Kind) -> Result<Kind, Broken>
     ensures { result ≡ truth place kind }
 {
     match kind {
@@ -96,11 +107,7 @@ pub(crate) fn truth(place: Place, kind: Kind) -> Result<Kind, Broken>
 }
 
 /// One more operand of `and` or `or`.
-pub(crate) fn with_truth(
-    place: Place,
-    so_far: Result<Kind, Broken>,
-    kind: Kind,
-) -> Result<Kind, Broken>
+pub fn with_truth(place: Place, so_far: Result<Kind, Broken>, kind: Kind) -> Result<Kind, Broken>
     ensures { result ≡ with_truth place so_far kind }
 {
     so_far?;
@@ -108,7 +115,7 @@ pub(crate) fn with_truth(
 }
 
 /// One more element of an array, or value of an if-expression.
-pub(crate) fn joined(so_far: Shared, kind: Kind) -> Shared
+pub fn joined(so_far: Shared, kind: Kind) -> Shared
     ensures { result ≡ joined so_far kind }
 {
     match so_far {
@@ -122,7 +129,7 @@ pub(crate) fn joined(so_far: Shared, kind: Kind) -> Shared
 }
 
 /// The kind of all values.
-pub(crate) fn settled(place: Place, so_far: Shared) -> Result<Kind, Broken>
+pub fn settled(place: Place, so_far: Shared) -> Result<Kind, Broken>
     ensures { result ≡ settled place so_far }
 {
     match so_far {
@@ -144,7 +151,36 @@ fn are_enumerations(a: Kind, b: Kind) -> bool
     }
 }
 
-pub(crate) fn relation(place: Place, a: Kind, b: Kind) -> Result<Kind, Broken>
+fn is_accepted(want: Kind, got: Kind) -> bool
+    ensures { result ≡ is_accepted want got }
+{
+    match (want, got) {
+        (Kind::Real, Kind::Real) => true,
+        (Kind::Real, Kind::Whole) => true,
+        (Kind::Whole, Kind::Whole) => true,
+        (Kind::Truth, Kind::Truth) => true,
+        (Kind::Str, Kind::Str) => true,
+        (Kind::Enumeration(a), Kind::Enumeration(b)) => a.0 == b.0,
+        _ => false,
+    }
+}
+
+/// Asks whether a value of a kind may stand where one kind is wanted, as in a binding: an Integer may where a Real is wanted. Rule 39 at
+/// `place` where two different enumerations meet, 33 where other kinds differ. Takes no memory.
+pub fn accepts(want: Kind, got: Kind, place: Place) -> Result<(), Broken>
+    ensures { result ≡ accepts want got place }
+{
+    if is_accepted(want, got) {
+        return Ok(());
+    }
+    if are_enumerations(want, got) {
+        return Err(broken(39, place));
+    }
+    Err(broken(33, place))
+}
+
+/// A relation: rule 39 between two different enumerations, 33 between other kinds that differ.
+pub fn relation(place: Place, a: Kind, b: Kind) -> Result<Kind, Broken>
     ensures { result ≡ relation place a b }
 {
     match common(a, b) {
@@ -159,7 +195,8 @@ pub(crate) fn relation(place: Place, a: Kind, b: Kind) -> Result<Kind, Broken>
     }
 }
 
-fn is_number(kind: Kind) -> bool
+/// Whether values of a kind are numbers.
+pub fn is_number(kind: Kind) -> bool
     ensures { result ≡ is_number kind }
 {
     match kind {
@@ -169,7 +206,8 @@ fn is_number(kind: Kind) -> bool
     }
 }
 
-fn is_truth(kind: Kind) -> bool
+/// Whether values of a kind are truth values.
+pub fn is_truth(kind: Kind) -> bool
     ensures { result ≡ is_truth kind }
 {
     match kind {
@@ -178,8 +216,8 @@ fn is_truth(kind: Kind) -> bool
     }
 }
 
-/// An argument of a function of numbers.
-fn numeric(place: Place, kind: Kind) -> Result<Kind, Broken>
+/// An argument of a function of numbers: rule 33 at what is none.
+pub fn numeric(place: Place, kind: Kind) -> Result<Kind, Broken>
     ensures { result ≡ numeric place kind }
 {
     if is_number(kind) {
@@ -189,8 +227,8 @@ fn numeric(place: Place, kind: Kind) -> Result<Kind, Broken>
     }
 }
 
-/// What gives a Real of a number.
-pub(crate) fn real_of(place: Place, kind: Kind) -> Result<Kind, Broken>
+/// What gives a Real of a number: rule 33 at what is none.
+pub fn real_of(place: Place, kind: Kind) -> Result<Kind, Broken>
     ensures { result ≡ real_of place kind }
 {
     numeric(place, kind)?;
@@ -217,7 +255,7 @@ fn both_numeric(place: Place, a: Kind, b: Kind) -> Result<Kind, Broken>
 }
 
 /// A call with one argument.
-pub(crate) fn call_of_one(place: Place, function: u16, kind: Kind) -> Result<Kind, Broken>
+pub fn call_of_one(place: Place, function: u16, kind: Kind) -> Result<Kind, Broken>
     ensures { result ≡ call_of_one place function kind }
 {
     match function {
@@ -233,7 +271,7 @@ pub(crate) fn call_of_one(place: Place, function: u16, kind: Kind) -> Result<Kin
 }
 
 /// A call with two arguments.
-pub(crate) fn call_of_two(place: Place, function: u16, a: Kind, b: Kind) -> Result<Kind, Broken>
+pub fn call_of_two(place: Place, function: u16, a: Kind, b: Kind) -> Result<Kind, Broken>
     ensures { result ≡ call_of_two place function a b }
 {
     match function {
@@ -247,7 +285,7 @@ pub(crate) fn call_of_two(place: Place, function: u16, a: Kind, b: Kind) -> Resu
 }
 
 /// Whether a function takes so many sizes.
-pub(crate) fn takes_sizes(function: u16, count: usize) -> bool
+pub fn takes_sizes(function: u16, count: usize) -> bool
     ensures { result ≡ takes_sizes function count }
 {
     if function == functions::IDENTITY {
@@ -258,14 +296,14 @@ pub(crate) fn takes_sizes(function: u16, count: usize) -> bool
 }
 
 /// The kind of a product, by whether it divides.
-pub(crate) fn divided(divides: bool, kind: Kind) -> Kind
+pub fn divided(divides: bool, kind: Kind) -> Kind
     ensures { result ≡ divided divides kind }
 {
     if divides { Kind::Real } else { kind }
 }
 
 /// A power of two operands.
-pub(crate) fn raised(place: Place, a: Kind, b: Kind) -> Result<Kind, Broken>
+pub fn raised(place: Place, a: Kind, b: Kind) -> Result<Kind, Broken>
     ensures { result ≡ raised place a b }
 {
     let base = with_number(place, Ok(Kind::Whole), a);

@@ -8,7 +8,7 @@ use crate::agree::broken;
 use crate::extents::{
     call_of_one, call_of_two, count, filled, headed, range, size_dims, sizes_of, subscripted,
 };
-use crate::shape::{
+use crate::operands::{
     chained, raised, related, scalar, with_alike, with_factor, with_scalar, with_term,
 };
 use mo_flat::{ArrayExpr, ArrayNode};

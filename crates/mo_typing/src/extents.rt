@@ -1,10 +1,10 @@
-//! Dimensions that functions, subscripts, ranges and sizes give.
+//! Dimensions that functions, subscripts, ranges and sizes give. Each call answers want of memory where there is none.
 ghost use Rattle.std.specs.Prelude.{◌≡◌, ◌∷◌, [], ◌++◌, ◌≢◌, pos, map, drop, IfOk, OnOk};
 ghost use Rattle.mo_typing.specs.Outcome.{Gives};
 ghost use Rattle.mo_typing.specs.Dims.{transposed, crossed, call_of_one, call_of_two, kept, subscripted, is_past, range, size, sizes_of, shaped, filled, size_dims};
 
 use crate::agree::{broken, takes_sizes};
-use crate::shape::{list_of_one, list_of_two, related, scalar};
+use crate::operands::{list_of_one, list_of_two, related, scalar};
 use mo_flat::Subscript;
 use mo_syntax::{Broken, List, NoMemory, Place, Stop};
 use mo_tables::functions;
@@ -92,8 +92,8 @@ fn crossed(
     }
 }
 
-/// A call with one argument.
-pub(crate) fn call_of_one(
+/// A call with one argument; rule 33 where the function takes another number of arguments or of dimensions.
+pub fn call_of_one(
     alloc: Global,
     place: Place,
     function: u16,
@@ -111,8 +111,9 @@ pub(crate) fn call_of_one(
     }
 }
 
-/// A call with two arguments.
-pub(crate) fn call_of_two(
+/// A call with two arguments; rule 33 where the function takes another number of arguments or of dimensions, 31 at `cross` of
+/// vectors of another size than 3.
+pub fn call_of_two(
     alloc: Global,
     place: Place,
     function: u16,
@@ -200,8 +201,8 @@ fn size(n: &(Place, i64)) -> Result<u32, Broken>
     Ok(n.1 as u32)
 }
 
-/// All sizes.
-pub(crate) fn sizes_of(alloc: Global, sizes: &[(Place, i64)]) -> Result<List<u32>, Stop>
+/// All sizes that are given as arguments: rule 31 at the first one that is negative or above 4,294,967,295.
+pub fn sizes_of(alloc: Global, sizes: &[(Place, i64)]) -> Result<List<u32>, Stop>
     ensures { Gives result (sizes_of sizes.now) }
 {
     let mut made = List::new(alloc);
@@ -234,7 +235,7 @@ pub fn shaped(function: u16, dims: List<u32>) -> Result<List<u32>, NoMemory>
 }
 
 /// `fill`, `zeros`, `ones` or `identity` with these sizes.
-pub(crate) fn filled(
+pub fn filled(
     alloc: Global,
     place: Place,
     function: u16,
@@ -253,7 +254,7 @@ pub(crate) fn filled(
 }
 
 /// `size(A)` or `size(A, i)`.
-pub(crate) fn size_dims(
+pub fn size_dims(
     alloc: Global,
     at: &Option<(Place, i64)>,
     dims: &[u32],

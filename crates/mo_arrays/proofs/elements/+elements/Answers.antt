@@ -1,5 +1,6 @@
 use Rattle.std.proofs.Common.{rules, ◌≡◌, ◌<◌, ◌≤◌, ◌∷◌, [], ◌++◌, length, map, flat_map, ◌+◌, arith, refl, ap, sym, ◌∙◌}
-use Rattle.mo_arrays.specs.Elements.{plain, element_of, indices, numbers_to}
+use Rattle.mo_typing.specs.Indices.{indices, numbers_to}
+use Rattle.mo_arrays.specs.Elements.{plain, element_of}
 use Rattle.mo_arrays.proofs.Forms.{at_expression, at_Whole, at_Decimal, at_Str, at_Truth, at_Literal, at_Time, at_Vars, at_Sum, at_Product, at_Power, at_Relation, at_Not, at_All, at_Any, at_If, at_Call, at_Der, at_Array, at_Range, at_Size, at_Sized, at_many}
 use Rattle.mo_arrays.proofs.Splitting.{acting_more}
 use Rattle.mo_arrays.proofs.Numbers.{flat_map_more, begun_more}

@@ -1,7 +1,9 @@
 use Rattle.std.proofs.Common.{◌≡◌, ◌+◌, ◌*◌, ◌^◌, ◌∷◌, [], ◌++◌, max, map, flat_map, take, length}
 use Rattle.std.specs.Prelude.{slice_get, slice_range}
 use Rattle.mo_flat.specs.declared.array.ArrayExpr.{size-ArrayExpr}
-use Rattle.mo_arrays.specs.Elements.{element_of, part_of, at, plain, indices, numbers_to, chain_before, acting, inner_terms_with}
+use Rattle.mo_typing.specs.Indices.{indices, numbers_to}
+use Rattle.mo_arrays.specs.Elements.{element_of, at, plain}
+use Rattle.mo_arrays.specs.steps.Parts.{part_of, chain_before, acting, inner_terms_with}
 use Rattle.mo_arrays.proofs.elements.+elements.Given as goal
 
 abbrev pub invariant-of_terms-loop-term : goal.invariant-of_terms-loop-term
@@ -60,6 +62,9 @@ decreases-of_cross l = 2 ^ 70 * max (size-ArrayExpr l.a.now) (size-ArrayExpr l.b
 
 abbrev pub decreases-of_cross_at : goal.decreases-of_cross_at
 decreases-of_cross_at l = 2 ^ 70 * max (size-ArrayExpr l.a.now) (size-ArrayExpr l.b.now) + 4
+
+abbrev pub decreases-product_at : goal.decreases-product_at
+decreases-product_at l = 2 ^ 70 * max (size-ArrayExpr l.a.now) (size-ArrayExpr l.b.now) + 3
 
 abbrev pub decreases-of_choice : goal.decreases-of_choice
 decreases-of_choice l = 2 ^ 70 * max (goal.size-of_choice l) (size-ArrayExpr l.other.now) + 3

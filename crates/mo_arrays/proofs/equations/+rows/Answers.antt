@@ -1,5 +1,5 @@
 use Rattle.std.proofs.Common.{rules, ◌≡◌, ◌+◌, ◌∷◌, [], ◌++◌, map, flat_map, arith, ap, sym, ◌∙◌}
-use Rattle.mo_arrays.specs.Elements.{indices, numbers_to}
+use Rattle.mo_typing.specs.Indices.{indices, numbers_to}
 use Rattle.mo_arrays.specs.Equations.{equation}
 use Rattle.mo_arrays.proofs.Numbers.{flat_map_more, begun_more, begun_whole}
 use Rattle.mo_arrays.proofs.equations.+rows.Goals as goal

@@ -1,5 +1,5 @@
 use Rattle.std.proofs.Common.{◌≡◌, ◌+◌, ◌*◌, ◌∷◌, [], ◌++◌, map, flat_map, length}
-use Rattle.mo_arrays.specs.Elements.{indices, numbers_to}
+use Rattle.mo_typing.specs.Indices.{indices, numbers_to}
 use Rattle.mo_arrays.specs.Equations.{equation}
 use Rattle.mo_arrays.proofs.equations.+rows.Given as goal
 

@@ -3,7 +3,7 @@ use Rattle.mo_typing.specs.Outcome.{breaks}
 use Rattle.mo_typing.specs.Dims.{part_of, operand, branch_dims, with_operand, added, multiplied, settled, with_alike, with_scalar, condition, call}
 use Rattle.mo_typing.proofs.Gathering.{gathered, one_more, one_stops_by, ended, asked_first, stops_first, stops_through, given_first, gives_as}
 use Rattle.mo_typing.proofs.Calls.{many_args}
-use Rattle.mo_typing.proofs.Shapes.{dims_in, signed_part, branch_part, at_Sum, at_Product, at_If}
+use Rattle.mo_typing.proofs.PartDims.{dims_in, signed_part, branch_part, at_Sum, at_Product, at_If}
 use Rattle.mo_typing.proofs.dims.+dims.Goals as goal
 
 pub of_terms-loop-term-init : goal.of_terms-loop-term-init

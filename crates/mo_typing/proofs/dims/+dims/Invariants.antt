@@ -2,7 +2,7 @@ use Rattle.std.proofs.Common.{◌≡◌, ◌+◌, ◌*◌, [], max, drop, Ok, No
 use Rattle.mo_flat.specs.declared.array.ArrayExpr.{size-ArrayExpr}
 use Rattle.mo_typing.specs.Dims.{part_of, operand, branch_dims, with_operand, added, multiplied, settled, with_alike, with_scalar}
 use Rattle.mo_typing.proofs.Gathering.{gathered}
-use Rattle.mo_typing.proofs.Shapes.{dims_in, signed_part, branch_part}
+use Rattle.mo_typing.proofs.PartDims.{dims_in, signed_part, branch_part}
 use Rattle.mo_typing.proofs.dims.+dims.Given as goal
 
 abbrev pub invariant-of_terms-loop-term : goal.invariant-of_terms-loop-term

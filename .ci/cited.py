@@ -1,0 +1,101 @@
+#!/usr/bin/env python3
+"""Compares README.md and docs/*.md with the sources. It prints nothing and ends with 0 where all of this holds:
+
+- each clause that is cited as `call: clause` or `call: clause, clause` is an `ensures` of that name of a public function
+  of that name in some crates/*/src. A clause without a name is cited as `call: ensures`;
+- each path below crates/, docs/, examples/ or bench/ that is cited in backticks, or as a link, is there, apart from those
+  with NAME and those that a build makes;
+- each block of text behind a line `<!-- examples/NAME -->` is that file;
+- the numbers and texts of the rules in docs/RULES.md are those of the definition, all of them, in order;
+- the definitions that the program's contract stands on are those that the table of docs/PROVED.md lists.
+
+With --reading it prints these definitions instead, each behind those that it cites.
+"""
+import re
+import sys
+from pathlib import Path
+
+TOP = Path(__file__).resolve().parent.parent
+FUNCTION = re.compile(r"\s*(pub(?:\([^)]*\))? +)?(?:const +)?fn +(\w+)")
+CLAUSE = re.compile(r"\s*ensures\b\s*(\w*)\s*\{")
+CITED = re.compile(r"`([a-z][a-z_0-9]*): ([a-z][a-z_0-9]*(?:, [a-z][a-z_0-9]*)*)`")
+PATH = re.compile(r"`((?:crates|docs|examples|bench)/[\w./-]*)`|\]\(([\w./-]+\.\w+)\)")
+USE = re.compile(r"^use Rattle\.(\w+)\.specs\.(\w+)", re.M)
+LISTED = re.compile(r"^\| \d+ \| `crates/(\w+)/specs` \|(.*)\|$", re.M)
+ROOTS = (("mo_ports", "Counts"), ("mo_front", "Run"))
+FENCE = re.compile(r"^```.*?^```$", re.M | re.S)
+EXAMPLE = re.compile(r"^<!-- (examples/\S+) -->\n```\w*\n(.*?)^```$", re.M | re.S)
+
+
+def clauses():
+    """The names of the clauses of each public function; functions of one name are taken together."""
+    found = {}
+    for source in sorted(TOP.glob("crates/*/src/**/*.rt")):
+        call = None
+        for line in source.read_text().splitlines():
+            function, clause = FUNCTION.match(line), CLAUSE.match(line)
+            if function:
+                call = function[2] if (function[1] or "").strip() == "pub" else None
+            elif clause and call:
+                found.setdefault(call, set()).add(clause[1] or "ensures")
+    return found
+
+
+def faults_of(page, known):
+    whole = page.read_text()
+    text = FENCE.sub("", whole)
+    for call, cited in CITED.findall(text):
+        for clause in cited.split(", "):
+            if clause not in known.get(call, ()):
+                yield f"no public call has the clause `{call}: {clause}`"
+    for inline, link in PATH.findall(text):
+        path = TOP / inline if inline else page.parent / link
+        if not path.exists() and not re.search(r"NAME|/out\b", inline or link):
+            yield f"there is no {inline or link}"
+    for name, block in EXAMPLE.findall(whole):
+        if not (TOP / name).is_file() or (TOP / name).read_text() != block:
+            yield f"the block is not {name}"
+
+
+def faults_of_rules():
+    definition = (TOP / "crates/mo_front/specs/Refusal.antt").read_text()
+    texts = re.findall(r'codes "([^"]*)"', re.search(r"^rule_texts =\n(.*?)\[\]", definition, re.M | re.S)[1])
+    rows = re.findall(r"^\| (\d+) \| ([^|]*) \|", (TOP / "docs/RULES.md").read_text(), re.M)
+    if rows != [(str(k), text) for k, text in enumerate(texts, 1)]:
+        yield "docs/RULES.md: the rules are not those of crates/mo_front/specs/Refusal.antt"
+
+
+def definitions(roots, seen):
+    """The definitions that these stand on, and these, each behind those that it cites."""
+    for crate, name in roots:
+        path = TOP / "crates" / crate / "specs" / (name + ".antt")
+        if (crate, name) not in seen and path.is_file():
+            seen.add((crate, name))
+            yield from definitions(USE.findall(path.read_text()), seen)
+            yield crate, name
+
+
+def faults_of_reading():
+    rows = LISTED.findall((TOP / "docs/PROVED.md").read_text())
+    listed = {(crate, name) for crate, files in rows for name in re.findall(r"\b[A-Z]\w*", files)}
+    cited = set(definitions(ROOTS, set()))
+    for said, some in ("does not list", cited - listed), ("lists", listed - cited):
+        for crate, name in sorted(some):
+            yield f"docs/PROVED.md {said} crates/{crate}/specs/{name}.antt"
+
+
+def main():
+    if sys.argv[1:] == ["--reading"]:
+        for crate, name in definitions(ROOTS, set()):
+            print(f"crates/{crate}/specs/{name}.antt")
+        return 0
+    known = clauses()
+    pages = [TOP / "README.md", *sorted(TOP.glob("docs/*.md")), *sorted(TOP.glob("bench/*.md"))]
+    faults = [f"{page.relative_to(TOP)}: {fault}" for page in pages for fault in faults_of(page, known)]
+    faults += [*faults_of_rules(), *faults_of_reading()]
+    for fault in faults:
+        print(fault, file=sys.stderr)
+    return 1 if faults else 0
+
+
+sys.exit(main())

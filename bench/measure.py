@@ -1,0 +1,129 @@
+#!/usr/bin/env python3
+"""measure.py [PROGRAM [SERIES..]]: makes inputs of three sizes, a factor of three apart, runs a built mofront on them, and prints a table.
+
+PROGRAM is crates/mofront/out/mofront unless another one is named; it is built by `rt run` in crates/mofront. The inputs stay in
+bench/out. Each input is run three times; the least time counts, in seconds of processor time, and the greatest memory, which is never
+told as less than what python3 itself takes. The last column is the factor by which the time grew: about 3 is linear, about 9 quadratic.
+It is no part of the gate.
+"""
+import datetime
+import os
+import platform
+import subprocess
+import sys
+import time
+from pathlib import Path
+
+TOP = Path(__file__).resolve().parent.parent
+OUT = TOP / "bench" / "out"
+RUNS, SECONDS = 3, 600
+
+
+def model(declared, equations):
+    return "model M\n" + "".join(f"  {d};\n" for d in declared) + "equation\n" + "".join(f"  {e};\n" for e in equations) + "end M;\n"
+
+
+def annotation(n):
+    """Tokens and trees that leave no trace: an array of n numbers in an annotation."""
+    return "model M\n  annotation(a = {" + ",\n".join(f"{k}.5" for k in range(n)) + "});\nend M;\n"
+
+
+def classes(n):
+    """The class tree: n classes at the top, each with an element."""
+    return "".join(f"model C{k} Real x; end C{k};\n" for k in range(n)) + "model M\nend M;\n"
+
+
+def parameters(n):
+    """Names and flat text: n parameters."""
+    return model([f"parameter Real p{k} = {k}.0" for k in range(n)], [])
+
+
+def apart(n):
+    """n equations that have nothing to do with one another."""
+    return model([f"Real x{k}" for k in range(n)], [f"der(x{k}) = time - x{k}" for k in range(n)])
+
+
+def circuit(n):
+    """A ladder of n resistors and capacitors, as it is when it is flat."""
+    equations = ["v0 = sin(time)", f"j{n} = 0"]
+    for k in range(1, n + 1):
+        equations += [f"v{k - 1} - v{k} = 2.0*j{k - 1}", f"0.1*der(v{k}) = j{k - 1} - j{k}"]
+    return model([f"Real v{k}, j{k}" for k in range(n + 1)], equations)
+
+
+def dense(n):
+    """Entries of an incidence: about n of them, in a square matrix."""
+    side = int(n**0.5)
+    row = " + ".join(f"x{k}" for k in range(side))
+    return model([f"Real x{k}" for k in range(side)], [f"{row} = {k}.0" for k in range(side)])
+
+
+def lifts(n):
+    """Offsets, dummies and derivatives: n masses that are moved along given paths."""
+    equations = []
+    for k in range(n):
+        equations += [f"der(x{k}) = v{k}", f"2.0*der(v{k}) = f{k}", f"x{k} = sin(time)*exp(time)", f"der(w{k}) = f{k} - w{k}"]
+    return model([f"Real x{k}, v{k}, f{k}, w{k}" for k in range(n)], equations)
+
+
+def chain(n):
+    """High offsets: the sum of d grows with the square of n, and so does the report at least."""
+    return model([f"Real x{k}" for k in range(n)], ["x0 = time"] + [f"x{k} = der(x{k - 1})" for k in range(1, n)])
+
+
+SERIES = {
+    "annotation": (annotation, "flat", (20000, 60000, 180000)),
+    "classes": (classes, "flat", (5000, 15000, 45000)),
+    "parameters": (parameters, "flat", (5000, 15000, 45000)),
+    "apart": (apart, "report", (5000, 15000, 45000)),
+    "circuit": (circuit, "report", (2500, 7500, 22500)),
+    "dense": (dense, "report", (25000, 75000, 225000)),
+    "lifts": (lifts, "all", (1300, 3900, 11700)),
+    "chain": (chain, "report", (30, 90, 270)),
+}
+
+
+def run(program, words):
+    """The status, seconds of processor time and megabytes of the best of some runs."""
+    best = None
+    for _ in range(RUNS):
+        started = time.monotonic()
+        with open(os.devnull, "wb") as nothing:
+            process = subprocess.Popen([program, *words], cwd=OUT, stdout=nothing, stderr=nothing)
+            while (ended := os.wait4(process.pid, os.WNOHANG))[0] == 0:
+                if time.monotonic() - started > SECONDS:
+                    process.kill()
+                time.sleep(0.001)
+        process.returncode = status = os.waitstatus_to_exitcode(ended[1])
+        row = (status, ended[2].ru_utime + ended[2].ru_stime, ended[2].ru_maxrss / 1024)
+        if status != 0:
+            return row
+        best = row if best is None else (0, min(best[1], row[1]), max(best[2], row[2]))
+    return best
+
+
+def main():
+    program = os.path.abspath(sys.argv[1]) if len(sys.argv) > 1 else str(TOP / "crates" / "mofront" / "out" / "mofront")
+    chosen = sys.argv[2:] or list(SERIES)
+    if not os.access(program, os.X_OK):
+        sys.exit(f"there is no program {program}: build it by `rt run` in crates/mofront")
+    OUT.mkdir(parents=True, exist_ok=True)
+    print(f"{datetime.date.today()}, {platform.machine()}, {os.cpu_count()} processors, {platform.system()} {platform.release()}\n")
+    print("| series | size | bytes | seconds | MB | times |\n|---|---|---|---|---|---|")
+    failed = 0
+    for name in chosen:
+        make, emit, sizes = SERIES[name]
+        before = None
+        for size in sizes:
+            path = OUT / f"{name}-{size}.mo"
+            path.write_text(make(size))
+            status, seconds, megabytes = run(program, ["--class", "M", "--emit", emit, path.name])
+            growth = f"{seconds / before:.1f}" if before and status == 0 else ""
+            said = f"{seconds:.3f}" if status == 0 else f"status {status}"
+            print(f"| {name} | {size} | {path.stat().st_size} | {said} | {megabytes:.0f} | {growth} |", flush=True)
+            failed += status != 0
+            before = seconds if status == 0 else None
+    sys.exit(1 if failed else 0)
+
+
+main()

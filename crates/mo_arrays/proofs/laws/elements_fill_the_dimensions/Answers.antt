@@ -1,5 +1,0 @@
-use Rattle.mo_arrays.proofs.ShapeLaw.{dims_agree}
-use Rattle.mo_arrays.proofs.laws.elements_fill_the_dimensions.Goals as goal
-
-pub returns : goal.returns
-returns c = λ e d asked. dims_agree e d asked
