@@ -1,0 +1,11 @@
+pub mod Numbers
+pub mod Scalars
+pub mod Virtuals
+pub mod Walk
+pub mod Contexts
+pub mod References
+pub mod Calls
+pub mod Resolving
+pub mod Components
+pub mod Values
+pub mod Heights
