@@ -1,5 +1,5 @@
 -- What the values of the code are as data.
-use Rattle.std.specs.Prelude.{map, option_map, option_copied}
+use Rattle.std.specs.Prelude.{map, flat_map, option_map, option_copied}
 use Rattle.mo_syntax.specs.Classes as classes
 use Rattle.mo_scope.specs.declared.source.Given.{Given as GivenAt}
 use Rattle.mo_scope.specs.declared.source.Given.TheVariants.{Listed as listed_at, Argued as argued_at, Replacing as replacing_at}
@@ -18,7 +18,7 @@ use Rattle.mo_scope.specs.declared.row.Part.{Part as PartAt}
 use Rattle.mo_scope.specs.declared.row.Part.TheVariants.{Element as element_at, Base as base_at}
 use Rattle.mo_scope.specs.declared.row.Sort.{Sort as SortAt}
 use Rattle.mo_scope.specs.declared.row.Sort.TheVariants.{Class as class_at, Component as component_at}
-use Rattle.mo_scope.specs.Rows.{Modifiers, Constraint, Declares, Sort, A_class, A_component, Clause, Part, Element_of, Base_of}
+use Rattle.mo_scope.specs.Rows.{Modifiers, Constraint, Declares, Sort, A_class, A_component, Clause, Part, Element_of, Base_of, replacing_in}
 use Rattle.mo_scope.specs.Frames.{Given, Listed, Argued, Replacing, Listing, Origin, Elsewhere, Own_of, Constraint_of}
 use Rattle.mo_scope.specs.Worlds.{SourceEntry, MemberEntry}
 
@@ -61,7 +61,7 @@ home_seen Apart = classes.Apart
 abbrev pub given_seen : GivenAt → Given
 given_seen (listed_at modifiers) = Listed (modifiers_seen modifiers)
 given_seen (argued_at argument passed) = Argued argument.now passed
-given_seen (replacing_at class) = Replacing class.0
+given_seen (replacing_at items) = Replacing (flat_map replacing_in items.now)
 
 abbrev pub listing_seen : ListingAt → Listing
 listing_seen listing = record { place = listing.place; passed = map (λ name. name.now) listing.passed }
