@@ -6,8 +6,6 @@ use Rattle.mo_syntax.specs.declared.expr.Expr.{Expr, roll-Expr}
 use Rattle.mo_syntax.specs.declared.expr.Node.TheVariants.{Whole}
 use Rattle.mo_syntax.specs.declared.expr.ReferenceOf.{ReferenceOf}
 use Rattle.mo_syntax.specs.declared.class.ArgumentOf.{ArgumentOf}
-use Rattle.mo_syntax.specs.declared.class.Causal.TheVariants.{None as NoCausality}
-use Rattle.mo_syntax.specs.declared.class.ClassFlags.{ClassFlags}
 use Rattle.mo_syntax.specs.declared.class.ElementFlags.{ElementFlags}
 use Rattle.mo_syntax.specs.declared.class.Give.{Give, Give-F, roll-Give, roll-out-Give, fold-roll-Give}
 use Rattle.mo_syntax.specs.declared.class.Give.TheVariants.{Modify, outs-Modify}
@@ -20,7 +18,7 @@ use Rattle.mo_scope.specs.Parts.{picked}
 use Rattle.mo_scope.specs.Names.{child_of_member, component_frame, walk_of}
 use Rattle.mo_scope.specs.Lookup.{walked, named, own_members}
 use Rattle.mo_scope.specs.Sizes.{sizes_from}
-use Rattle.mo_scope.specs.Instances.{Chosen, Leaf, Instance}
+use Rattle.mo_scope.specs.Instances.{Chosen, Instance}
 use Rattle.mo_eval.specs.Values.{reading}
 use Rattle.mo_instance.specs.Prefixes.{input_from}
 use Rattle.mo_instance.specs.Instances.{deeper, instances_of, parts_entered, root_frame}
@@ -41,14 +39,14 @@ claims_modify mods value = ap claims_of (sym (roll-out-Give (Modify mods value))
     ap (λ rest. (if is_some value then claim path place last ∷ [] else []) ++ rest)
     (gathered_map (λ argument. argument.give (path ++ argument.name.0) argument.place (last || argument.last)) _ mods.0))))
 
-abbrev claims_below : List (ArgumentOf Give) → List (List ℕ) → Bool → List Claim
+abbrev pub claims_below : List (ArgumentOf Give) → List (List ℕ) → Bool → List Claim
 claims_below arguments path last = flat_map (λ argument. claims_of argument.give (path ++ argument.name.0) argument.place (last || argument.last)) arguments
 
-claims_list : (mods : ModsOf Give) (path : List (List ℕ)) (place : Place) (last : Bool) →
+pub claims_list : (mods : ModsOf Give) (path : List (List ℕ)) (place : Place) (last : Bool) →
     claims_of (Modify mods None) path place last ≡ claims_below mods.0 path last
 claims_list mods path place last = ap (λ f. f path place last) (claims_modify mods None)
 
-claims_value : (mods : ModsOf Give) (value : Expr) (path : List (List ℕ)) (place : Place) (last : Bool) →
+pub claims_value : (mods : ModsOf Give) (value : Expr) (path : List (List ℕ)) (place : Place) (last : Bool) →
     claims_of (Modify mods (Some value)) path place last ≡ claim path place last ∷ claims_below mods.0 path last
 claims_value mods value path place last = ap (λ f. f path place last) (claims_modify mods (Some value))
 
@@ -77,20 +75,20 @@ finally name at value = record {
     number : ℕ → Expr
     number n = roll-Expr (record { place = byte at; node = Whole (pos n) })
 
-abbrev with_flags : ElementFlags → Vary → ReferenceOf Expr → String → ℕ → List (ArgumentOf Give) → Part
+abbrev pub with_flags : ElementFlags → Vary → ReferenceOf Expr → String → ℕ → List (ArgumentOf Give) → Part
 with_flags flags vary type name at arguments = component_by flags None vary type name at arguments
 
 abbrev final_flags : ElementFlags
 final_flags = record { redeclare = false; last = true; inner = false; outer = false; replaceable = false; hidden = false }
 
 -- the path of an instance, and for a leaf its binding with the number of the class in whose text that stands
-abbrev told : Instance → List (List ℕ) × Option (Option (ℕ × Expr))
+abbrev pub told : Instance → List (List ℕ) × Option (Option (ℕ × Expr))
 told instance = (map (λ step. step.0) instance.path, option_map (λ leaf. option_map chosen leaf.binding) instance.leaf)
   where
     chosen : Chosen → ℕ × Expr
     chosen binding = (class_of binding.scope.frame, binding.value)
 
-abbrev told_of : Table → ℕ → Outcome (List (List (List ℕ) × Option (Option (ℕ × Expr))))
+abbrev pub told_of : Table → ℕ → Outcome (List (List (List ℕ) × Option (Option (ℕ × Expr))))
 told_of table class = and_then (instances_of table class) (λ instances. Ok (map told instances))
 
 -- ---- a model without components
@@ -110,23 +108,23 @@ one_modifier =
     row 6 [] "B" 6 [] (with_flags no_flags Parameter (name (id "Real" 18 ∷ [])) "x" 23 [] ∷ []) ∷
     row 7 [] "A" 39 [] (with_flags no_flags Free (name (id "B" 41 ∷ [])) "b" 43 (sets "x" 45 3 ∷ []) ∷ []) ∷ []
 
-abbrev number_at : ℕ → ℕ → Expr
+abbrev pub number_at : ℕ → ℕ → Expr
 number_at n at = roll-Expr (record { place = byte at; node = Whole (pos n) })
 
 -- b.x has the value 3, looked up in A
 pub modifier_binds :
-  told_of one_modifier 7 ≡ Ok (
+    told_of one_modifier 7 ≡ Ok (
     ([], None) ∷
     (codes "b" ∷ [], None) ∷
     (codes "b" ∷ codes "x" ∷ [], Some (Some (7, number_at 3 45))) ∷ []
-  )
+    )
 unfolding walked sizes_from input_from deeper reading one_modifier
 modifier_binds = simp (claims_value, outs-Modify)
 
 -- ---- an outer modifier
 
 -- the frame of the component at the end of these names
-abbrev frame_below : Table → Frame → List (List ℕ) → Outcome Frame
+abbrev pub frame_below : Table → Frame → List (List ℕ) → Outcome Frame
 frame_below table frame [] = Ok frame
 frame_below table frame (name ∷ names) = and_then (entered_below (named name (own_members table frame))) (λ next. frame_below table next names)
   where
@@ -134,14 +132,14 @@ frame_below table frame (name ∷ names) = and_then (entered_below (named name (
     entered_below None = breaks 12 (byte 0)
     entered_below (Some member) = and_then (child_of_member table member []) (λ child. Ok (component_frame member [] child))
 
-abbrev asked_class : Table → ℕ → Outcome Frame
+abbrev pub asked_class : Table → ℕ → Outcome Frame
 asked_class table class = root_of (row_at table class)
   where
     root_of : Option Row → Outcome Frame
     root_of None = breaks 11 (byte 0)
     root_of (Some row) = Ok (root_frame table row)
 
-abbrev frame_at : Table → ℕ → List (List ℕ) → Outcome Frame
+abbrev pub frame_at : Table → ℕ → List (List ℕ) → Outcome Frame
 frame_at table class names = and_then (asked_class table class) (λ frame. frame_below table frame names)
 
 -- the binding of a component, with the class in whose text it stands

@@ -1,5 +1,5 @@
 -- One element of a component (Modelica Language Specification 3.5, sections 4.4, 4.8, 7.2 and 10.1): its frame, and what it is as a leaf.
-use Rattle.std.specs.Prelude.{ℕ, Bool, true, false, List, [], ◌∷◌, ◌++◌, Option, Some, None, Ok, if◌then◌else◌, nat_lt, length}
+use Rattle.std.specs.Prelude.{ℕ, Bool, true, false, List, [], Option, Some, None, Ok, if◌then◌else◌, nat_lt, length}
 use Rattle.mo_syntax.specs.declared.class.ComponentOf.{ComponentOf}
 use Rattle.mo_syntax.specs.declared.class.Give.{Give}
 use Rattle.mo_syntax.specs.declared.class.Vary.{Vary}
@@ -8,17 +8,15 @@ use Rattle.mo_syntax.specs.declared.expr.Expr.{out-Expr}
 use Rattle.mo_syntax.specs.declared.meaning.Kind.{Kind}
 use Rattle.mo_syntax.specs.declared.meaning.Kind.TheVariants.{Real}
 use Rattle.mo_syntax.specs.declared.place.Place.{Place}
-use Rattle.mo_scope.specs.Outcome.{Outcome, and_then, breaks}
+use Rattle.mo_scope.specs.Outcome.{Outcome, breaks}
 use Rattle.mo_scope.specs.Rows.{Table, Declares, component_of}
 use Rattle.mo_scope.specs.Frames.{Frame, Indexed, Member, at_of, sources_of}
 use Rattle.mo_scope.specs.Parts.{Redeclaration, picked}
 use Rattle.mo_scope.specs.Lookup.{Walked, last_place}
-use Rattle.mo_scope.specs.Names.{Child, child_of_member, component_frame}
 use Rattle.mo_scope.specs.Compatible.{prefix_of}
 use Rattle.mo_scope.specs.Redeclarations.{Checked, fine}
 use Rattle.mo_scope.specs.Instances.{Chosen, Leaf, Instance}
 use Rattle.mo_instance.specs.Attributes.{chosen_attributes, kind_of_leaf}
-use Rattle.mo_instance.specs.Checks.{frame_checked}
 use Rattle.mo_instance.specs.Prefixes.{joined_vary, role_of, is_declared_input}
 
 -- What holds of all components below one: where the name of the asked class stands; whether they are components of the asked class

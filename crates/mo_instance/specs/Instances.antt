@@ -12,9 +12,9 @@ use Rattle.mo_scope.specs.Outcome.{Outcome, and_then, breaks}
 use Rattle.mo_scope.specs.Rows.{Table, Row, row_at, is_class}
 use Rattle.mo_scope.specs.Frames.{Frame, Top, In, No_source, Member, looked_up}
 use Rattle.mo_scope.specs.Lookup.{Walked, members_in}
-use Rattle.mo_scope.specs.Names.{Child, child_of_member, component_frame}
+use Rattle.mo_scope.specs.Names.{child_of_member, component_frame}
 use Rattle.mo_scope.specs.Compatible.{prefix_of}
-use Rattle.mo_scope.specs.Instances.{Leaf, Instance}
+use Rattle.mo_scope.specs.Instances.{Instance}
 use Rattle.mo_typing.specs.Dims.{Dims}
 use Rattle.mo_typing.specs.Indices.{Index, indices}
 use Rattle.mo_eval.specs.Values.{most_references, there_of, component_dims}

@@ -1,16 +1,15 @@
 -- Components that are declared `outer` (Modelica Language Specification 3.5, section 5.4). They are no instances, and stand for the inner
 -- one.
-use Rattle.std.specs.Prelude.{ℕ, Bool, true, false, ◌&&◌, ◌||◌, not, List, [], ◌∷◌, Option, Some, None, Result, Ok, Err, is_some, if◌then◌else◌, nat_eq}
+use Rattle.std.specs.Prelude.{ℕ, Bool, false, ◌&&◌, ◌||◌, not, List, [], Option, Some, None, Ok, Err, is_some, if◌then◌else◌, nat_eq}
 use Rattle.std.specs.List.{list_any}
 use Rattle.std.specs.Str.{bytes_eq}
 use Rattle.mo_syntax.specs.declared.class.ComponentOf.{ComponentOf}
 use Rattle.mo_syntax.specs.declared.class.Give.{Give}
 use Rattle.mo_syntax.specs.declared.class.Prefix.{Prefix}
-use Rattle.mo_syntax.specs.declared.place.Broken.{Broken}
 use Rattle.mo_syntax.specs.declared.place.Place.{Place}
-use Rattle.mo_scope.specs.Outcome.{Outcome, and_then, breaks}
+use Rattle.mo_scope.specs.Outcome.{and_then, breaks}
 use Rattle.mo_scope.specs.Rows.{Table, component_of}
-use Rattle.mo_scope.specs.Frames.{Frame, Member, sources_of}
+use Rattle.mo_scope.specs.Frames.{Member, sources_of}
 use Rattle.mo_scope.specs.Parts.{is_nothing}
 use Rattle.mo_scope.specs.Names.{Child, child_of_member, component_frame, inner_of}
 use Rattle.mo_scope.specs.Sizes.{is_nothing as is_empty}

@@ -3,7 +3,7 @@
 -- It speaks of the first name of each argument: a protected element that is modified through a component is rule 17, a name that is no
 -- element and no attribute rule 20, a final element rule 22; and an argument of a constraining clause with a path of the declaration's own
 -- modifiers is rule 21. Of several rules that one argument breaks the least number is taken.
-use Rattle.std.specs.Prelude.{ℕ, Bool, true, false, ◌&&◌, ◌||◌, not, List, [], ◌∷◌, ◌++◌, flat_map, Option, Some, None, if◌then◌else◌}
+use Rattle.std.specs.Prelude.{ℕ, Bool, false, ◌&&◌, ◌||◌, not, List, [], ◌∷◌, ◌++◌, flat_map, Option, Some, None, if◌then◌else◌}
 use Rattle.std.specs.List.{list_any}
 use Rattle.std.specs.Str.{bytes_eq}
 use Rattle.mo_syntax.specs.declared.class.ArgumentOf.{ArgumentOf}

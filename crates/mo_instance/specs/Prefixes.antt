@@ -1,6 +1,6 @@
 -- What prefixes make of a component (Modelica Language Specification 3.5, sections 4.4.2 and 4.5): its variability, with that of the
 -- components around it, and whether it is given from outside.
-use Rattle.std.specs.Prelude.{ℕ, zero, suc, Bool, true, false, ◌||◌, List, [], ◌∷◌, Option, Some, None, Ok, Err, if◌then◌else◌}
+use Rattle.std.specs.Prelude.{ℕ, zero, suc, Bool, true, false, ◌||◌, Option, Some, None, Ok, Err, if◌then◌else◌}
 use Rattle.mo_syntax.specs.declared.class.Causal.{Causal}
 use Rattle.mo_syntax.specs.declared.class.Causal.TheVariants.{Input}
 use Rattle.mo_syntax.specs.declared.class.Prefix.{Prefix}

@@ -14,7 +14,7 @@ use Rattle.mo_scope.specs.Parts.{picked}
 use Rattle.mo_scope.specs.Lookup.{walked, named, own_members}
 use Rattle.mo_scope.specs.Names.{child_of_member, component_frame}
 use Rattle.mo_mods.specs.Marks.{marks_of}
-use Rattle.mo_mods.specs.Merged.{Merged, Table_of, Nothing_below, Below_then, Merged_value, nothing_merged, binding, marks}
+use Rattle.mo_mods.specs.Merged.{Merged, Table_of, Nothing_below, Below_then, Merged_value, binding, marks}
 use Rattle.mo_scope.proofs.rows.Notation.{byte, id, name, sets, component_by, row}
 
 -- ---- notation
@@ -116,9 +116,9 @@ value e pending each = Some (record { picked = record { value = e; scope = scope
 abbrev table_of_l : Merged
 table_of_l =
     Table_of None None (
-      Below_then (codes "b") (Table_of (value (number_at 2 90) (2 ∷ []) (false ∷ [])) None Nothing_below) (
-        Below_then (codes "a") (Table_of (value (number_at 1 80) [] (true ∷ [])) None Nothing_below) Nothing_below
-      )
+    Below_then (codes "b") (Table_of (value (number_at 2 90) (2 ∷ []) (false ∷ [])) None Nothing_below) (
+    Below_then (codes "a") (Table_of (value (number_at 1 80) [] (true ∷ [])) None Nothing_below) Nothing_below
+    )
     )
 
 -- whether a table has the value and the marks of a path

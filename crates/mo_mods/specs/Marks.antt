@@ -2,12 +2,12 @@
 -- an argument on the way to it, that has `each`, begins at the name.
 --
 -- The sources of an element are taken as `picked` takes them, each with the marks of the names that were passed.
-use Rattle.std.specs.Prelude.{ℕ, Bool, true, false, List, [], ◌∷◌, ◌++◌, map, flat_map, Option, Some, None, if◌then◌else◌}
+use Rattle.std.specs.Prelude.{ℕ, Bool, true, false, List, [], ◌∷◌, ◌++◌, map, flat_map, Option, Some, None}
 use Rattle.mo_syntax.specs.declared.class.ArgumentOf.{ArgumentOf}
 use Rattle.mo_syntax.specs.declared.class.Give.{Give}
 use Rattle.mo_syntax.specs.declared.expr.Expr.{Expr}
 use Rattle.mo_scope.specs.Rows.{Table}
-use Rattle.mo_scope.specs.Frames.{Given, Listed, Argued, Replacing, Source}
+use Rattle.mo_scope.specs.Frames.{Given, Listed, Argued, Source}
 use Rattle.mo_scope.specs.Parts.{Saying, Modifies, Redeclares, held, said_by_argument, said_further, said, with_list, brought}
 
 -- a source, and which of the names that were passed carry `each`

@@ -1,7 +1,6 @@
 -- One table of modifiers for a list of sources (Modelica Language Specification 3.5, sections 7.2 and 7.3).
-use Rattle.std.specs.Prelude.{◌≡◌, ℕ, Bool, List, [], ◌∷◌, Option, Some, None, Ok, option_map, if◌then◌else◌}
+use Rattle.std.specs.Prelude.{◌≡◌, ℕ, Bool, List, [], ◌∷◌, Option, None, Ok, option_map, if◌then◌else◌}
 use Rattle.std.specs.Str.{bytes_eq}
-use Rattle.mo_syntax.specs.declared.expr.Expr.{Expr}
 use Rattle.mo_scope.specs.Outcome.{Outcome, and_then}
 use Rattle.mo_scope.specs.Rows.{Table, Declares}
 use Rattle.mo_scope.specs.Frames.{Frame, Scope, Source, sources_of}

@@ -3,14 +3,14 @@
 -- Each is asked, the outermost source first, also one that a source further out replaces. It redeclares a class by a class or a component by
 -- a component, or rule 13 is broken; a replaceable element, or rule 24; and its class is compatible with that of the constraining clause, or
 -- with the declared class where there is none, or rule 25 is broken.
-use Rattle.std.specs.Prelude.{ℕ, Bool, true, false, ◌&&◌, List, [], ◌∷◌, Option, Some, None, Ok, is_some, if◌then◌else◌}
+use Rattle.std.specs.Prelude.{ℕ, Bool, false, ◌&&◌, List, [], ◌∷◌, Option, Some, None, Ok, is_some, if◌then◌else◌}
 use Rattle.std.specs.List.{list_all}
 use Rattle.mo_syntax.specs.declared.class.ComponentOf.{ComponentOf}
 use Rattle.mo_syntax.specs.declared.class.Give.{Give}
 use Rattle.mo_syntax.specs.declared.place.Place.{Place}
 use Rattle.mo_scope.specs.Outcome.{Outcome, and_then, breaks}
-use Rattle.mo_scope.specs.Rows.{Table, Declares, Constraint, is_class, class_number, component_of, place_eq}
-use Rattle.mo_scope.specs.Frames.{Frame, Scope, Source, Member, sources_of, looked_up}
+use Rattle.mo_scope.specs.Rows.{Table, Constraint, is_class, class_number, component_of, place_eq}
+use Rattle.mo_scope.specs.Frames.{Frame, Scope, Member, sources_of, looked_up}
 use Rattle.mo_scope.specs.Parts.{Redeclaration, redeclarations, with_list}
 use Rattle.mo_scope.specs.Lookup.{Walked, asking_of, class_named, members_in, named}
 use Rattle.mo_scope.specs.Names.{scope_of_home, walk_of}

@@ -6,7 +6,7 @@ use Rattle.mo_syntax.specs.declared.place.Place.{Place}
 use Rattle.mo_scope.specs.Rows.{Table, Declares}
 use Rattle.mo_scope.specs.Frames.{Given, Listed, Argued, Replacing, Source}
 use Rattle.mo_scope.specs.Parts.{Redeclaration, redeclarations_in, names_left, held, said_by_argument, said_further, said_by_elements, replacing_of}
-use Rattle.mo_scope.specs.Arguments.{Asked, Claim, asked_argument, asked_rest, asked_element}
+use Rattle.mo_scope.specs.Arguments.{Claim, asked_argument, asked_rest, asked_element}
 
 -- An argument of a source: the source, the first of its names, where it stands, the paths that it gives something for, the redeclaration
 -- of the element of its first name, if it is one, and whether it is an element with `redeclare` of a class.
