@@ -3,13 +3,16 @@ pub mod Compatible
 pub mod Entries
 pub mod Frames
 pub mod Insides
+pub mod Instances
 pub mod Lookup
 pub mod Names
 pub mod Outcome
 pub mod Parts
 pub mod Places
+pub mod Redeclarations
 pub mod Rows
 pub mod Sights
 pub mod Sizes
+pub mod Spoken
 pub mod TreePlaces
 pub mod Worlds

@@ -1,0 +1,108 @@
+-- The checks of a frame that is instantiated (Modelica Language Specification 3.5, sections 4.6, 5.4, 7.1 to 7.3).
+--
+-- Its class is not partial; then its elements, the two passes over its arguments, its redeclarations; and all but the first of these for
+-- each of its bases, once, in the order of the extends clauses.
+use Rattle.std.specs.Prelude.{ℕ, Bool, true, false, ◌||◌, List, [], ◌∷◌, ◌++◌, filter, length, drop, Option, Some, None, Ok, if◌then◌else◌, nat_lt}
+use Rattle.mo_syntax.specs.declared.class.ClassKind.{ClassKind}
+use Rattle.mo_syntax.specs.declared.class.ClassKind.TheVariants.{Function, Operator}
+use Rattle.mo_syntax.specs.declared.place.Place.{Place}
+use Rattle.mo_scope.specs.Outcome.{Outcome, and_then, breaks}
+use Rattle.mo_scope.specs.Rows.{Table, Row, row_at, Declares, Clause, clauses_in, elements_in, is_class}
+use Rattle.mo_scope.specs.Frames.{Frame, Source, class_of, sources_of}
+use Rattle.mo_scope.specs.Arguments.{second_pass}
+use Rattle.mo_scope.specs.Lookup.{Walked, final_frame}
+use Rattle.mo_scope.specs.Names.{walk_of}
+use Rattle.mo_scope.specs.Redeclarations.{Checked, fine, each_checked, redeclarations_checked}
+use Rattle.mo_instance.specs.Passes.{first_pass, inherits}
+
+-- ---- partial classes
+
+-- The class of the frame itself decides; rule 26 stands where the class is named.
+abbrev pub whole_class : Table → Place → Frame → Checked
+whole_class table place frame = whole_by (row_at table (class_of frame))
+  where
+    whole_by : Option Row → Checked
+    whole_by None = fine
+    whole_by (Some row) = if row.class.flags.partial then breaks 26 place else fine
+
+-- ---- what is left out
+
+abbrev pub is_function : ClassKind → Bool
+is_function Function = true
+is_function Operator = true
+is_function kind = false
+
+abbrev pub is_inner_or_outer : Declares → Bool
+is_inner_or_outer declares = declares.flags.inner || declares.flags.outer
+
+-- the one that stands first in the text
+abbrev pub first_in_text : List Declares → Option Declares
+first_in_text [] = None
+first_in_text (declares ∷ others) = before (first_in_text others)
+  where
+    before : Option Declares → Option Declares
+    before None = Some declares
+    before (Some other) = if nat_lt other.place.byte declares.place.byte then Some other else Some declares
+
+-- classes, and elements with `redeclare`, that a class declares with `inner` or `outer`
+abbrev pub wrongly_inner : Row → List Declares
+wrongly_inner row = filter is_inner_or_outer (filter is_class (elements_in row.parts) ++ row.replacing)
+
+-- A function or an operator is left out, and so is `inner` or `outer` on a class or an element with `redeclare`.
+abbrev pub in_profile : Table → Frame → Checked
+in_profile table frame = profile_of (row_at table (class_of frame))
+  where
+    unless_any : Option Declares → Checked
+    unless_any None = fine
+    unless_any (Some declares) = breaks 34 declares.place
+
+    profile_of : Option Row → Checked
+    profile_of None = fine
+    profile_of (Some row) =
+        if is_function row.class.kind then breaks 34 row.class.place else unless_any (first_in_text (wrongly_inner row))
+
+-- ---- a frame and its bases
+
+-- The elements with `redeclare` of a class without bases replace nothing: rule 20 at the first one.
+abbrev pub replaces_inherited : Table → Frame → Checked
+replaces_inherited table frame = replaces_by (row_at table (class_of frame))
+  where
+    unless_bases : List Clause → List Declares → Checked
+    unless_bases [] (declares ∷ others) = breaks 20 declares.place
+    unless_bases clauses replacing = fine
+
+    replaces_by : Option Row → Checked
+    replaces_by None = fine
+    replaces_by (Some row) = unless_bases (clauses_in row.parts) row.replacing
+
+-- The elements of a frame, its arguments and its redeclarations. The first pass takes the sources that were added.
+abbrev pub frame_passed : Table → (is_replaced : List ℕ → Bool) → (added : List Source) → Frame → Outcome Walked
+frame_passed table is_replaced added frame =
+    and_then (walk_of table frame) (λ walked.
+    and_then (in_profile table frame) (λ _.
+    and_then (first_pass table frame is_replaced walked added) (λ _.
+    and_then (second_pass table (sources_of frame)) (λ _.
+    and_then (redeclarations_checked table walked frame) (λ _.
+    and_then (replaces_inherited table frame) (λ _. Ok walked))))))
+
+-- the sources that inheritance adds to those of a frame for a base
+abbrev pub added_to : Frame → (base : Frame) → List Source
+added_to frame base = drop (length (sources_of frame)) (sources_of base)
+
+-- the frame that a base is a base of: the one before it on the way
+abbrev pub before_last : Frame → List Frame → Frame
+before_last frame [] = frame
+before_last frame (base ∷ []) = frame
+before_last frame (base ∷ next ∷ bases) = before_last base (next ∷ bases)
+
+abbrev pub base_passed : Table → Frame → (base : Frame) → Checked
+base_passed table frame base =
+    and_then (walk_of table frame) (λ walked.
+    and_then (frame_passed table (inherits walked) (added_to frame base) base) (λ _. fine))
+
+-- The elements of a frame, all checks being made. Rule 26 stands at the place.
+abbrev pub frame_checked : Table → Place → Frame → Outcome Walked
+frame_checked table place frame =
+    and_then (whole_class table place frame) (λ _.
+    and_then (frame_passed table (λ name. false) (sources_of frame) frame) (λ walked.
+    and_then (each_checked (λ through. base_passed table (before_last frame through) (final_frame through)) walked.bases) (λ _. Ok walked)))

@@ -1,0 +1,7 @@
+pub mod Attributes
+pub mod Passes
+pub mod Checks
+pub mod Prefixes
+pub mod Outer
+pub mod Elements
+pub mod Instances
