@@ -11,7 +11,7 @@ use Rattle.mo_syntax.specs.ClassTable.{path_eq}
 use Rattle.mo_scope.specs.Outcome.{Outcome, breach, unless_broken}
 use Rattle.mo_scope.specs.Rows.{Table, Declares}
 use Rattle.mo_scope.specs.Frames.{Given, Listed, Argued, Replacing, Listing, Source, listing_eq}
-use Rattle.mo_scope.specs.Parts.{names_left, held, replacing_of}
+use Rattle.mo_scope.specs.Parts.{names_left, held, declared_in}
 
 -- ---- paths
 
@@ -85,7 +85,7 @@ asked_of table source = asked_by source.piece.given
     asked_by (Listed modifiers) = map (asked_argument source) modifiers.list
     asked_by (Argued argument passed) =
         asked_rest source argument (names_left argument passed) ++ map (asked_argument source) (held (Argued argument passed)).list
-    asked_by (Replacing class) = map (asked_element source) (replacing_of table class)
+    asked_by (Replacing elements) = map (λ element. asked_element source (declared_in table element)) elements
 
 abbrev pub arguments_of : Table → List Source → List Asked
 arguments_of table sources = flat_map (asked_of table) sources

@@ -6,6 +6,7 @@
 use Rattle.std.specs.Prelude.{ℕ, ℤ, Bool, true, false, ◌&&◌, List, [], ◌∷◌, Option, Some, None, nat_eq}
 use Rattle.std.specs.Str.{bytes_eq}
 use Rattle.mo_syntax.specs.declared.class.ArgumentOf.{ArgumentOf}
+use Rattle.mo_syntax.specs.declared.class.Element.{Element}
 use Rattle.mo_syntax.specs.declared.class.Give.{Give}
 use Rattle.mo_syntax.specs.declared.place.Place.{Place}
 use Rattle.mo_syntax.specs.ClassTable.{path_eq}
@@ -14,11 +15,11 @@ use Rattle.mo_scope.specs.Rows.{Declares, Modifiers, place_eq}
 -- ---- what a source carries
 
 -- What modifies a class: a modifier list with the value behind it; an argument of which so many names were passed, at least one; or the
--- elements with `redeclare` of the class with that number.
+-- elements with `redeclare` of a class.
 pub data Given : Type 0 where
   Listed : Modifiers → Given
   Argued : ArgumentOf Give → (passed : ℕ) → Given
-  Replacing : ℕ → Given
+  Replacing : List Element → Given
 
 -- The list that a source is a part of: where it stands, and the names that were passed since. A list stands where its first argument
 -- stands, or where its value stands if it has no argument; the elements with `redeclare` of a class stand at its name.

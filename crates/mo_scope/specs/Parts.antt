@@ -10,7 +10,7 @@ use Rattle.mo_syntax.specs.declared.class.Give.{Give, Give-F, out-Give}
 use Rattle.mo_syntax.specs.declared.class.Item.{Item}
 use Rattle.mo_syntax.specs.declared.class.What.{What}
 use Rattle.mo_syntax.specs.declared.place.Place.{Place}
-use Rattle.mo_scope.specs.Rows.{Table, Row, row_at, number_of_element, Modifiers, no_modifiers, Constraint, Declares, declared_by, Clause, is_class, is_short_redeclaration}
+use Rattle.mo_scope.specs.Rows.{Table, Row, number_of_element, Modifiers, no_modifiers, Constraint, Declares, declared_by, Clause, is_class, is_short_redeclaration}
 use Rattle.mo_scope.specs.Frames.{Given, Listed, Argued, Replacing, Origin, Elsewhere, Own_of, Constraint_of, Frame, Scope, Source, Member, sources_of}
 
 -- ---- arguments
@@ -55,7 +55,7 @@ held (Argued argument passed) = held_behind (names_left argument passed)
     held_behind : List (List ℕ) → Modifiers
     held_behind [] = nested argument.give
     held_behind (name ∷ names) = no_modifiers
-held (Replacing class) = no_modifiers
+held (Replacing elements) = no_modifiers
 
 -- ---- what a source says of a name
 
@@ -85,13 +85,17 @@ behind_name source name pending last given = record {
   scope = source.scope;
 }
 
+-- what declares an element of a modifier list or an element with `redeclare`
+abbrev pub declared_in : Table → Element → Declares
+declared_in table element = declared_by element (number_of_element table element)
+
 -- an argument that redeclares, all of its names being passed, or the source that is left of it
 abbrev pub said_behind : Table → ArgumentOf Give → ℕ → Source → Saying
 said_behind table argument passed source = said_in (names_left argument passed) (out-Give argument.give)
   where
     redeclares : Element → Bool → Saying
     redeclares element keeps =
-        Redeclares (record { declares = declared_by element (number_of_element table element); place = argument.place; keeps = keeps; source = source })
+        Redeclares (record { declares = declared_in table element; place = argument.place; keeps = keeps; source = source })
 
     said_in : List (List ℕ) → Give-F Body Give Item What Element → Saying
     said_in [] (Give-F.Redeclare element) = redeclares element (out-Element element).flags.replaceable
@@ -120,26 +124,20 @@ said_further table source name index argument passed =
     (behind_name source name (source.piece.pending ++ index) false (Argued argument (passed + 1))) ∷ []
     else []
 
-abbrev pub said_by_elements : Source → List ℕ → List ℕ → List Declares → List Saying
-said_by_elements source name index declared = flat_map said_by declared
-  where
-    said_by : Declares → List Saying
-    said_by declares =
-        if bytes_eq declares.name name then
-        Redeclares (record {
-          declares = declares;
-          place = declares.place;
-          keeps = declares.flags.replaceable;
-          source = behind_name source name (source.piece.pending ++ index) false (Listed declares.own);
-        }) ∷ []
-        else []
+abbrev pub said_by_element : Table → Source → List ℕ → List ℕ → Declares → List Saying
+said_by_element table source name index declares =
+    if bytes_eq declares.name name then
+    Redeclares (record {
+      declares = declares;
+      place = declares.place;
+      keeps = declares.flags.replaceable;
+      source = behind_name source name (source.piece.pending ++ index) false (Listed declares.own);
+    }) ∷ []
+    else []
 
-abbrev pub replacing_of : Table → ℕ → List Declares
-replacing_of table class = replacing_in (row_at table class)
-  where
-    replacing_in : Option Row → List Declares
-    replacing_in None = []
-    replacing_in (Some row) = row.replacing
+abbrev pub said_by_elements : Table → Source → List ℕ → List ℕ → List Element → List Saying
+said_by_elements table source name index elements =
+    flat_map (λ element. said_by_element table source name index (declared_in table element)) elements
 
 -- Of a list, the source says one thing for each argument that begins with the name, in their order.
 abbrev pub said : Table → List ℕ → List ℕ → Source → List Saying
@@ -149,7 +147,7 @@ said table name index source = said_of source.piece.given
     said_of (Listed modifiers) = said_in_list table source name index modifiers.list
     said_of (Argued argument passed) =
         said_further table source name index argument passed ++ said_in_list table source name index (held (Argued argument passed)).list
-    said_of (Replacing class) = said_by_elements source name index (replacing_of table class)
+    said_of (Replacing elements) = said_by_elements table source name index elements
 
 abbrev pub said_by_all : Table → List ℕ → List ℕ → List Source → List Saying
 said_by_all table name index sources = flat_map (said table name index) sources
@@ -317,7 +315,7 @@ without_value source = record {
     valueless : Given → Given
     valueless (Listed modifiers) = listed_of modifiers
     valueless (Argued argument passed) = valueless_behind argument passed (names_left argument passed)
-    valueless (Replacing class) = Replacing class
+    valueless (Replacing elements) = Replacing elements
 
 -- the sources of a class that is an element: a value for the class itself is dropped
 abbrev pub class_sources : Table → Member → List Source
@@ -329,11 +327,11 @@ class_sources table member = map without_value (element_sources table member [])
 abbrev pub replacing_source : Frame → Row → List Source
 replacing_source frame row = source_of row.replacing
   where
-    source_of : List Declares → List Source
+    source_of : List Element → List Source
     source_of [] = []
-    source_of (declares ∷ others) = record {
+    source_of (element ∷ others) = record {
       piece = record {
-        given = Replacing row.number;
+        given = Replacing (element ∷ others);
         pending = [];
         listing = record { place = row.class.place; passed = [] };
         last = false;

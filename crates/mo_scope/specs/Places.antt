@@ -6,12 +6,13 @@ use Rattle.std.specs.Prelude.{◌≡◌, ◌⊎◌, List, [], ◌∷◌, Contain
 use Rattle.mo_syntax.specs.declared.expr.Expr.{Expr}
 use Rattle.mo_syntax.specs.declared.expr.ReferenceOf.{ReferenceOf}
 use Rattle.mo_syntax.specs.declared.class.ArgumentOf.{ArgumentOf}
+use Rattle.mo_syntax.specs.declared.class.Element.{Element as Declaring}
 use Rattle.mo_syntax.specs.declared.class.FileTree.{FileTree}
 use Rattle.mo_syntax.specs.declared.class.Give.{Give}
 use Rattle.mo_syntax.specs.declared.class.Import.{Import}
 use Rattle.mo_syntax.specs.declared.place.Place.{Place}
 use Rattle.mo_scope.specs.Outcome.{Outcome}
-use Rattle.mo_scope.specs.TreePlaces.{places_of_parts, places_in_give, places_in_files, place_of_import}
+use Rattle.mo_scope.specs.TreePlaces.{places_of_parts, places_in_give, places_in_element, places_in_files, place_of_import}
 use Rattle.mo_scope.specs.Rows.{Table, Row, Declares, Sort, A_class, A_component, Modifiers, Constraint, Part, Element_of, Base_of, Clause}
 use Rattle.mo_scope.specs.Frames.{Given, Listed, Argued, Replacing, Frame, Top, In, Sources, No_source, Source_then, Source, Member}
 use Rattle.mo_scope.specs.Parts.{Redeclaration, Saying, Modifies, Redeclares}
@@ -61,13 +62,17 @@ abbrev pub PartStands : (Place → Type 0) → Part → Type 0
 PartStands P (Element_of declares) = DeclaresStand P declares
 PartStands P (Base_of clause) = ClauseStands P clause
 
+-- an element with `redeclare`
+abbrev pub ElementStands : (Place → Type 0) → Declaring → Type 0
+ElementStands P element = Every P (places_in_element element)
+
 abbrev pub ImportStands : (Place → Type 0) → Import → Type 0
 ImportStands P clause = P (place_of_import clause)
 
 pub record RowStands (P : Place → Type 0) (row : Row) : Type 0 where
   pub place : P row.class.place
   pub parts : Every (PartStands P) row.parts
-  pub replacing : Every (DeclaresStand P) row.replacing
+  pub replacing : Every (ElementStands P) row.replacing
   pub imports : Every (ImportStands P) row.imports
 
 abbrev pub TableStands : (Place → Type 0) → Table → Type 0
@@ -78,7 +83,7 @@ TableStands P table = Every (RowStands P) table
 abbrev pub GivenStands : (Place → Type 0) → Given → Type 0
 GivenStands P (Listed modifiers) = ModifiersStand P modifiers
 GivenStands P (Argued argument passed) = ArgumentStands P argument
-GivenStands P (Replacing class) = Unit {0}
+GivenStands P (Replacing elements) = Every (ElementStands P) elements
 
 abbrev mutual
   -- the sources of the frame, and of those that belong to it, hold what stands

@@ -25,7 +25,7 @@ use Rattle.mo_syntax.specs.declared.class.Vary.TheVariants.{Constant}
 use Rattle.mo_syntax.specs.declared.class.What.{What, What-F, out-What}
 use Rattle.mo_syntax.specs.declared.place.Place.{Place}
 use Rattle.mo_syntax.specs.Classes.{Home, Under, Apart, ClassRow, Declared, Component, Class, Declaration}
-use Rattle.mo_syntax.specs.ClassTable.{Numbered, declarations, first_number, own_parts, path_eq, placed_under}
+use Rattle.mo_syntax.specs.ClassTable.{declarations, first_number, path_eq, placed_under}
 
 -- ---- modifier lists
 
@@ -162,12 +162,22 @@ pub data Part : Type 0 where
   Element_of : Declares → Part
   Base_of : Clause → Part
 
-abbrev pub part_of : Numbered → List Part
-part_of part = part_in (out-Item part.item)
+-- the items of a long class
+abbrev pub items_in : Body-F Body Give Item What Element → List Item
+items_in (Body-F.Long extending items external) = items
+items_in other = []
+
+-- what stands behind `=` in a short class
+abbrev pub bases_in : Body-F Body Give Item What Element → List Clause
+bases_in (Body-F.Short causal base subs mods) = record { base = base; mods = mods; hidden = false } ∷ []
+bases_in other = []
+
+abbrev pub part_of : (Element → ℕ) → Item → List Part
+part_of number item = part_in (out-Item item)
   where
     part_in : Item-F Body Give Item What Element → List Part
     part_in (Item-F.Member element) =
-        if (out-Element element).flags.redeclare then [] else Element_of (declared_by element part.first) ∷ []
+        if (out-Element element).flags.redeclare then [] else Element_of (declared_by element (number element)) ∷ []
     part_in (Item-F.Extends clause) = Base_of clause ∷ []
     part_in other = []
 
@@ -180,20 +190,21 @@ placed_in files (Under path) name = placed_under (path ++ name ∷ []) (declarat
 placed_in files home name = []
 
 -- the elements and extends clauses of a class in the order of the text, then the classes that files place under it
-abbrev pub parts_in : List FileTree → Home → ClassRow → List Part
-parts_in files home row = flat_map part_of (own_parts row) ++ map placed_part (placed_in files home row.class.name)
+abbrev pub parts_in : List FileTree → (Element → ℕ) → Home → ClassRow → List Part
+parts_in files number home row =
+    flat_map (part_of number) (items_in (out-Body row.class.body)) ++ map Base_of (bases_in (out-Body row.class.body))
+    ++ map placed_part (placed_in files home row.class.name)
 
 -- an element of a class that replaces an inherited one
-abbrev pub replacing_in : Numbered → List Declares
-replacing_in part = replacing_by (out-Item part.item)
+abbrev pub replacing_in : Item → List Element
+replacing_in item = replacing_by (out-Item item)
   where
-    replacing_by : Item-F Body Give Item What Element → List Declares
-    replacing_by (Item-F.Member element) =
-        if (out-Element element).flags.redeclare then declared_by element part.first ∷ [] else []
+    replacing_by : Item-F Body Give Item What Element → List Element
+    replacing_by (Item-F.Member element) = if (out-Element element).flags.redeclare then element ∷ [] else []
     replacing_by other = []
 
-abbrev pub import_in : Numbered → List Import
-import_in part = import_by (out-Item part.item)
+abbrev pub import_in : Item → List Import
+import_in item = import_by (out-Item item)
   where
     import_by : Item-F Body Give Item What Element → List Import
     import_by (Item-F.Import clause) = clause ∷ []
@@ -229,50 +240,66 @@ pub record Row : Type 0 where
   pub class : ClassDefOf Body
   pub form : Form
   pub parts : List Part
-  pub replacing : List Declares
+  pub replacing : List Element
   pub imports : List Import
 
 abbrev pub Table : Type 0
 Table = List Row
 
-abbrev pub row_of : List FileTree → Home → ClassRow → Row
-row_of files home row = record {
-  number = row.number;
-  home = home;
-  outermost = row.outermost;
-  class = row.class;
-  form = form_in (out-Body row.class.body);
-  parts = parts_in files home row;
-  replacing = flat_map replacing_in (own_parts row);
-  imports = flat_map import_in (own_parts row);
-}
+-- A class with whose element its name is.
+pub record ClassEntry : Type 0 where
+  pub row : ClassRow
+  pub home : Home
 
-abbrev pub rows_of_declaration : List FileTree → Declaration → List Row
-rows_of_declaration files d = rows_by d.what
+abbrev pub entry_in : Declaration → List ClassEntry
+entry_in d = entry_by d.what
   where
-    rows_by : Declared → List Row
-    rows_by Component = []
-    rows_by (Class row) = row_of files d.home row ∷ []
+    entry_by : Declared → List ClassEntry
+    entry_by Component = []
+    entry_by (Class row) = record { row = row; home = d.home } ∷ []
 
 -- the classes of the files in the order of files and bytes, which is that of their numbers
+abbrev pub entries_of : List FileTree → List ClassEntry
+entries_of files = flat_map entry_in (declarations files)
+
+-- The number of the class that an element declares: a class is known by where its name stands.
+abbrev pub number_by : (Place → ℕ) → Element → ℕ
+number_by number element = number_in (out-What (out-Element element).what)
+  where
+    number_in : What-F Body Give Item What Element → ℕ
+    number_in (What-F.Class class) = number class.place
+    number_in (What-F.Component component) = 0
+
+abbrev pub number_among : List ClassEntry → Place → ℕ
+number_among [] place = 0
+number_among (entry ∷ entries) place = if place_eq entry.row.class.place place then entry.row.number else number_among entries place
+
+abbrev pub row_of : List FileTree → (Place → ℕ) → ClassEntry → Row
+row_of files number entry = record {
+  number = entry.row.number;
+  home = entry.home;
+  outermost = entry.row.outermost;
+  class = entry.row.class;
+  form = form_in (out-Body entry.row.class.body);
+  parts = parts_in files (number_by number) entry.home entry.row;
+  replacing = flat_map replacing_in (items_in (out-Body entry.row.class.body));
+  imports = flat_map import_in (items_in (out-Body entry.row.class.body));
+}
+
 abbrev pub table_of : List FileTree → Table
-table_of files = flat_map (rows_of_declaration files) (declarations files)
+table_of files = map (row_of files (number_among (entries_of files))) (entries_of files)
 
 -- the class with that number, None for a predefined type
 abbrev pub row_at : Table → ℕ → Option Row
 row_at table number = find (λ row. nat_eq row.number number) table
 
--- The number of the class that an element of a modifier list declares. The class is known by where its name stands.
-abbrev pub number_of_element : Table → Element → ℕ
-number_of_element table element = number_in (out-What (out-Element element).what)
-  where
-    number_at : Option Row → ℕ
-    number_at None = 0
-    number_at (Some row) = row.number
+abbrev pub number_at : Table → Place → ℕ
+number_at [] place = 0
+number_at (row ∷ rows) place = if place_eq row.class.place place then row.number else number_at rows place
 
-    number_in : What-F Body Give Item What Element → ℕ
-    number_in (What-F.Class class) = number_at (find (λ row. place_eq row.class.place class.place) table)
-    number_in (What-F.Component component) = 0
+-- the number of the class that an element of a modifier list declares
+abbrev pub number_of_element : Table → Element → ℕ
+number_of_element table = number_by (number_at table)
 
 -- how many classes there are, the predefined types among them
 abbrev pub number_of_classes : Table → ℕ

@@ -1,5 +1,5 @@
 -- What the values of the code are as data.
-use Rattle.std.specs.Prelude.{map, option_map, option_copied}
+use Rattle.std.specs.Prelude.{List, map, flat_map, option_map, option_copied}
 use Rattle.mo_syntax.specs.Classes as classes
 use Rattle.mo_scope.specs.declared.source.Given.{Given as GivenAt}
 use Rattle.mo_scope.specs.declared.source.Given.TheVariants.{Listed as listed_at, Argued as argued_at, Replacing as replacing_at}
@@ -7,6 +7,7 @@ use Rattle.mo_scope.specs.declared.source.Listing.{Listing as ListingAt}
 use Rattle.mo_scope.specs.declared.source.Modifiers.{Modifiers as ModifiersAt}
 use Rattle.mo_scope.specs.declared.source.Origin.{Origin as OriginAt}
 use Rattle.mo_scope.specs.declared.source.Origin.TheVariants.{Elsewhere as elsewhere_at, OwnOf, ConstraintOf}
+use Rattle.mo_scope.specs.declared.source.Picked.{Picked as PickedAt}
 use Rattle.mo_scope.specs.declared.source.Source.{Source as SourceAt}
 use Rattle.mo_scope.specs.declared.row.Clause.{Clause as ClauseAt}
 use Rattle.mo_scope.specs.declared.row.Constraint.{Constraint as ConstraintAt}
@@ -18,9 +19,10 @@ use Rattle.mo_scope.specs.declared.row.Part.{Part as PartAt}
 use Rattle.mo_scope.specs.declared.row.Part.TheVariants.{Element as element_at, Base as base_at}
 use Rattle.mo_scope.specs.declared.row.Sort.{Sort as SortAt}
 use Rattle.mo_scope.specs.declared.row.Sort.TheVariants.{Class as class_at, Component as component_at}
-use Rattle.mo_scope.specs.Rows.{Modifiers, Constraint, Declares, Sort, A_class, A_component, Clause, Part, Element_of, Base_of}
-use Rattle.mo_scope.specs.Frames.{Given, Listed, Argued, Replacing, Listing, Origin, Elsewhere, Own_of, Constraint_of}
-use Rattle.mo_scope.specs.Worlds.{SourceEntry, MemberEntry}
+use Rattle.mo_scope.specs.Rows.{Modifiers, Constraint, Declares, Sort, A_class, A_component, Clause, Part, Element_of, Base_of, replacing_in}
+use Rattle.mo_scope.specs.Frames.{Frame, Given, Listed, Argued, Replacing, Listing, Origin, Elsewhere, Own_of, Constraint_of}
+use Rattle.mo_scope.specs.Parts.{Picked}
+use Rattle.mo_scope.specs.Worlds.{SourceEntry, MemberEntry, scope_in}
 
 -- ---- rows
 
@@ -61,7 +63,7 @@ home_seen Apart = classes.Apart
 abbrev pub given_seen : GivenAt → Given
 given_seen (listed_at modifiers) = Listed (modifiers_seen modifiers)
 given_seen (argued_at argument passed) = Argued argument.now passed
-given_seen (replacing_at class) = Replacing class.0
+given_seen (replacing_at items) = Replacing (flat_map replacing_in items.now)
 
 abbrev pub listing_seen : ListingAt → Listing
 listing_seen listing = record { place = listing.place; passed = map (λ name. name.now) listing.passed }
@@ -83,6 +85,14 @@ source_seen source = record {
   };
   frame = source.scope.frame.0;
   iterations = source.scope.iters;
+}
+
+-- a value that was picked, where frames have these numbers
+abbrev pub picked_in : List Frame → PickedAt → Picked
+picked_in frames picked = record {
+  value = picked.value.now;
+  scope = scope_in frames picked.scope.now.frame.0 picked.scope.now.iters;
+  pending = picked.pending.now;
 }
 
 -- ---- elements

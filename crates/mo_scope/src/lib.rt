@@ -3,7 +3,7 @@
 //!
 //! - `Scopes`: frames by number. `enter` makes one; `class_of`, `sources`, `outer`, `path` and `owner` read it; `keep` and
 //!   `table` hold the table of its elements.
-//! - `Source`: what modifies a class, by reference into the class tree.
+//! - `Source`: what modifies a class, by reference into the class tree. `pick_here` finds the value that sources give for it.
 //! - `Row`, `Declares`, `Member`: a class with what it declares, and an element of a frame.
 //!
 //! `specs/` has the definitions of elements, lookup, children, arguments and compatibility. They speak of frames as trees;
@@ -11,11 +11,13 @@
 #![tactic(auto)]
 
 mod frame;
+mod pick;
 mod row;
 mod scopes;
 mod source;
 mod table;
 
+pub use pick::pick_here;
 pub use row::{Clause, Constraint, Declares, Home, Member, Part, Row, Sort};
 pub use scopes::Scopes;
 pub use source::{Given, Listing, Modifiers, Origin, Picked, ScopeAt, Source};

@@ -1,6 +1,8 @@
 //! Classes by number, and what they declare, by reference into the class tree.
 use crate::source::Modifiers;
-use mo_syntax::{ClassDef, Component, ElementFlags, Extends, Import, List, Place, Reference, Text};
+use mo_syntax::{
+    ClassDef, Component, ElementFlags, Extends, Import, Item, List, Place, Reference, Text,
+};
 
 /// What is declared: a class by its number, or a component.
 #[derive(Clone, Copy)]
@@ -62,7 +64,8 @@ pub struct Row<'t> {
     pub outermost: bool,
     pub class: &'t ClassDef,
     pub parts: List<Part<'t>>,
-    pub replacing: List<Declares<'t>>,
+    /// Its items, of which those with `redeclare` replace inherited elements.
+    pub replacing: &'t [Item],
     pub imports: List<&'t Import>,
 }
 

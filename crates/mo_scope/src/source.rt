@@ -1,5 +1,5 @@
 //! Sources: what modifies a class, held by reference into the class tree.
-use mo_syntax::{Argument, ClassId, Expr, FrameId, List, Place, Text};
+use mo_syntax::{Argument, Expr, FrameId, Item, List, Place, Text};
 
 /// A text's frame with the iteration variables around it, the innermost first.
 #[derive(Drop)]
@@ -24,8 +24,8 @@ pub enum Given<'t> {
         argument: &'t Argument,
         passed: usize,
     },
-    /// The elements with `redeclare` of a class.
-    Replacing(ClassId),
+    /// The elements with `redeclare` among the items of a class.
+    Replacing(&'t [Item]),
 }
 
 /// The list that a source is a part of: where it stands, and the names that were passed since.

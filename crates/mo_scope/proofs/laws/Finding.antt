@@ -424,21 +424,21 @@ module _ (P : Place → Type 0) (table : Table) (stands : TableStands P table) w
   owner_of_base_stands (In class sources outer None Top) h = tt
   owner_of_base_stands (In class sources outer None (In class' sources' outer' at' owner')) h = h
 
-  base_frame_stands : (frame : Frame) (row : Row) (clause : Clause) (class : Frame) → FrameStands P frame → ClauseStands P clause → FrameStands P class →
+  base_frame_stands : (frame : Frame) (row : Row) (clause : Clause) (class : Frame) → FrameStands P frame → RowStands P row → ClauseStands P clause → FrameStands P class →
       FrameStands P (base_frame frame row clause class)
-  base_frame_stands frame row clause Top hf h hc =
-      (gathered_stand P (base_sources frame row clause Top) (base_sources_stand P table stands frame row clause Top hf h hc), tt, owner_of_base_stands frame hf)
-  base_frame_stands frame row clause (In class sources outer at owner) hf h hc = (
-    gathered_stand P (base_sources frame row clause (In class sources outer at owner)) (base_sources_stand P table stands frame row clause (In class sources outer at owner) hf h hc),
+  base_frame_stands frame row clause Top hf hr h hc =
+      (gathered_stand P (base_sources frame row clause Top) (base_sources_stand P table stands frame row clause Top hf hr h hc), tt, owner_of_base_stands frame hf)
+  base_frame_stands frame row clause (In class sources outer at owner) hf hr h hc = (
+    gathered_stand P (base_sources frame row clause (In class sources outer at owner)) (base_sources_stand P table stands frame row clause (In class sources outer at owner) hf hr h hc),
     hc.1,
     owner_of_base_stands frame hf,
   )
 
-  pub base_of_stands : (asking : Asking) (frame : Frame) (row : Row) (clause : Clause) → AskingStands P asking → FrameStands P frame → ClauseStands P clause →
+  pub base_of_stands : (asking : Asking) (frame : Frame) (row : Row) (clause : Clause) → AskingStands P asking → FrameStands P frame → RowStands P row → ClauseStands P clause →
       Answers P (FrameStands P) (base_of table asking frame row clause)
-  base_of_stands asking frame row clause ha hf h =
+  base_of_stands asking frame row clause ha hf hr h =
       then_answers P (FrameStands P) (FrameStands P) (base_class table asking frame clause) _ (base_class_stands asking frame clause ha hf h)
-      (λ class hc. record { holds = base_frame_stands frame row clause class hf h hc })
+      (λ class hc. record { holds = base_frame_stands frame row clause class hf hr h hc })
 
   -- ---- joining elements
 
@@ -472,17 +472,17 @@ module _ (P : Place → Type 0) (table : Table) (stands : TableStands P table) w
   -- ---- the elements of a frame
 
   walked_parts_stand : (asking : Asking) (frame : Frame) (row : Row) (item : ℕ) (parts : List Part) (so_far : Walked) → AskingStands P asking → FrameStands P frame →
-      Every (PartStands P) parts → WalkedStands P so_far → Answers P (WalkedStands P) (walked_parts table asking frame row item parts so_far)
-  walked_parts_stand asking frame row item [] so_far ha hf h hs = record { holds = hs }
-  walked_parts_stand asking frame row item (Element_of declares ∷ parts) so_far ha hf h hs =
+      RowStands P row → Every (PartStands P) parts → WalkedStands P so_far → Answers P (WalkedStands P) (walked_parts table asking frame row item parts so_far)
+  walked_parts_stand asking frame row item [] so_far ha hf hr h hs = record { holds = hs }
+  walked_parts_stand asking frame row item (Element_of declares ∷ parts) so_far ha hf hr h hs =
       then_answers P (WalkedStands P) (WalkedStands P) (with_member _ so_far) _ (with_member_stands _ so_far (record { home = hf; declares = h.0 }) hs)
-      (λ walked hw. walked_parts_stand asking frame row (item + 1) parts walked ha hf h.1 hw)
-  walked_parts_stand asking frame row item (Base_of clause ∷ parts) so_far ha hf h hs =
-      then_answers P (FrameStands P) (WalkedStands P) (base_of table asking frame row clause) _ (base_of_stands asking frame row clause ha hf h.0)
+      (λ walked hw. walked_parts_stand asking frame row (item + 1) parts walked ha hf hr h.1 hw)
+  walked_parts_stand asking frame row item (Base_of clause ∷ parts) so_far ha hf hr h hs =
+      then_answers P (FrameStands P) (WalkedStands P) (base_of table asking frame row clause) _ (base_of_stands asking frame row clause ha hf hr h.0)
       (λ base hb. then_answers P (WalkedStands P) (WalkedStands P) (asking.elements (last_place clause.base.parts) base) _
       (ha.elements (last_place clause.base.parts) base (last_place_stands clause.base.parts h.0.base) hb)
       (λ walked hw. then_answers P (WalkedStands P) (WalkedStands P) (with_base clause.hidden base walked so_far) _ (with_base_stands clause.hidden base walked so_far hw hs)
-      (λ joined hj. walked_parts_stand asking frame row item parts joined ha hf h.1 hj)))
+      (λ joined hj. walked_parts_stand asking frame row item parts joined ha hf hr h.1 hj)))
 
   leaf_checked_stands : (walked : Walked) → WalkedStands P walked → Answers P (WalkedStands P) (leaf_checked walked)
   leaf_checked_stands walked h = by walked.leaf walked.members refl refl h
@@ -498,7 +498,7 @@ module _ (P : Place → Type 0) (table : Table) (stands : TableStands P table) w
   walked_row_stands asking frame row ha hf hr =
       if_answers P (WalkedStands P) (is_left_out row) _ _ (record { holds = hr.place })
       (then_answers P (WalkedStands P) (WalkedStands P) (walked_parts table asking frame row 0 row.parts (nothing_walked (leaf_of row frame))) _
-      (walked_parts_stand asking frame row 0 row.parts (nothing_walked (leaf_of row frame)) ha hf hr.parts tt)
+      (walked_parts_stand asking frame row 0 row.parts (nothing_walked (leaf_of row frame)) ha hf hr hr.parts tt)
       leaf_checked_stands)
 
   pub walked_class_stands : (asking : Asking) (frame : Frame) (row : Option Row) → AskingStands P asking → FrameStands P frame → IfAny (RowStands P) row →

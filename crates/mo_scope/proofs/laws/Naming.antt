@@ -9,7 +9,7 @@ use Rattle.mo_syntax.specs.declared.class.Give.{Give}
 use Rattle.mo_syntax.specs.declared.place.Place.{Place}
 use Rattle.mo_scope.specs.Outcome.{Outcome}
 use Rattle.mo_scope.specs.TreePlaces.{nowhere, places_of_parts}
-use Rattle.mo_scope.specs.Places.{Every, IfAny, Answers, NameStands, SortStands, DeclaresStand, ClauseStands, TableStands, FrameStands, SourceStands, MemberStands, RedeclarationStands, FoundStands, ReachedStands, WalkedStands}
+use Rattle.mo_scope.specs.Places.{Every, IfAny, RowStands, Answers, NameStands, SortStands, DeclaresStand, ClauseStands, TableStands, FrameStands, SourceStands, MemberStands, RedeclarationStands, FoundStands, ReachedStands, WalkedStands}
 use Rattle.mo_scope.specs.Rows.{Table, Row, row_at, Sort, A_class, A_component, Declares, is_class, is_constant, component_of, Clause, number_of_classes}
 use Rattle.mo_scope.specs.Frames.{Frame, Top, In, Scope, Member, class_of, sources_of, outer_of, owners}
 use Rattle.mo_scope.specs.Parts.{Redeclaration}
@@ -63,11 +63,11 @@ module _ (P : Place → Type 0) (table : Table) (stands : TableStands P table) w
       (λ walked hw. record { holds = members_in_stand P table stands walked hw })
 
   pub base_frame_of_stands : (frame : Frame) (clause : Clause) → FrameStands P frame → ClauseStands P clause → Answers P (FrameStands P) (base_frame_of table frame clause)
-  base_frame_of_stands frame clause hf hc = by (row_at table (class_of frame)) refl
+  base_frame_of_stands frame clause hf hc = by (row_at table (class_of frame)) refl (row_stands P table stands (class_of frame))
     where
-      by : (row : Option Row) → row_at table (class_of frame) ≡ row → Answers P (FrameStands P) (base_frame_of table frame clause)
-      by None is = rw is (record { holds = hf })
-      by (Some row) is = rw is (base_of_stands P table stands (asking_in table (class_of frame)) frame row clause (asking_in_stands P table stands (class_of frame)) hf hc)
+      by : (row : Option Row) → row_at table (class_of frame) ≡ row → IfAny (RowStands P) row → Answers P (FrameStands P) (base_frame_of table frame clause)
+      by None is hr = rw is (record { holds = hf })
+      by (Some row) is hr = rw is (base_of_stands P table stands (asking_in table (class_of frame)) frame row clause (asking_in_stands P table stands (class_of frame)) hf hr hc)
 
   -- ---- children
 

@@ -14,11 +14,11 @@ use Rattle.mo_scope.specs.TreePlaces.{places_in_give}
 use Rattle.mo_scope.specs.Places.{Every, IfAny, Answers, TableStands, ArgumentStands, DeclaresStand, SourceStands, GivenStands}
 use Rattle.mo_scope.specs.Rows.{Table, Declares}
 use Rattle.mo_scope.specs.Frames.{Given, Listed, Argued, Replacing, Listing, Source}
-use Rattle.mo_scope.specs.Parts.{names_left, held, replacing_of}
+use Rattle.mo_scope.specs.Parts.{names_left, held, declared_in}
 use Rattle.mo_scope.specs.Arguments.{Claim, Claims, claim, claims_in, claims_of, Asked, asked_argument, asked_rest, asked_element, asked_of, arguments_of, is_repeated, is_among, is_below_final, broken_claims, broken_argument, least, or_later, first_broken, broken_arguments, second_pass}
 use Rattle.mo_scope.proofs.laws.Standing.{every_append, every_front, every_back, every_map, every_flat_map, every_weaker, if_list}
 use Rattle.mo_scope.proofs.laws.TreeParts.{gathered_map, places_in_arguments, at_give}
-use Rattle.mo_scope.proofs.laws.Sources.{held_stands, replacing_stand}
+use Rattle.mo_scope.proofs.laws.Sources.{held_stands, declared_stand}
 
 -- ---- the paths of an argument by what it gives
 
@@ -173,9 +173,10 @@ module _ (P : Place → Type 0) (table : Table) (stands : TableStands P table) w
           rw is (every_append (AskedStands P) (asked_rest source argument (names_left argument passed)) _
           (asked_rest_stand P source argument (names_left argument passed) h)
           (arguments (held (Argued argument passed)).list (held_stands P table stands (Argued argument passed) h)))
-      by (Replacing class) is h =
-          rw is (every_map (AskedStands P) (asked_element source) (replacing_of table class)
-          (every_weaker (DeclaresStand P) _ (asked_element_stands P source) (replacing_of table class) (replacing_stand P table stands class)))
+      by (Replacing elements) is h =
+          rw is (every_map (AskedStands P) (λ element. asked_element source (declared_in table element)) elements
+          (every_weaker (λ element. DeclaresStand P (declared_in table element)) (λ element. AskedStands P (asked_element source (declared_in table element)))
+          (λ element. asked_element_stands P source (declared_in table element)) elements (declared_stand P table stands elements h)))
 
   pub second_pass_answers : (sources : List Source) → Every (SourceStands P) sources → Answers P (λ (u : Unit {0}). Unit {0}) (second_pass table sources)
   second_pass_answers sources h =

@@ -12,8 +12,8 @@ use Rattle.mo_syntax.specs.declared.expr.ReferenceOf.{ReferenceOf}
 use Rattle.mo_syntax.specs.declared.place.Broken.{Broken}
 use Rattle.mo_syntax.specs.declared.place.Place.{Place}
 use Rattle.mo_scope.specs.Outcome.{Outcome}
-use Rattle.mo_scope.specs.TreePlaces.{nowhere, places_in_give, places_in_files}
-use Rattle.mo_scope.specs.Places.{Every, Answers, StandsIn, StandsInOrAsked, NameStands, ArgumentStands, ClauseStands, TableStands, GivenStands, FrameStands, SourcesStand, SourceStands, MemberStands}
+use Rattle.mo_scope.specs.TreePlaces.{nowhere, places_in_give, places_in_element, places_in_files}
+use Rattle.mo_scope.specs.Places.{Every, Answers, StandsIn, StandsInOrAsked, NameStands, ArgumentStands, ElementStands, ClauseStands, TableStands, GivenStands, FrameStands, SourcesStand, SourceStands, MemberStands}
 use Rattle.mo_scope.specs.Rows.{Clause, table_of}
 use Rattle.mo_scope.specs.Frames.{Given, Listed, Argued, Replacing, Frame, Top, In, Sources, No_source, Source_then, Scope, Source, Member}
 use Rattle.mo_scope.specs.Names.{elements_of, base_frame_of, child_of_member, child_of, found, found_path}
@@ -34,7 +34,7 @@ module _ (P Q : Place → Type 0) (weaker : (place : Place) → P place → Q pl
   given_weaker : (given : Given) → GivenStands P given → GivenStands Q given
   given_weaker (Listed modifiers) h = every_weaker (ArgumentStands P) (ArgumentStands Q) argument_weaker modifiers.list h
   given_weaker (Argued argument passed) h = argument_weaker argument h
-  given_weaker (Replacing class) h = tt
+  given_weaker (Replacing elements) h = every_weaker (ElementStands P) (ElementStands Q) (λ element. every_weaker P Q weaker (places_in_element element)) elements h
 
   mutual
     pub frame_weaker : (frame : Frame) → FrameStands P frame → FrameStands Q frame

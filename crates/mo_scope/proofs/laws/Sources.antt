@@ -12,10 +12,10 @@ use Rattle.mo_syntax.specs.declared.class.ModsOf.{ModsOf}
 use Rattle.mo_syntax.specs.declared.class.What.{What, What-F, out-What}
 use Rattle.mo_syntax.specs.declared.place.Place.{Place}
 use Rattle.mo_scope.specs.TreePlaces.{places_of_parts, places_in_body, places_in_give, places_in_what, places_in_element}
-use Rattle.mo_scope.specs.Places.{Every, IfAny, ArgumentStands, ModifiersStand, ConstraintStands, DeclaresStand, ClauseStands, RowStands, TableStands, GivenStands, FrameStands, SourcesStand, SourceStands, MemberStands, RedeclarationStands, SayingStands}
-use Rattle.mo_scope.specs.Rows.{Table, Row, row_at, Modifiers, Constraint, constraint_in, Declares, declared_by, short_modifiers, Clause, is_class, is_short_redeclaration}
+use Rattle.mo_scope.specs.Places.{Every, IfAny, ArgumentStands, ModifiersStand, ConstraintStands, DeclaresStand, ElementStands, ClauseStands, RowStands, TableStands, GivenStands, FrameStands, SourcesStand, SourceStands, MemberStands, RedeclarationStands, SayingStands}
+use Rattle.mo_scope.specs.Rows.{Table, Row, row_at, number_of_element, Modifiers, Constraint, constraint_in, Declares, declared_by, short_modifiers, Clause, is_class, is_short_redeclaration}
 use Rattle.mo_scope.specs.Frames.{Given, Listed, Argued, Replacing, Origin, Frame, Top, In, Sources, No_source, Source_then, Source, Member, sources_of, listed, gathered}
-use Rattle.mo_scope.specs.Parts.{names_left, begins_with, nested, held, Redeclaration, Saying, Modifies, Redeclares, said_behind, said_by_argument, said_in_list, said_further, said_by_elements, replacing_of, said, said_by_all, redeclarations_in, redeclarations, redeclared, first_of, with_list, or_own, brought, sources_said, parts, written, own_source, constraint_source, declared_sources, element_sources, through_component, component_sources, without_value, class_sources, replacing_source, clause_source, base_sources, is_nothing}
+use Rattle.mo_scope.specs.Parts.{names_left, begins_with, nested, held, Redeclaration, Saying, Modifies, Redeclares, said_behind, said_by_argument, said_in_list, said_further, said_by_element, said_by_elements, declared_in, said, said_by_all, redeclarations_in, redeclarations, redeclared, first_of, with_list, or_own, brought, sources_said, parts, written, own_source, constraint_source, declared_sources, element_sources, through_component, component_sources, without_value, class_sources, replacing_source, clause_source, base_sources, is_nothing}
 use Rattle.mo_scope.proofs.laws.Standing.{every_append, every_front, every_back, every_map, every_flat_map, every_weaker, if_list, any_find}
 use Rattle.mo_scope.proofs.laws.TreeParts.{places_in_arguments, places_in_limit, by_what, at_give, at_what, at_element, at_body}
 
@@ -101,12 +101,8 @@ module _ (P : Place → Type 0) (table : Table) (stands : TableStands P table) w
   pub row_stands : (number : ℕ) → IfAny (RowStands P) (row_at table number)
   row_stands number = any_find (RowStands P) _ table stands
 
-  pub replacing_stand : (class : ℕ) → Every (DeclaresStand P) (replacing_of table class)
-  replacing_stand class = by (row_at table class) refl (row_stands class)
-    where
-      by : (row : Option Row) → row_at table class ≡ row → IfAny (RowStands P) row → Every (DeclaresStand P) (replacing_of table class)
-      by None is h = rw is tt
-      by (Some row) is h = rw is h.replacing
+  pub declared_stand : (elements : List Element) → Every (ElementStands P) elements → Every (λ element. DeclaresStand P (declared_in table element)) elements
+  declared_stand elements h = every_weaker (ElementStands P) (λ element. DeclaresStand P (declared_in table element)) (λ element. element_stands P element (number_of_element table element)) elements h
 
   pub said_behind_stands : (argument : ArgumentOf Give) (passed : ℕ) (source : Source) → ArgumentStands P argument → SourceStands P source →
       SayingStands P (said_behind table argument passed source)
@@ -137,13 +133,18 @@ module _ (P : Place → Type 0) (table : Table) (stands : TableStands P table) w
   said_further_stand source name index argument passed hs h =
       if_list (SayingStands P) (begins_with name (names_left argument passed)) _ _ (said_behind_stands argument (passed + 1) _ h (h, hs.1), tt) tt
 
-  said_by_elements_stand : (source : Source) (name index : List ℕ) (declared : List Declares) → SourceStands P source → Every (DeclaresStand P) declared →
-      Every (SayingStands P) (said_by_elements source name index declared)
+  said_by_element_stand : (source : Source) (name index : List ℕ) (declares : Declares) → SourceStands P source → DeclaresStand P declares →
+      Every (SayingStands P) (said_by_element table source name index declares)
+  said_by_element_stand source name index declares hs h =
+      if_list (SayingStands P) (bytes_eq declares.name name) _ _ (record { declares = h; place = h.place; source = (h.own, hs.1) }, tt) tt
+
+  said_by_elements_stand : (source : Source) (name index : List ℕ) (elements : List Element) → SourceStands P source → Every (ElementStands P) elements →
+      Every (SayingStands P) (said_by_elements table source name index elements)
   said_by_elements_stand source name index [] hs h = tt
-  said_by_elements_stand source name index (declares ∷ declared) hs h =
-      every_append (SayingStands P) _ (said_by_elements source name index declared)
-      (if_list (SayingStands P) (bytes_eq declares.name name) _ _ (record { declares = h.0; place = h.0.place; source = (h.0.own, hs.1) }, tt) tt)
-      (said_by_elements_stand source name index declared hs h.1)
+  said_by_elements_stand source name index (element ∷ elements) hs h =
+      every_append (SayingStands P) (said_by_element table source name index (declared_in table element)) (said_by_elements table source name index elements)
+      (said_by_element_stand source name index (declared_in table element) hs (element_stands P element (number_of_element table element) h.0))
+      (said_by_elements_stand source name index elements hs h.1)
 
   pub held_stands : (given : Given) → GivenStands P given → ModifiersStand P (held given)
   held_stands (Listed modifiers) h = h
@@ -152,7 +153,7 @@ module _ (P : Place → Type 0) (table : Table) (stands : TableStands P table) w
       by : (names : List (List ℕ)) → names_left argument passed ≡ names → ModifiersStand P (held (Argued argument passed))
       by [] is = rw is (nested_stands P argument.give h.1)
       by (name ∷ names) is = rw is tt
-  held_stands (Replacing class) h = tt
+  held_stands (Replacing elements) h = tt
 
   said_stand : (name index : List ℕ) (source : Source) → SourceStands P source → Every (SayingStands P) (said table name index source)
   said_stand name index source hs = by source.piece.given refl hs.0
@@ -163,7 +164,7 @@ module _ (P : Place → Type 0) (table : Table) (stands : TableStands P table) w
           rw is (every_append (SayingStands P) (said_further table source name index argument passed) _
           (said_further_stand source name index argument passed hs h)
           (said_in_list_stand source name index (held (Argued argument passed)).list hs (held_stands (Argued argument passed) h)))
-      by (Replacing class) is h = rw is (said_by_elements_stand source name index (replacing_of table class) hs (replacing_stand class))
+      by (Replacing elements) is h = rw is (said_by_elements_stand source name index elements hs h)
 
   pub said_by_all_stand : (name index : List ℕ) (sources : List Source) → Every (SourceStands P) sources → Every (SayingStands P) (said_by_all table name index sources)
   said_by_all_stand name index sources h =
@@ -246,28 +247,28 @@ module _ (P : Place → Type 0) (table : Table) (stands : TableStands P table) w
       by : (given : Given) → source.piece.given ≡ given → GivenStands P given → SourceStands P (without_value source)
       by (Listed modifiers) is h = rw is (h, hs.1)
       by (Argued argument passed) is h = behind argument passed (names_left argument passed) refl is h
-      by (Replacing class) is h = rw is (tt, hs.1)
+      by (Replacing elements) is h = rw is (h, hs.1)
 
   pub class_sources_stand : (member : Member) → MemberStands P member → Every (SourceStands P) (class_sources table member)
   class_sources_stand member h =
       every_map (SourceStands P) without_value (element_sources table member [])
       (every_weaker (SourceStands P) _ without_value_stands (element_sources table member []) (element_sources_stand member [] h))
 
-  replacing_source_stand : (frame : Frame) (row : Row) → FrameStands P frame → Every (SourceStands P) (replacing_source frame row)
-  replacing_source_stand frame row hf = by row.replacing refl
+  replacing_source_stand : (frame : Frame) (row : Row) → FrameStands P frame → RowStands P row → Every (SourceStands P) (replacing_source frame row)
+  replacing_source_stand frame row hf hr = by row.replacing refl hr.replacing
     where
-      by : (declared : List Declares) → row.replacing ≡ declared → Every (SourceStands P) (replacing_source frame row)
-      by [] is = rw is tt
-      by (declares ∷ others) is = rw is ((tt, hf), tt)
+      by : (elements : List Element) → row.replacing ≡ elements → Every (ElementStands P) elements → Every (SourceStands P) (replacing_source frame row)
+      by [] is h = rw is tt
+      by (element ∷ others) is h = rw is ((h, hf), tt)
 
   clause_source_stand : (frame : Frame) (row : Row) (clause : Clause) → FrameStands P frame → ClauseStands P clause → Every (SourceStands P) (clause_source frame row clause)
   clause_source_stand frame row clause hf h =
       if_list (SourceStands P) (is_short_redeclaration row) _ _ tt (written_stand frame [] _ _ hf h.arguments)
 
-  pub base_sources_stand : (frame : Frame) (row : Row) (clause : Clause) (base : Frame) → FrameStands P frame → ClauseStands P clause → FrameStands P base →
+  pub base_sources_stand : (frame : Frame) (row : Row) (clause : Clause) (base : Frame) → FrameStands P frame → RowStands P row → ClauseStands P clause → FrameStands P base →
       Every (SourceStands P) (base_sources frame row clause base)
-  base_sources_stand frame row clause base hf h hb =
+  base_sources_stand frame row clause base hf hr h hb =
       every_append (SourceStands P) (sources_of frame) _ (sources_stand P frame hf)
       (every_append (SourceStands P) (replacing_source frame row ++ clause_source frame row clause) (sources_of base)
-      (every_append (SourceStands P) (replacing_source frame row) (clause_source frame row clause) (replacing_source_stand frame row hf) (clause_source_stand frame row clause hf h))
+      (every_append (SourceStands P) (replacing_source frame row) (clause_source frame row clause) (replacing_source_stand frame row hf hr) (clause_source_stand frame row clause hf h))
       (sources_stand P base hb))
