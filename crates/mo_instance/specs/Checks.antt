@@ -2,13 +2,15 @@
 --
 -- Its class is not partial; then its elements, the two passes over its arguments, its redeclarations; and all but the first of these for
 -- each of its bases, once, in the order of the extends clauses.
-use Rattle.std.specs.Prelude.{ℕ, Bool, true, false, ◌||◌, List, [], ◌∷◌, ◌++◌, filter, length, drop, Option, Some, None, Ok, if◌then◌else◌, nat_lt}
+use Rattle.std.specs.Prelude.{ℕ, Bool, true, false, ◌||◌, List, [], ◌∷◌, ◌++◌, map, filter, length, drop, Option, Some, None, Ok, if◌then◌else◌, nat_lt}
 use Rattle.mo_syntax.specs.declared.class.ClassKind.{ClassKind}
 use Rattle.mo_syntax.specs.declared.class.ClassKind.TheVariants.{Function, Operator}
+use Rattle.mo_syntax.specs.declared.class.Element.{Element}
 use Rattle.mo_syntax.specs.declared.place.Place.{Place}
 use Rattle.mo_scope.specs.Outcome.{Outcome, and_then, breaks}
 use Rattle.mo_scope.specs.Rows.{Table, Row, row_at, Declares, Clause, clauses_in, elements_in, is_class}
 use Rattle.mo_scope.specs.Frames.{Frame, Source, class_of, sources_of}
+use Rattle.mo_scope.specs.Parts.{declared_in}
 use Rattle.mo_scope.specs.Arguments.{second_pass}
 use Rattle.mo_scope.specs.Lookup.{Walked, final_frame}
 use Rattle.mo_scope.specs.Names.{walk_of}
@@ -45,8 +47,8 @@ first_in_text (declares ∷ others) = before (first_in_text others)
     before (Some other) = if nat_lt other.place.byte declares.place.byte then Some other else Some declares
 
 -- classes, and elements with `redeclare`, that a class declares with `inner` or `outer`
-abbrev pub wrongly_inner : Row → List Declares
-wrongly_inner row = filter is_inner_or_outer (filter is_class (elements_in row.parts) ++ row.replacing)
+abbrev pub wrongly_inner : Table → Row → List Declares
+wrongly_inner table row = filter is_inner_or_outer (filter is_class (elements_in row.parts) ++ map (declared_in table) row.replacing)
 
 -- A function or an operator is left out, and so is `inner` or `outer` on a class or an element with `redeclare`.
 abbrev pub in_profile : Table → Frame → Checked
@@ -59,7 +61,7 @@ in_profile table frame = profile_of (row_at table (class_of frame))
     profile_of : Option Row → Checked
     profile_of None = fine
     profile_of (Some row) =
-        if is_function row.class.kind then breaks 34 row.class.place else unless_any (first_in_text (wrongly_inner row))
+        if is_function row.class.kind then breaks 34 row.class.place else unless_any (first_in_text (wrongly_inner table row))
 
 -- ---- a frame and its bases
 
@@ -67,8 +69,8 @@ in_profile table frame = profile_of (row_at table (class_of frame))
 abbrev pub replaces_inherited : Table → Frame → Checked
 replaces_inherited table frame = replaces_by (row_at table (class_of frame))
   where
-    unless_bases : List Clause → List Declares → Checked
-    unless_bases [] (declares ∷ others) = breaks 20 declares.place
+    unless_bases : List Clause → List Element → Checked
+    unless_bases [] (element ∷ others) = breaks 20 (declared_in table element).place
     unless_bases clauses replacing = fine
 
     replaces_by : Option Row → Checked

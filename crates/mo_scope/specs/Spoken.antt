@@ -5,7 +5,7 @@ use Rattle.mo_syntax.specs.declared.class.Give.{Give}
 use Rattle.mo_syntax.specs.declared.place.Place.{Place}
 use Rattle.mo_scope.specs.Rows.{Table, Declares}
 use Rattle.mo_scope.specs.Frames.{Given, Listed, Argued, Replacing, Source}
-use Rattle.mo_scope.specs.Parts.{Redeclaration, redeclarations_in, names_left, held, said_by_argument, said_further, said_by_elements, replacing_of}
+use Rattle.mo_scope.specs.Parts.{Redeclaration, redeclarations_in, names_left, held, said_by_argument, said_further, said_by_element, declared_in}
 use Rattle.mo_scope.specs.Arguments.{Claim, asked_argument, asked_rest, asked_element}
 
 -- An argument of a source: the source, the first of its names, where it stands, the paths that it gives something for, the redeclaration
@@ -47,13 +47,13 @@ spoken_rest table source argument passed = spoken_by (names_left argument passed
       replacing = false;
     } ∷ []
 
-abbrev pub spoken_element : Source → Declares → List Spoken
-spoken_element source declares = record {
+abbrev pub spoken_element : Table → Source → Declares → List Spoken
+spoken_element table source declares = record {
   source = source;
   name = declares.name;
   place = declares.place;
   claims = (asked_element source declares).claims;
-  redeclares = redeclarations_in (said_by_elements source declares.name [] (declares ∷ []));
+  redeclares = redeclarations_in (said_by_element table source declares.name [] declares);
   replacing = true;
 } ∷ []
 
@@ -64,7 +64,7 @@ spoken_of table source = spoken_by source.piece.given
     spoken_by (Listed modifiers) = flat_map (spoken_argument table source) modifiers.list
     spoken_by (Argued argument passed) =
         spoken_rest table source argument passed ++ flat_map (spoken_argument table source) (held (Argued argument passed)).list
-    spoken_by (Replacing class) = flat_map (spoken_element source) (replacing_of table class)
+    spoken_by (Replacing elements) = flat_map (λ element. spoken_element table source (declared_in table element)) elements
 
 -- the arguments of sources in their order, each as it is written
 abbrev pub spoken_in : Table → List Source → List Spoken
