@@ -1,7 +1,7 @@
 -- What a call answers that reads one production from a place on.
 use Rattle.std.proofs.Common.{◌≡◌, ◌+◌, ◌-◌, ℕ, true, List, [], ◌∷◌, ◌++◌, ◌⊎◌, length, drop, take, refl, sym, ap, subst, ◌∙◌, arith, append_assoc, inl, inr, Err}
 use Rattle.std.proofs.Math.Seq.{drop-append_seam}
-use Rattle.std.proofs.lemmas.List.{drop-map, length-map, length-append, take-append-drop}
+use Rattle.std.proofs.lemmas.List.{drop-map, length-map, length-append, take-append-drop, append_cancel_right}
 use Rattle.std.specs.Borrow.{Bor}
 use Rattle.mo_syntax.specs.declared.place.Broken.{Broken}
 use Rattle.mo_syntax.specs.declared.place.Stop.{Stop}
@@ -18,7 +18,7 @@ use Rattle.mo_grammar.specs.Symbols.{Symbol, ValueOf}
 use Rattle.mo_grammar.specs.Productions.{rule}
 use Rattle.mo_grammar.specs.Tables.{tables}
 use Rattle.mo_grammar.specs.Classless.{is_classless}
-use Rattle.mo_grammar.specs.Language.{limits_inside, Spells, IsLongestFront, EndsBeforeNames, reads}
+use Rattle.mo_grammar.specs.Language.{limits_inside, Spells, Begins, IsLongestFront, EndsBeforeNames, reads}
 use Rattle.mo_grammar.specs.Answers.{from, broken_at, limits_at, IsLongestSpelling, IsMisplaced, IsTooDeep, IsRefusal, Gives}
 use Rattle.mo_grammar.proofs.GrammarLaws.{read_law, whole_law, misplaced_law, stuck_law}
 use Rattle.mo_grammar.proofs.Tested.{passed}
@@ -52,11 +52,13 @@ unfolding reads
 read_only x plain nest tokens front rest a longest spells = whole_law tables rule passed x plain (limits_at nest) tokens front rest a longest spells
 
 -- Where reading is stuck, a token is misplaced, or too deep.
-stuck_refused : (x : Symbol) → EndsBeforeNames x → is_classless x ≡ true → (nest : ℕ) (tokens : List Lexeme) (fault : Fault) (rest : List Lexeme) → reads x (limits_at nest) tokens ≡ stuck fault rest → IsMisplaced x tokens (broken_at fault rest) ⊎ IsTooDeep x (limits_at nest) tokens (broken_at fault rest)
+stuck_refused : (x : Symbol) → EndsBeforeNames x → is_classless x ≡ true → (nest : ℕ) (tokens : List Lexeme) (fault : Fault) (rest : List Lexeme) → reads x (limits_at nest) tokens ≡ stuck fault rest → IsMisplaced x (limits_at nest) tokens (broken_at fault rest) ⊎ IsTooDeep x (limits_at nest) tokens (broken_at fault rest)
 unfolding reads
 stuck_refused x plain classless nest tokens Misplaced rest e =
     let law = misplaced_law tables rule passed x plain (limits_at nest) tokens rest e in
-    inl (record { front = law.0; rest = rest; longest = law.1; unspelled = law.2; is = refl })
+    let taken = stuck_law tables rule passed x (limits_at nest) tokens rest Misplaced e in
+    let same : taken.0 ≡ law.0 = append_cancel_right taken.0 law.0 rest (sym taken.1 ∙ law.1.parts) in
+    inl (record { front = law.0; rest = rest; longest = law.1; within = subst (Begins x (limits_at nest)) same taken.2; unspelled = law.2; is = refl })
 stuck_refused x plain classless nest tokens Misnamed rest e = absurd (subst Sane e (sane x classless (limits_at nest) tokens))
 stuck_refused x plain classless nest tokens TooDeep [] e = absurd (subst Sane e (sane x classless (limits_at nest) tokens) refl)
 stuck_refused x plain classless nest tokens TooDeep (t ∷ rest) e =
@@ -86,7 +88,7 @@ call_nothing x plain nest left at tokens here fault rest limit place e front beh
     let same : stuck fault rest ≡ read b behind = sym (told x nest left at tokens here (stuck fault rest) limit place e) ∙ read_only x plain nest (from tokens at) front behind b longest spells in cc
 
 -- Where reading is stuck, a token is misplaced, or too deep.
-pub call_refused : (x : Symbol) → EndsBeforeNames x → is_classless x ≡ true → (nest left at : ℕ) (tokens here : List Token) (fault : Fault) (rest : List Lexeme) → left ≡ 128 - nest → here ≡ drop at tokens → reads x (limits_inside left) (lexemes here) ≡ stuck fault rest → IsMisplaced x (from tokens at) (broken_at fault rest) ⊎ IsTooDeep x (limits_at nest) (from tokens at) (broken_at fault rest)
+pub call_refused : (x : Symbol) → EndsBeforeNames x → is_classless x ≡ true → (nest left at : ℕ) (tokens here : List Token) (fault : Fault) (rest : List Lexeme) → left ≡ 128 - nest → here ≡ drop at tokens → reads x (limits_inside left) (lexemes here) ≡ stuck fault rest → IsMisplaced x (limits_at nest) (from tokens at) (broken_at fault rest) ⊎ IsTooDeep x (limits_at nest) (from tokens at) (broken_at fault rest)
 call_refused x plain classless nest left at tokens here fault rest limit place e = stuck_refused x plain classless nest (from tokens at) fault rest (told x nest left at tokens here (stuck fault rest) limit place e)
 
 -- A reader that halts at a token was stuck there.
@@ -94,5 +96,5 @@ pub halted : {B : Type 0} (halt : Halt) (fault : Fault) (rest : Bor (List Token)
 halted {B = B} halt fault rest o is gives = subst (λ h. Gives {A = ℕ} {B = B} (λ n. unfinished) (Err h) o) is gives
 
 -- So the answer is a refusal.
-pub call_told : (A : Type 0) (x : Symbol) (nest : ℕ) (tokens : List Lexeme) (stop : Stop) (b : Broken) → stop ≡ broken b → IsMisplaced x tokens b ⊎ IsTooDeep x (limits_at nest) tokens b → IsRefusal {A = A} x nest tokens (Err stop)
+pub call_told : (A : Type 0) (x : Symbol) (nest : ℕ) (tokens : List Lexeme) (stop : Stop) (b : Broken) → stop ≡ broken b → IsMisplaced x (limits_at nest) tokens b ⊎ IsTooDeep x (limits_at nest) tokens b → IsRefusal {A = A} x nest tokens (Err stop)
 call_told A x nest tokens stop b is why = subst (λ s. IsRefusal {A = A} x nest tokens (Err s)) (sym is) why

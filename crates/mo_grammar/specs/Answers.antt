@@ -14,7 +14,7 @@ use Rattle.mo_grammar.specs.Lexeme.{Lexeme, lexemes}
 use Rattle.mo_grammar.specs.Grammar.{Limits, this_name, end_name_in}
 use Rattle.mo_grammar.specs.Reading.{Outcome, read, stuck, place_of_first}
 use Rattle.mo_grammar.specs.Symbols.{Symbol, ValueOf}
-use Rattle.mo_grammar.specs.Language.{Spells, BeginsAtAnyDepth, IsLongestFront, IsImpossibleAfter, limits_inside}
+use Rattle.mo_grammar.specs.Language.{Spells, Begins, BeginsAtAnyDepth, IsLongestFront, IsImpossibleAfter, limits_inside}
 
 -- A value is what is read, and a halt at a token is where reading is stuck, for that reason; want of memory says nothing.
 abbrev pub Gives : {A B : Type 0} → (A → Outcome B) → Result A Halt → Outcome B → Type 0
@@ -53,13 +53,14 @@ IsAnswer a rest tokens (Ok x) = (x.0 ≡ a) × (from tokens x.1 ≡ rest)
 IsAnswer a rest tokens (Err (broken b)) = ⊥
 IsAnswer a rest tokens (Err no_memory) = Unit {0}
 
--- Rule 6: the longest run that begins the production spells nothing, whatever the limits are, and the place is that of the
--- token behind it, the first with which nothing begins.
-pub record IsMisplaced (x : Symbol) (tokens : List Lexeme) (b : Broken) : Type 0 where
+-- Rule 6: the longest run that begins the production opens no more than the limits allow and spells nothing, whatever the
+-- limits are, and the place is that of the token behind it, the first with which nothing begins.
+pub record IsMisplaced (x : Symbol) (l : Limits) (tokens : List Lexeme) (b : Broken) : Type 0 where
   pub front : List Lexeme
   pub rest : List Lexeme
   pub longest : IsLongestFront x (this_name []) tokens front rest
-  pub unspelled : (l : Limits) (a : ValueOf x) → end_name_in l ≡ this_name [] → Spells x l front a → ⊥
+  pub within : Begins x l front
+  pub unspelled : (m : Limits) (a : ValueOf x) → end_name_in m ≡ this_name [] → Spells x m front a → ⊥
   pub is : b ≡ broken_at Misplaced rest
 
 -- Rule 8: the tokens before that token begin the production within the limits, and the tokens through it begin it only past
@@ -76,5 +77,5 @@ pub record IsTooDeep (x : Symbol) (l : Limits) (tokens : List Lexeme) (b : Broke
 -- A refusal is one of the two; want of memory says nothing.
 abbrev pub IsRefusal : {A : Type 0} → (x : Symbol) → ℕ → List Lexeme → Result A Stop → Type 0
 IsRefusal x nest tokens (Ok a) = Unit {0}
-IsRefusal x nest tokens (Err (broken b)) = IsMisplaced x tokens b ⊎ IsTooDeep x (limits_at nest) tokens b
+IsRefusal x nest tokens (Err (broken b)) = IsMisplaced x (limits_at nest) tokens b ⊎ IsTooDeep x (limits_at nest) tokens b
 IsRefusal x nest tokens (Err no_memory) = Unit {0}

@@ -19,8 +19,9 @@ use Rattle.mo_grammar.specs.Tables.{tables}
 use Rattle.mo_grammar.specs.Language.{reads, reads_form}
 use Rattle.mo_grammar.proofs.Codes.{both, never}
 use Rattle.mo_grammar.proofs.Readers.{files_are}
-use Rattle.mo_parse_class.specs.Parts.{within_clause, definition}
-use Rattle.mo_parse_class.proofs.ImportNames.{one_code}
+use Rattle.mo_parse_class.specs.Parts.{definition}
+use Rattle.mo_class_heads.specs.Within.{within_clause}
+use Rattle.mo_class_heads.proofs.ImportNames.{one_code}
 
 -- what holds of the tokens behind a value that is read, and of those where reading is stuck
 abbrev pub Leaves : (List Lexeme → Type 0) → (List Lexeme → Type 0) → {A : Type 0} → Outcome A → Type 0

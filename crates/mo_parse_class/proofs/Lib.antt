@@ -1,9 +1,7 @@
-pub mod Apart
 pub mod ClassLimits
 pub mod Compositions
 pub mod ElementLists
 pub mod Ended
-pub mod ImportNames
 pub mod Mapped
 pub mod Members
 pub mod Passed

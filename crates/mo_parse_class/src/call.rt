@@ -9,7 +9,7 @@ ghost use Rattle.mo_grammar.specs.Naming.{IdentifiersPass};
 ghost use Rattle.mo_parse_class.specs.WholeFiles.{EndsAtEnd, IsTree, IsFirstImpossible, answered, answered_tree};
 
 use crate::file::file;
-use crate::left::Left;
+use mo_class_heads::Left;
 use mo_grammar::{Fault, Halt, Reading, stop_at};
 use mo_syntax::{FileTree, Stop, Token};
 use std::alloc::Global;

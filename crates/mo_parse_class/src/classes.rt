@@ -1,75 +1,24 @@
 //! Class definitions.
-ghost use Rattle.std.specs.Prelude.{◌≡◌, ◌<◌, ◌≤◌, length, IfOk, if◌then◌else◌};
+ghost use Rattle.std.specs.Prelude.{◌<◌, length, IfOk};
 ghost use Rattle.mo_grammar.specs.Lexeme.{lexeme, lexemes};
 ghost use Rattle.mo_grammar.specs.Symbols.{ClassDefinitions};
 ghost use Rattle.mo_grammar.specs.Classes.{class_spec, extends_spec, long_spec, equals_spec, der_spec};
-ghost use Rattle.mo_grammar.specs.Reading.{read, next_in, Tables};
-ghost use Rattle.mo_grammar.specs.Tables.{tables};
+ghost use Rattle.mo_grammar.specs.Reading.{read};
 ghost use Rattle.mo_grammar.specs.Language.{reads, reads_form};
 ghost use Rattle.mo_grammar.specs.Answers.{Gives, with_rest};
-ghost use Rattle.mo_parse_class.specs.Left.{limits};
-ghost use Rattle.mo_parse_class.specs.Parts.{derived as derived_form, class_codes};
+ghost use Rattle.mo_class_heads.specs.Left.{limits};
+ghost use Rattle.mo_parse_class.specs.Parts.{derived as derived_form};
 
-use crate::left::Left;
-use crate::parts::{identifiers, optional_modifiers, texts};
+use crate::parts::optional_modifiers;
 use crate::plain::{comment, short_body, type_specifier};
 use crate::sections::composition;
-use mo_grammar::{Fault, Halt, Reading, are_next, flag, is_next, is_next_any, past_limit, take};
-use mo_parse_body::readers::{class_prefixes, modifiers_or_none, strings};
+use mo_class_heads::{Left, class_prefixes, identifiers, past_classes, strings};
+use mo_class_parts::{modifiers_or_none, texts, with_encapsulated};
+use mo_grammar::{Reading, are_next, flag, is_next, past_limit, take};
 use mo_syntax::TokenKind::{Ident, Keyword, Operator};
-use mo_syntax::{Body, ClassDef, ClassDefOf, ClassFlags, List, Reference, Text, Token};
+use mo_syntax::{Body, ClassDef, ClassDefOf, List, Reference, Text, Token};
 use mo_tables::{keywords, operators};
 use std::alloc::Global;
-
-/// Whether a class definition begins with the next token.
-pub(crate) fn begins_class(tokens: &[Token]) -> bool
-    ensures { result ≡ next_in (Tables.starts tables ClassDefinitions) (lexemes tokens.now) }
-{
-    is_next_any(
-        tokens,
-        &[
-            Keyword(keywords::BLOCK),
-            Keyword(keywords::CLASS),
-            Keyword(keywords::CONNECTOR),
-            Keyword(keywords::ENCAPSULATED),
-            Keyword(keywords::EXPANDABLE),
-            Keyword(keywords::FUNCTION),
-            Keyword(keywords::IMPURE),
-            Keyword(keywords::MODEL),
-            Keyword(keywords::OPERATOR),
-            Keyword(keywords::PACKAGE),
-            Keyword(keywords::PARTIAL),
-            Keyword(keywords::PURE),
-            Keyword(keywords::RECORD),
-            Keyword(keywords::TYPE),
-        ],
-    )
-}
-
-/// Whether the next token opens a class, by the order in which the grammar names the words.
-fn opens_class(tokens: &[Token]) -> bool
-    ensures { result ≡ next_in class_codes (lexemes tokens.now) }
-{
-    is_next_any(
-        tokens,
-        &[
-            Keyword(keywords::ENCAPSULATED),
-            Keyword(keywords::PARTIAL),
-            Keyword(keywords::CLASS),
-            Keyword(keywords::MODEL),
-            Keyword(keywords::RECORD),
-            Keyword(keywords::BLOCK),
-            Keyword(keywords::CONNECTOR),
-            Keyword(keywords::TYPE),
-            Keyword(keywords::PACKAGE),
-            Keyword(keywords::FUNCTION),
-            Keyword(keywords::EXPANDABLE),
-            Keyword(keywords::PURE),
-            Keyword(keywords::IMPURE),
-            Keyword(keywords::OPERATOR),
-        ],
-    )
-}
 
 /// A class definition.
 #[cycle(classes)]
@@ -104,27 +53,6 @@ pub(crate) fn class_definition<'t, 'a>(
         body,
     };
     Ok((class, rest))
-}
-
-/// The same prefixes, and whether the class is encapsulated.
-fn with_encapsulated(flags: ClassFlags, encapsulated: bool) -> ClassFlags
-    ensures { result ≡ record flags { encapsulated = encapsulated } }
-{
-    ClassFlags {
-        encapsulated,
-        ..flags
-    }
-}
-
-/// Why no class can be opened here, where the limit of nesting is reached.
-fn past_classes<'t, 'a>(tokens: &'t [Token<'a>]) -> Halt<'t, 'a>
-    ensures { result ≡ Halt.Stuck (if next_in class_codes (lexemes tokens.now) then Fault.TooDeep else Fault.Misplaced) tokens.exit }
-{
-    if opens_class(tokens) {
-        Halt::Stuck(Fault::TooDeep, tokens)
-    } else {
-        Halt::Stuck(Fault::Misplaced, tokens)
-    }
 }
 
 /// The name of a class, with what it consists of.

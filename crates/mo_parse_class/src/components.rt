@@ -10,14 +10,15 @@ ghost use Rattle.mo_grammar.specs.Classes.{component as component_form, componen
 ghost use Rattle.mo_grammar.specs.Reading.{read};
 ghost use Rattle.mo_grammar.specs.Language.{reads_form};
 ghost use Rattle.mo_grammar.specs.Answers.{Gives, with_rest};
-ghost use Rattle.mo_parse_class.specs.Left.{limits};
+ghost use Rattle.mo_class_heads.specs.Left.{limits};
 ghost use Rattle.mo_parse_class.specs.Parts.{Head as HeadTree, head as head_form, what_of};
 
-use crate::left::Left;
-use crate::parts::{list_or_nothing, optional_subscripts};
+use crate::copies::is_copied_too_often;
+use crate::parts::optional_subscripts;
 use crate::plain::{comment, declaration, expression, type_specifier};
-use mo_grammar::{Reading, is_next, take};
-use mo_parse_body::readers::{component as component_tree, component_prefix};
+use mo_class_heads::{Left, component_prefix};
+use mo_class_parts::{component as component_tree, list_or_nothing};
+use mo_grammar::{Halt, Reading, is_next, take};
 use mo_syntax::TokenKind::{Keyword, Operator};
 use mo_syntax::{Expr, List, Prefix, Reference, Token, What};
 use mo_tables::{keywords, operators};
@@ -26,7 +27,8 @@ use std::alloc::Global;
 /// A prefix, a type and the dimensions behind it.
 type Head = (Prefix, (Reference, Option<List<Option<Expr>>>));
 
-/// Components with one prefix and one type. Each has a tree of its own of what they share, so that is read once for each.
+/// Components with one prefix and one type. Each has a tree of its own of what they share, so that is read once for each, as
+/// often as it may be copied.
 pub(crate) fn components<'t, 'a>(
     alloc: Global,
     left: Left,
@@ -36,11 +38,13 @@ pub(crate) fn components<'t, 'a>(
     ensures shorter { IfOk result (λ x. length x.1.now < length tokens.now) }
 {
     let (_, rest) = head(alloc, left, tokens)?;
+    let shared = tokens.len().saturating_sub(rest.len());
     let (first, mut rest) = component(alloc, left, tokens, rest)?;
     let mut all = List::new(alloc);
     all.push(first)?;
     'each: while is_next(rest, Operator(operators::COMMA)) {
-        let (next, behind) = component_behind_comma(alloc, left, tokens, rest)?;
+        let many = is_copied_too_often(shared, all.len());
+        let (next, behind) = component_behind_comma(alloc, left, tokens, rest, many)?;
         all.push(next)?;
         rest = behind;
     }
@@ -77,16 +81,20 @@ fn component<'t, 'a>(
     Ok((What::Component(tree), rest))
 }
 
-/// A comma and a component.
+/// A comma and a component, unless there are too many that share the head.
 fn component_behind_comma<'t, 'a>(
     alloc: Global,
     left: Left,
     head_at: &'t [Token<'a>],
     tokens: &'t [Token<'a>],
+    many: bool,
 ) -> Reading<'t, 'a, What>
     ensures reads { (h : HeadTree) (rest : Seq Lexeme) → reads_form head_form (limits left.entry) (lexemes head_at.now) ≡ read h rest → Gives with_rest result (reads_form (behind comma (made (what_of h) component_form)) (limits left.entry) (lexemes tokens.now)) }
     ensures shorter { IfOk result (λ x. length x.1.now < length tokens.now) }
 {
+    if many {
+        return Err(Halt::NoMemory);
+    }
     let (_, rest) = take(tokens, Operator(operators::COMMA))?;
     component(alloc, left, head_at, rest)
 }

@@ -1,5 +1,5 @@
 //! Elements of classes.
-ghost use Rattle.std.specs.Prelude.{◌≡◌, ◌<◌, ◌≤◌, List as Seq, [], ◌∷◌, length, IfOk, true, false};
+ghost use Rattle.std.specs.Prelude.{◌≡◌, ◌<◌, ◌≤◌, List as Seq, [], ◌∷◌, length, IfOk, true};
 ghost use Rattle.mo_grammar.specs.Lexeme.{Lexeme, lexemes};
 ghost use Rattle.mo_grammar.specs.Codes.{semicolon};
 ghost use Rattle.mo_grammar.specs.Grammar.{made, symbol};
@@ -7,68 +7,27 @@ ghost use Rattle.mo_grammar.specs.Forms.{before};
 ghost use Rattle.mo_grammar.specs.ClassTrees.{import_items};
 ghost use Rattle.mo_grammar.specs.Symbols.{ElementItems};
 ghost use Rattle.mo_grammar.specs.Classes.{import_clause as import_clause_form, declares as declares_form};
-ghost use Rattle.mo_grammar.specs.Reading.{read, next_in, Tables};
-ghost use Rattle.mo_grammar.specs.Tables.{tables};
-ghost use Rattle.mo_grammar.specs.Language.{whole_limits, reads, reads_form};
+ghost use Rattle.mo_grammar.specs.Reading.{read};
+ghost use Rattle.mo_grammar.specs.Language.{reads, reads_form};
 ghost use Rattle.mo_grammar.specs.Answers.{Gives, with_rest};
-ghost use Rattle.mo_parse_class.specs.Left.{limits};
-ghost use Rattle.mo_parse_class.specs.Parts.{words as words_form, limit as limit_form, words_of, members as members_form, members_of, element_list, extension as extension_form};
+ghost use Rattle.mo_class_heads.specs.Left.{limits};
+ghost use Rattle.mo_parse_class.specs.Parts.{limit as limit_form, members as members_form, members_of, element_list, extension as extension_form};
 
-use crate::classes::{begins_class, class_definition};
+use crate::classes::class_definition;
 use crate::components::components;
+use crate::copies::is_copied_too_often;
 use crate::imports::import_clause;
-use crate::left::Left;
 use crate::parts::{optional_annotation, optional_modifiers};
 use crate::plain::{comment, constraint, type_specifier};
-use mo_grammar::{Reading, flag, is_next, is_next_any, none_yet, take};
-use mo_parse_body::readers::modifiers_or_none;
-use mo_syntax::TokenKind::{Ident, Keyword, Operator};
+use mo_class_heads::{Left, element_flags};
+use mo_class_parts::{begins_class, begins_element, modifiers_or_none, replaceable};
+use mo_grammar::{Reading, is_next, none_yet, take};
+use mo_syntax::TokenKind::{Keyword, Operator};
 use mo_syntax::{
-    Element, ElementFlags, ExtendsOf, Item, List, Mods, NoMemory, Reference, Token, What,
+    Element, ElementFlags, ExtendsOf, Item, List, Mods, NoMemory, Reference, Token, What, single,
 };
 use mo_tables::{keywords, operators};
 use std::alloc::Global;
-
-/// Whether an element begins with the next token.
-fn begins_element(tokens: &[Token]) -> bool
-    ensures { result ≡ next_in (Tables.starts tables (ElementItems false)) (lexemes tokens.now) }
-{
-    is_next_any(
-        tokens,
-        &[
-            Ident,
-            Keyword(keywords::BLOCK),
-            Keyword(keywords::CLASS),
-            Operator(operators::DOT),
-            Keyword(keywords::CONNECTOR),
-            Keyword(keywords::CONSTANT),
-            Keyword(keywords::DISCRETE),
-            Keyword(keywords::ENCAPSULATED),
-            Keyword(keywords::EXPANDABLE),
-            Keyword(keywords::EXTENDS),
-            Keyword(keywords::FINAL),
-            Keyword(keywords::FLOW),
-            Keyword(keywords::FUNCTION),
-            Keyword(keywords::IMPORT),
-            Keyword(keywords::IMPURE),
-            Keyword(keywords::INNER),
-            Keyword(keywords::INPUT),
-            Keyword(keywords::MODEL),
-            Keyword(keywords::OPERATOR),
-            Keyword(keywords::OUTER),
-            Keyword(keywords::OUTPUT),
-            Keyword(keywords::PACKAGE),
-            Keyword(keywords::PARAMETER),
-            Keyword(keywords::PARTIAL),
-            Keyword(keywords::PURE),
-            Keyword(keywords::RECORD),
-            Keyword(keywords::REDECLARE),
-            Keyword(keywords::REPLACEABLE),
-            Keyword(keywords::STREAM),
-            Keyword(keywords::TYPE),
-        ],
-    )
-}
 
 /// The elements that stand there, each with its semicolon. There may be none.
 #[cycle(classes)]
@@ -137,16 +96,7 @@ fn imports<'t, 'a>(
     ensures shorter { IfOk result (λ x. length x.1.now < length tokens.now) }
 {
     let (import, rest) = import_clause(alloc, left, tokens)?;
-    Ok((only(alloc, Item::Import(import))?, rest))
-}
-
-/// The list of one item.
-pub(crate) fn only(alloc: Global, item: Item) -> Result<List<Item>, NoMemory>
-    ensures { IfOk result (λ items. items ≡ item ∷ []) }
-{
-    let mut items = List::new(alloc);
-    items.push(item)?;
-    Ok(items)
+    Ok((single(alloc, Item::Import(import))?, rest))
 }
 
 /// An extends clause.
@@ -165,7 +115,7 @@ fn extension<'t, 'a>(
     let (_, rest) = optional_annotation(alloc, left, rest)?;
     let mods = modifiers_or_none(alloc, mods);
     let item = Item::Extends(ExtendsOf { base, mods, hidden });
-    Ok((only(alloc, item)?, rest))
+    Ok((single(alloc, item)?, rest))
 }
 
 /// What an element declares, with its prefixes.
@@ -185,44 +135,13 @@ fn members<'t, 'a>(
         let flags = replaceable(flags);
         let (whats, limit_at) = declares(alloc, left, rest)?;
         let (limit, rest) = limit_if(alloc, left, true, limit_at)?;
-        let items = member_items(alloc, left, flags, whats, &limit, limit_at)?;
+        let shared = limit_at.len().saturating_sub(rest.len());
+        let items = member_items(alloc, left, flags, whats, &limit, limit_at, shared)?;
         Ok((items, rest))
     } else {
         let (whats, rest) = declares(alloc, left, rest)?;
-        let items = member_items(alloc, left, flags, whats, &None, rest)?;
+        let items = member_items(alloc, left, flags, whats, &None, rest, 0)?;
         Ok((items, rest))
-    }
-}
-
-/// The prefixes of an element that is not replaceable, and the tokens behind them.
-fn element_flags<'t, 'a>(hidden: bool, tokens: &'t [Token<'a>]) -> (ElementFlags, &'t [Token<'a>])
-    ensures reads { reads_form words_form whole_limits (lexemes tokens.now) ≡ read (words_of result.0) (lexemes result.1.now) }
-    ensures hidden { result.0.hidden ≡ hidden }
-    ensures kept { result.0.replaceable ≡ false }
-    ensures no_longer { length result.1.now ≤ length tokens.now }
-{
-    let (redeclare, rest) = flag(tokens, Keyword(keywords::REDECLARE));
-    let (last, rest) = flag(rest, Keyword(keywords::FINAL));
-    let (inner, rest) = flag(rest, Keyword(keywords::INNER));
-    let (outer, rest) = flag(rest, Keyword(keywords::OUTER));
-    let flags = ElementFlags {
-        redeclare,
-        last,
-        inner,
-        outer,
-        replaceable: false,
-        hidden,
-    };
-    (flags, rest)
-}
-
-/// The same prefixes, of an element that is replaceable.
-fn replaceable(flags: ElementFlags) -> ElementFlags
-    ensures { result ≡ record flags { replaceable = true } }
-{
-    ElementFlags {
-        replaceable: true,
-        ..flags
     }
 }
 
@@ -238,9 +157,7 @@ fn declares<'t, 'a>(
 {
     if begins_class(tokens) {
         let (class, rest) = class_definition(alloc, left, tokens)?;
-        let mut whats = List::new(alloc);
-        whats.push(What::Class(class))?;
-        Ok((whats, rest))
+        Ok((single(alloc, What::Class(class))?, rest))
     } else {
         components(alloc, left, tokens)
     }
@@ -267,8 +184,8 @@ fn limit_if<'t, 'a>(
     Ok((Some(limit), rest))
 }
 
-/// What is declared as elements with the constraining clause that stands at `limit_at`. Each has a tree of its own of that, so
-/// it is read once for each.
+/// What is declared as elements with the constraining clause of so many tokens that stands at `limit_at`. Each has a tree of its
+/// own of that, so it is read once for each, as often as it may be copied.
 fn member_items(
     alloc: Global,
     left: Left,
@@ -276,12 +193,16 @@ fn member_items(
     whats: List<What>,
     limit: &Option<(Reference, Mods)>,
     limit_at: &[Token],
+    shared: usize,
 ) -> Result<List<Item>, NoMemory>
     requires told { (rest : Seq Lexeme) × (reads_form (limit_form flags.replaceable) (limits left) (lexemes limit_at.now) ≡ read limit.now rest) }
     ensures { IfOk result (λ items. items ≡ members_of flags limit.now whats) }
 {
     let mut items = List::new(alloc);
     'each: for what in whats.into_vec() {
+        if is_copied_too_often(shared, items.len()) {
+            return Err(NoMemory);
+        }
         // it was read before, so only memory can be wanting
         let Ok((limit, _)) = limit_if(alloc, left, flags.replaceable, limit_at) else {
             return Err(NoMemory);

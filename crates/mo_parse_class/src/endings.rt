@@ -1,23 +1,23 @@
 //! How classes end: external clauses, annotations, and `end` with the name.
-ghost use Rattle.std.specs.Prelude.{◌≡◌, ◌<◌, ◌≤◌, [], ◌∷◌, length, IfOk, true, false};
+ghost use Rattle.std.specs.Prelude.{◌<◌, ◌≤◌, [], length, IfOk, true, false};
 ghost use Rattle.mo_grammar.specs.Lexeme.{lexemes};
-ghost use Rattle.mo_grammar.specs.Codes.{comma, string, ident, open_paren, close_paren};
-ghost use Rattle.mo_grammar.specs.Grammar.{either, token, symbol};
-ghost use Rattle.mo_grammar.specs.Forms.{behind, between, optional, separated};
+ghost use Rattle.mo_grammar.specs.Codes.{comma};
+ghost use Rattle.mo_grammar.specs.Grammar.{either, symbol};
+ghost use Rattle.mo_grammar.specs.Forms.{behind, optional, separated};
 ghost use Rattle.mo_grammar.specs.Symbols.{Expressions};
 ghost use Rattle.mo_grammar.specs.Classes.{class_end, annotated_end as annotated_end_form, external_end as external_end_form, external_call as external_call_form, external_arguments as external_arguments_form};
 ghost use Rattle.mo_grammar.specs.Reading.{read};
-ghost use Rattle.mo_grammar.specs.Language.{whole_limits, reads_form};
+ghost use Rattle.mo_grammar.specs.Language.{reads_form};
 ghost use Rattle.mo_grammar.specs.Answers.{Gives, with_rest};
-ghost use Rattle.mo_parse_body.specs.Seen.{no_trace};
-ghost use Rattle.mo_parse_class.specs.Left.{limits};
-ghost use Rattle.mo_parse_class.specs.Parts.{closing as closing_form, maybe, ends};
+ghost use Rattle.mo_class_parts.specs.Seen.{no_trace, ends};
+ghost use Rattle.mo_class_heads.specs.Left.{limits};
+ghost use Rattle.mo_parse_class.specs.Parts.{closing as closing_form};
 
-use crate::left::Left;
 use crate::parts::optional_annotation;
 use crate::plain::{class_modification, expression, reference};
-use mo_grammar::{Fault, Halt, Reading, are_next, code, is_next, is_next_any, past_limit, take};
-use mo_parse_expr::readers::begins_expression;
+use mo_class_heads::{Left, end_of_class, take_optional};
+use mo_expr_parts::begins_expression;
+use mo_grammar::{Halt, Reading, are_next, is_next, is_next_any, past_limit, take};
 use mo_syntax::TokenKind::{Ident, Keyword, Operator, Str};
 use mo_syntax::{Expr, List, Token};
 use mo_tables::{keywords, operators};
@@ -72,27 +72,6 @@ fn annotated_end<'t, 'a>(
     end_of_class(left, rest)
 }
 
-/// `end` with the name of the class that is open.
-fn end_of_class<'t, 'a>(
-    left: Left,
-    tokens: &'t [Token<'a>],
-) -> Result<&'t [Token<'a>], Halt<'t, 'a>>
-    ensures reads { Gives (ends false) result (reads_form class_end (limits left.entry) (lexemes tokens.now)) }
-    ensures shorter { IfOk result (λ rest. length rest.now < length tokens.now) }
-{
-    let (_, rest) = take(tokens, Keyword(keywords::END))?;
-    match rest {
-        [name, behind @ ..] if code(Ident) == code(name.kind) => {
-            if left.name == name.text {
-                Ok(behind)
-            } else {
-                Err(Halt::Stuck(Fault::Misnamed, rest))
-            }
-        }
-        _ => Err(Halt::Stuck(Fault::Misplaced, rest)),
-    }
-}
-
 /// An external clause, and what ends the class behind it.
 fn external_end<'t, 'a>(
     alloc: Global,
@@ -103,22 +82,11 @@ fn external_end<'t, 'a>(
     ensures shorter { IfOk result (λ rest. length rest.now < length tokens.now) }
 {
     let (_, rest) = take(tokens, Keyword(keywords::EXTERNAL))?;
-    let (_, rest) = optional_string(rest);
+    let (_, rest) = take_optional(rest, &[Str]);
     let (_, rest) = optional_call(alloc, left, rest)?;
     let (_, rest) = optional_annotation(alloc, left, rest)?;
     let (_, rest) = take(rest, Operator(operators::SEMICOLON))?;
     plain_end(alloc, left, rest)
-}
-
-/// A string, where one stands there.
-fn optional_string<'t, 'a>(tokens: &'t [Token<'a>]) -> (Option<Token<'a>>, &'t [Token<'a>])
-    ensures reads { reads_form (optional (token (string ∷ []))) whole_limits (lexemes tokens.now) ≡ read (maybe result.0) (lexemes result.1.now) }
-    ensures no_longer { length result.1.now ≤ length tokens.now }
-{
-    match tokens {
-        [token, rest @ ..] if code(Str) == code(token.kind) => (Some(*token), rest),
-        _ => (None, tokens),
-    }
 }
 
 /// The call of an external function, where one stands there.

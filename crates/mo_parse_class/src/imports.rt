@@ -1,29 +1,18 @@
 //! Import clauses.
-ghost use Rattle.std.specs.Prelude.{◌≡◌, ◌<◌, ◌≤◌, [], ◌∷◌, length, IfOk, false};
-ghost use Rattle.mo_grammar.specs.Lexeme.{lexeme, lexemes};
-ghost use Rattle.mo_grammar.specs.Codes.{ident, dot, comma, equals, open_brace, close_brace};
-ghost use Rattle.mo_grammar.specs.Grammar.{token, seq, either2, made, symbol};
-ghost use Rattle.mo_grammar.specs.Forms.{behind, between, separated};
-ghost use Rattle.mo_grammar.specs.ClassTrees.{import_of as import_tree, renamed_import};
-ghost use Rattle.mo_grammar.specs.Symbols.{Names, ImportNames};
+ghost use Rattle.std.specs.Prelude.{◌<◌, length, IfOk};
+ghost use Rattle.mo_grammar.specs.Lexeme.{lexemes};
 ghost use Rattle.mo_grammar.specs.Classes.{import_clause as import_clause_form};
-ghost use Rattle.mo_grammar.specs.Reading.{read, next_two};
-ghost use Rattle.mo_grammar.specs.Language.{whole_limits, reads, reads_form};
+ghost use Rattle.mo_grammar.specs.Language.{reads_form};
 ghost use Rattle.mo_grammar.specs.Answers.{Gives, with_rest};
-ghost use Rattle.mo_parse_class.specs.Left.{limits};
-ghost use Rattle.mo_parse_class.specs.Parts.{import_tail, taken as taken_from, tail};
+ghost use Rattle.mo_class_heads.specs.Left.{limits};
 
-use crate::left::Left;
-use crate::parts::{first_place, identifiers, path, texts};
-use crate::plain::{comment, name};
-use mo_grammar::{Fault, Halt, Reading, are_next, is_next, past_limit, take};
-use mo_syntax::TokenKind::{Ident, Keyword, Operator};
-use mo_syntax::{Import, List, NoMemory, Text, Token};
-use mo_tables::{keywords, operators};
+use crate::plain::comment;
+use mo_class_heads::{Left, imported};
+use mo_grammar::{Reading, take};
+use mo_syntax::TokenKind::Keyword;
+use mo_syntax::{Import, Token};
+use mo_tables::keywords;
 use std::alloc::Global;
-
-/// What is taken from a name: None for itself, `Some(None)` for all that stands in it, or these.
-type Taken<'a> = Option<Option<List<Token<'a>>>>;
 
 /// An import clause.
 pub(crate) fn import_clause<'t, 'a>(
@@ -38,114 +27,4 @@ pub(crate) fn import_clause<'t, 'a>(
     let (import, rest) = imported(alloc, left, rest)?;
     let rest = comment(alloc, left, rest)?;
     Ok((import, rest))
-}
-
-/// What is imported.
-fn imported<'t, 'a>(alloc: Global, left: Left, tokens: &'t [Token<'a>]) -> Reading<'t, 'a, Import>
-    ensures reads { Gives with_rest result (reads_form (either2 ident (equals ∷ []) (made renamed_import (seq (token (ident ∷ [])) (behind equals (symbol Names)))) (made import_tree (symbol ImportNames))) (limits left.entry) (lexemes tokens.now)) }
-    ensures shorter { IfOk result (λ x. length x.1.now < length tokens.now) }
-{
-    if are_next(tokens, Ident, &[Operator(operators::EQUALS)]) {
-        let (new, rest) = take(tokens, Ident)?;
-        let (_, rest) = take(rest, Operator(operators::EQUALS))?;
-        let (names, rest) = name(alloc, left, rest)?;
-        let text = Text::from_str(alloc, new.text)?;
-        let path = path(alloc, names.as_slice())?;
-        Ok((
-            Import::Renamed(text, path, first_place(names.as_slice())),
-            rest,
-        ))
-    } else {
-        let ((names, taken), rest) = import_names(alloc, left, tokens)?;
-        Ok((import_of(alloc, names.as_slice(), taken)?, rest))
-    }
-}
-
-/// The import of these names.
-fn import_of(alloc: Global, names: &[Token], taken: Taken) -> Result<Import, NoMemory>
-    ensures { IfOk result (λ i. i ≡ import_tree (lexemes names.now, taken_from taken.entry)) }
-{
-    let path = path(alloc, names)?;
-    let place = first_place(names);
-    Ok(match taken {
-        None => Import::Named(path, place),
-        Some(None) => Import::All(path, place),
-        Some(Some(group)) => Import::Group(path, texts(alloc, group.as_slice())?, place),
-    })
-}
-
-/// The identifiers of a name, and what is taken from it.
-#[tactic(auto, using(mo_grammar::proofs::Readers::import_names_are))]
-fn import_names<'t, 'a>(
-    alloc: Global,
-    left: Left,
-    tokens: &'t [Token<'a>],
-) -> Reading<'t, 'a, (List<Token<'a>>, Taken<'a>)>
-    ensures reads { Gives (λ x. read (lexemes x.0.0, taken_from x.0.1) (lexemes x.1.now)) result (reads ImportNames (limits left.entry) (lexemes tokens.now)) }
-    ensures shorter { IfOk result (λ x. length x.1.now < length tokens.now) }
-{
-    let (first, mut rest) = take(tokens, Ident)?;
-    let mut names = List::new(alloc);
-    names.push(first)?;
-    while are_next(rest, Operator(operators::DOT), &[Ident]) {
-        let (next, behind) = name_behind_dot(rest)?;
-        names.push(next)?;
-        rest = behind;
-    }
-    let (taken, rest) = taken(alloc, left, rest)?;
-    Ok(((names, taken), rest))
-}
-
-/// A dot and an identifier.
-fn name_behind_dot<'t, 'a>(tokens: &'t [Token<'a>]) -> Reading<'t, 'a, Token<'a>>
-    ensures reads { Gives (λ x. read (lexeme x.0) (lexemes x.1.now)) result (reads_form (behind dot (token (ident ∷ []))) whole_limits (lexemes tokens.now)) }
-    ensures shorter { IfOk result (λ x. length x.1.now < length tokens.now) }
-{
-    let (_, rest) = take(tokens, Operator(operators::DOT))?;
-    let (next, rest) = take(rest, Ident)?;
-    Ok((next, rest))
-}
-
-/// What is taken from the identifiers before.
-fn taken<'t, 'a>(alloc: Global, left: Left, tokens: &'t [Token<'a>]) -> Reading<'t, 'a, Taken<'a>>
-    requires last { next_two dot (ident ∷ []) (lexemes tokens.now) ≡ false }
-    ensures reads { Gives (λ x. read (tail x.0) (lexemes x.1.now)) result (reads_form import_tail (limits left.entry) (lexemes tokens.now)) }
-    ensures no_longer { IfOk result (λ x. length x.1.now ≤ length tokens.now) }
-{
-    if is_next(tokens, Operator(operators::DOT_STAR)) {
-        let (_, rest) = take(tokens, Operator(operators::DOT_STAR))?;
-        return Ok((Some(None), rest));
-    }
-    if !is_next(tokens, Operator(operators::DOT)) {
-        return Ok((None, tokens));
-    }
-    let (_, rest) = take(tokens, Operator(operators::DOT))?;
-    if is_next(rest, Operator(operators::STAR)) {
-        let (_, rest) = take(rest, Operator(operators::STAR))?;
-        Ok((Some(None), rest))
-    } else if is_next(rest, Operator(operators::OPEN_BRACE)) {
-        let (group, rest) = group(alloc, left, rest)?;
-        Ok((Some(Some(group)), rest))
-    } else {
-        Err(Halt::Stuck(Fault::Misplaced, rest))
-    }
-}
-
-/// Identifiers in braces.
-#[tactic(auto, using(mo_grammar::proofs::Readers::none_left, mo_grammar::proofs::Readers::some_left))]
-fn group<'t, 'a>(
-    alloc: Global,
-    left: Left,
-    tokens: &'t [Token<'a>],
-) -> Reading<'t, 'a, List<Token<'a>>>
-    ensures reads { Gives (λ x. read (lexemes x.0) (lexemes x.1.now)) result (reads_form (between open_brace close_brace (separated comma (token (ident ∷ [])))) (limits left.entry) (lexemes tokens.now)) }
-    ensures shorter { IfOk result (λ x. length x.1.now < length tokens.now) }
-{
-    if left.constructs == 0 {
-        return Err(past_limit(tokens, Operator(operators::OPEN_BRACE)));
-    }
-    let (_, rest) = take(tokens, Operator(operators::OPEN_BRACE))?;
-    let (names, rest) = identifiers(alloc, rest)?;
-    let (_, rest) = take(rest, Operator(operators::CLOSE_BRACE))?;
-    Ok((names, rest))
 }

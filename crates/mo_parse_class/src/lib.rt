@@ -6,11 +6,11 @@
 mod call;
 mod classes;
 mod components;
+mod copies;
 mod elements;
 mod endings;
 mod file;
 mod imports;
-mod left;
 mod parts;
 mod plain;
 mod sections;

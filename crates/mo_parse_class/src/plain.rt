@@ -3,32 +3,20 @@ ghost use Rattle.std.specs.Prelude.{◌≡◌, ◌<◌, ◌≤◌, length, IfOk}
 ghost use Rattle.mo_grammar.specs.Lexeme.{lexemes};
 ghost use Rattle.mo_grammar.specs.Grammar.{either};
 ghost use Rattle.mo_grammar.specs.Reading.{read};
-ghost use Rattle.mo_grammar.specs.Symbols.{Expressions, References, Subscripts, TypeSpecs, Names, ClassMods, EquationItems};
+ghost use Rattle.mo_grammar.specs.Symbols.{Expressions, References, Subscripts, TypeSpecs, ClassMods, EquationItems};
 ghost use Rattle.mo_grammar.specs.Classes.{annotation_part, comment as comment_form, declaration as declaration_form, constraint as constraint_form, enumeration, short_class, statements as statements_form};
 ghost use Rattle.mo_grammar.specs.Language.{reads, reads_form};
 ghost use Rattle.mo_grammar.specs.Answers.{Gives, with_rest};
-ghost use Rattle.mo_parse_body.specs.Seen.{no_trace, declared};
-ghost use Rattle.mo_parse_class.specs.Left.{limits};
+ghost use Rattle.mo_class_parts.specs.Seen.{no_trace, declared};
+ghost use Rattle.mo_class_heads.specs.Left.{limits};
 
-use crate::left::Left;
+use mo_class_heads::Left;
+use mo_class_parts::Declaration;
 use mo_grammar::{Halt, Reading};
-use mo_parse_body::readers as bodies;
-use mo_parse_body::readers::Declaration;
-use mo_parse_expr::readers as expressions;
+use mo_read_body as bodies;
+use mo_read_expr as expressions;
 use mo_syntax::{Body, Equation, Expr, List, Mods, Reference, Statement, Token};
 use std::alloc::Global;
-
-/// The identifiers of a dotted name.
-pub(crate) fn name<'t, 'a>(
-    alloc: Global,
-    left: Left,
-    tokens: &'t [Token<'a>],
-) -> Reading<'t, 'a, List<Token<'a>>>
-    ensures reads { Gives (λ x. read (lexemes x.0) (lexemes x.1.now)) result (reads Names (limits left.entry) (lexemes tokens.now)) }
-    ensures shorter { IfOk result (λ x. length x.1.now < length tokens.now) }
-{
-    expressions::name(alloc, left.constructs, tokens)
-}
 
 /// The name of a type or function, perhaps with a dot before it.
 pub(crate) fn type_specifier<'t, 'a>(
@@ -39,7 +27,7 @@ pub(crate) fn type_specifier<'t, 'a>(
     ensures reads { Gives with_rest result (reads TypeSpecs (limits left.entry) (lexemes tokens.now)) }
     ensures shorter { IfOk result (λ x. length x.1.now < length tokens.now) }
 {
-    expressions::type_specifier(alloc, left.constructs, tokens)
+    mo_expr_parts::type_specifier(alloc, left.constructs, tokens)
 }
 
 /// Subscripts in their brackets, None for `:`.

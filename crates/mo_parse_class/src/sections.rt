@@ -6,20 +6,21 @@ ghost use Rattle.mo_grammar.specs.Grammar.{symbol};
 ghost use Rattle.mo_grammar.specs.Forms.{before};
 ghost use Rattle.mo_grammar.specs.Symbols.{EquationItems, Compositions, Sections, SectionEquations};
 ghost use Rattle.mo_grammar.specs.Classes.{section as section_form};
-ghost use Rattle.mo_grammar.specs.Reading.{next_in, Tables};
-ghost use Rattle.mo_grammar.specs.Tables.{tables};
+ghost use Rattle.mo_grammar.specs.Reading.{next_in};
 ghost use Rattle.mo_grammar.specs.Language.{reads, reads_form};
 ghost use Rattle.mo_grammar.specs.Answers.{Gives, with_rest};
-ghost use Rattle.mo_parse_class.specs.Left.{limits};
-ghost use Rattle.mo_parse_class.specs.Parts.{section_codes, with_items, before_sections, equation_follows};
+ghost use Rattle.mo_class_heads.specs.Left.{limits};
+ghost use Rattle.mo_class_parts.specs.Starts.{section_codes};
+ghost use Rattle.mo_parse_class.specs.Parts.{with_items, before_sections};
 
-use crate::elements::{elements, only};
+use crate::elements::elements;
 use crate::endings::closing;
-use crate::left::Left;
 use crate::plain::{equation, statements};
-use mo_grammar::{Reading, are_next, is_next, is_next_any, none_yet, take};
-use mo_syntax::TokenKind::{Decimal, Ident, Keyword, Operator, Str, Whole};
-use mo_syntax::{Equation, Item, List, Token};
+use mo_class_heads::Left;
+use mo_class_parts::{begins_section, is_equation_next};
+use mo_grammar::{Reading, is_next, none_yet, take};
+use mo_syntax::TokenKind::{Keyword, Operator};
+use mo_syntax::{Equation, Item, List, Token, single};
 use mo_tables::{keywords, operators};
 use std::alloc::Global;
 
@@ -41,22 +42,6 @@ pub(crate) fn composition<'t, 'a>(
     }
     let (external, rest) = closing(alloc, left, rest)?;
     Ok(((items, external), rest))
-}
-
-/// Whether a section begins with the next token.
-fn begins_section(tokens: &[Token]) -> bool
-    ensures { result ≡ next_in section_codes (lexemes tokens.now) }
-{
-    is_next_any(
-        tokens,
-        &[
-            Keyword(keywords::PUBLIC),
-            Keyword(keywords::PROTECTED),
-            Keyword(keywords::EQUATION),
-            Keyword(keywords::ALGORITHM),
-            Keyword(keywords::INITIAL),
-        ],
-    )
 }
 
 /// A section.
@@ -154,11 +139,11 @@ fn behavior<'t, 'a>(
     if is_next(tokens, Keyword(keywords::EQUATION)) {
         let (_, rest) = take(tokens, Keyword(keywords::EQUATION))?;
         let (equations, rest) = section_equations(alloc, left, rest)?;
-        Ok((only(alloc, Item::Equations(initial, equations))?, rest))
+        Ok((single(alloc, Item::Equations(initial, equations))?, rest))
     } else {
         let (_, rest) = take(tokens, Keyword(keywords::ALGORITHM))?;
         let (statements, rest) = statements(alloc, left, rest)?;
-        Ok((only(alloc, Item::Algorithm(initial, statements))?, rest))
+        Ok((single(alloc, Item::Algorithm(initial, statements))?, rest))
     }
 }
 
@@ -192,51 +177,4 @@ fn equation_before_semicolon<'t, 'a>(
     let (equation, rest) = equation(alloc, left, tokens)?;
     let (_, rest) = take(rest, Operator(operators::SEMICOLON))?;
     Ok((equation, rest))
-}
-
-/// Whether an equation follows, and neither the end of the class nor an initial section.
-fn is_equation_next(tokens: &[Token]) -> bool
-    ensures { result ≡ equation_follows (lexemes tokens.now) }
-{
-    let ends = are_next(tokens, Keyword(keywords::END), &[Ident]);
-    let initial = are_next(
-        tokens,
-        Keyword(keywords::INITIAL),
-        &[Keyword(keywords::EQUATION), Keyword(keywords::ALGORITHM)],
-    );
-    !ends && !initial && begins_equation(tokens)
-}
-
-/// Whether an equation may begin with the next token.
-fn begins_equation(tokens: &[Token]) -> bool
-    ensures { result ≡ next_in (Tables.starts tables EquationItems) (lexemes tokens.now) }
-{
-    is_next_any(
-        tokens,
-        &[
-            Ident,
-            Whole,
-            Decimal,
-            Str,
-            Operator(operators::OPEN_PAREN),
-            Operator(operators::PLUS),
-            Operator(operators::MINUS),
-            Operator(operators::DOT),
-            Keyword(keywords::CONNECT),
-            Operator(operators::DOT_PLUS),
-            Operator(operators::DOT_MINUS),
-            Keyword(keywords::DER),
-            Keyword(keywords::END),
-            Operator(operators::OPEN_BRACKET),
-            Keyword(keywords::FALSE),
-            Operator(operators::OPEN_BRACE),
-            Keyword(keywords::FOR),
-            Keyword(keywords::IF),
-            Keyword(keywords::INITIAL),
-            Keyword(keywords::NOT),
-            Keyword(keywords::PURE),
-            Keyword(keywords::TRUE),
-            Keyword(keywords::WHEN),
-        ],
-    )
 }

@@ -7,8 +7,8 @@ ghost use Rattle.mo_grammar.specs.Symbols.{Expressions};
 ghost use Rattle.mo_grammar.specs.Language.{IsLongestFront, Spells};
 ghost use Rattle.mo_grammar.specs.Answers.{from, limits_at, IsLongestSpelling, IsAnswer, IsRefusal};
 
-use crate::readers;
 use mo_grammar::{Halt, rest_from, stop_at};
+use mo_read_expr as readers;
 use mo_syntax::{Expr, Stop, Token};
 use std::alloc::Global;
 

@@ -1,12 +1,8 @@
 //! Expressions read from tokens.
 //!
-//! - [`expression`]: the whole expression that stands at a place, with the place behind it.
-//! - [`readers`]: the readers of the productions, of which the public calls of the parsers are built.
+//! - [`expression`]: the whole expression that stands at a place, with the place behind it. `mo_read_expr` reads it.
 #![tactic(auto)]
 
 mod call;
-mod marks;
-pub mod readers;
-mod trees;
 
 pub use call::expression;

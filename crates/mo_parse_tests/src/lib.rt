@@ -1,4 +1,5 @@
-//! Tests of the parsers: texts with the trees that their public calls give, and neighbours that are refused.
+//! Tests of the parsers of expressions and of what stands in classes: words with the trees that the public calls give, and
+//! neighbours that are refused.
 //!
 //! They stand apart from the parsers, so that these are proved without them.
 #![tactic(auto)]
@@ -6,14 +7,6 @@
 #[cfg(test)]
 mod bodies;
 #[cfg(test)]
-mod circuit;
-#[cfg(test)]
 mod expressions;
-#[cfg(test)]
-mod files;
-#[cfg(test)]
-mod printed;
-#[cfg(test)]
-mod show;
 #[cfg(test)]
 mod words;

@@ -1,5 +1,6 @@
-//! Tokens of texts whose words stand apart by one blank.
-use mo_syntax::{NoMemory, Place, Stop, Token, TokenKind};
+//! Tokens of texts whose words stand apart by one blank, and what rows write.
+use mo_show::put_refusal;
+use mo_syntax::{NoMemory, Place, Token, TokenKind};
 use std::alloc::Global;
 
 /// The tokens, each at the place of its number, and the end of the file.
@@ -44,11 +45,19 @@ fn kind_of(word: &str) -> TokenKind {
     }
 }
 
-/// The rule and the byte of a refusal; (0, 0) where there is none, and (255, 0) for want of memory.
-pub fn refusal<T>(answer: &Result<T, Stop>) -> (u8, u32) {
-    match answer {
-        Ok(_) => (0, 0),
-        Err(Stop::Broken(broken)) => (broken.rule.number(), broken.place.byte),
-        Err(Stop::NoMemory) => (255, 0),
+/// The number that the digits write.
+pub fn number(digits: &str) -> u32 {
+    let mut found = 0u32;
+    for digit in digits.as_bytes() {
+        let value = u32::from(digit.saturating_sub(48));
+        found = found.saturating_mul(10).saturating_add(value);
     }
+    found
+}
+
+/// A refusal as a row writes it.
+pub fn written(alloc: Global, refusal: (u8, u32)) -> Result<Vec<u8>, NoMemory> {
+    let mut out = Vec::new(alloc);
+    put_refusal(&mut out, refusal)?;
+    Ok(out)
 }

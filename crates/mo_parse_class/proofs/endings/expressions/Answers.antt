@@ -6,7 +6,7 @@ use Rattle.mo_grammar.specs.Grammar.{symbol}
 use Rattle.mo_grammar.specs.Forms.{behind}
 use Rattle.mo_grammar.specs.Symbols.{Expressions}
 use Rattle.mo_grammar.proofs.Loops.{turn}
-use Rattle.mo_parse_class.specs.Left.{limits}
+use Rattle.mo_class_heads.specs.Left.{limits}
 use Rattle.mo_parse_class.proofs.endings.expressions.Goals as goal
 
 pub each-preserved : goal.each-preserved

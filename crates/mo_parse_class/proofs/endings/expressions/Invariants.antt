@@ -6,7 +6,7 @@ use Rattle.mo_grammar.specs.Forms.{behind, separated}
 use Rattle.mo_grammar.specs.Symbols.{Expressions}
 use Rattle.mo_grammar.specs.Language.{reads_form}
 use Rattle.mo_grammar.proofs.Loops.{with_front}
-use Rattle.mo_parse_class.specs.Left.{limits}
+use Rattle.mo_class_heads.specs.Left.{limits}
 use Rattle.mo_parse_class.proofs.endings.expressions.Given as goal
 
 abbrev pub invariant-each : goal.invariant-each

@@ -3,7 +3,7 @@ use Rattle.std.proofs.Common.{refl}
 use Rattle.mo_grammar.specs.Lexeme.{lexemes}
 use Rattle.mo_grammar.specs.Grammar.{this_name}
 use Rattle.mo_grammar.specs.Classes.{declaration}
-use Rattle.mo_parse_class.proofs.Apart.{within}
+use Rattle.mo_class_heads.proofs.Apart.{within}
 use Rattle.mo_parse_class.proofs.plain.declaration.Goals as goal
 
 pub returns-clause-reads : goal.returns-clause-reads

@@ -2,7 +2,7 @@
 use Rattle.std.proofs.Common.{refl}
 use Rattle.mo_grammar.specs.Grammar.{symbol}
 use Rattle.mo_grammar.specs.Symbols.{Subscripts}
-use Rattle.mo_parse_class.proofs.Apart.{within}
+use Rattle.mo_class_heads.proofs.Apart.{within}
 use Rattle.mo_parse_class.proofs.plain.subscripts.Goals as goal
 
 pub returns-clause-reads : goal.returns-clause-reads

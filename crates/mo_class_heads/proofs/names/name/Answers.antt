@@ -1,0 +1,9 @@
+-- It is read in a class as outside of all.
+use Rattle.std.proofs.Common.{refl}
+use Rattle.mo_grammar.specs.Grammar.{symbol}
+use Rattle.mo_grammar.specs.Symbols.{Names}
+use Rattle.mo_class_heads.proofs.Apart.{within}
+use Rattle.mo_class_heads.proofs.names.name.Goals as goal
+
+pub returns-clause-reads : goal.returns-clause-reads
+returns-clause-reads c = within (symbol Names) refl _ _ _ _ _ _ c.name.ensures.reads

@@ -1,0 +1,4 @@
+pub mod Imports
+pub mod Left
+pub mod Prefixes
+pub mod Within

@@ -1,0 +1,22 @@
+-- What begins, and what ends, with the next tokens.
+use Rattle.std.specs.Prelude.{◌&&◌, not, ℕ, Bool, List, [], ◌∷◌}
+use Rattle.mo_grammar.specs.Codes.{ident, end_word, initial_word, equation_word, algorithm_word, public_word, protected_word, final_word, encapsulated_word, partial_word, class_word, model_word, record_word, block_word, connector_word, type_word, package_word, function_word, expandable_word, pure_word, impure_word, operator_word}
+use Rattle.mo_grammar.specs.Lexeme.{Lexeme}
+use Rattle.mo_grammar.specs.Reading.{next_in, next_two, Tables}
+use Rattle.mo_grammar.specs.Symbols.{ClassDefinitions, EquationItems}
+use Rattle.mo_grammar.specs.Tables.{tables}
+
+-- An equation follows: neither the end of the class nor an initial section does.
+abbrev pub equation_follows : List Lexeme → Bool
+equation_follows w = not (next_two end_word (ident ∷ []) w) && (not (next_two initial_word (equation_word ∷ algorithm_word ∷ []) w) && next_in (Tables.starts tables EquationItems) w)
+
+-- what a section begins with
+abbrev pub section_codes : List ℕ
+section_codes = public_word ∷ protected_word ∷ equation_word ∷ algorithm_word ∷ initial_word ∷ []
+
+-- what a class may begin with
+abbrev pub class_codes : List ℕ
+class_codes = encapsulated_word ∷ partial_word ∷ class_word ∷ model_word ∷ record_word ∷ block_word ∷ connector_word ∷ type_word ∷ package_word ∷ function_word ∷ expandable_word ∷ pure_word ∷ impure_word ∷ operator_word ∷ []
+
+abbrev pub definition_codes : List ℕ
+definition_codes = final_word ∷ Tables.starts tables ClassDefinitions

@@ -1,4 +1,0 @@
-pub mod EquationParts
-pub mod Parts
-pub mod Seen
-pub mod StatementParts

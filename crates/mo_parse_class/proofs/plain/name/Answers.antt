@@ -1,9 +1,0 @@
--- It is read in a class as outside of all.
-use Rattle.std.proofs.Common.{refl}
-use Rattle.mo_grammar.specs.Grammar.{symbol}
-use Rattle.mo_grammar.specs.Symbols.{Names}
-use Rattle.mo_parse_class.proofs.Apart.{within}
-use Rattle.mo_parse_class.proofs.plain.name.Goals as goal
-
-pub returns-clause-reads : goal.returns-clause-reads
-returns-clause-reads c = within (symbol Names) refl _ _ _ _ _ _ c.name.ensures.reads

@@ -1,2 +1,0 @@
-pub mod ArgumentLoops
-pub mod Values

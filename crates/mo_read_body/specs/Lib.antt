@@ -1,0 +1,3 @@
+pub mod EquationParts
+pub mod Parts
+pub mod StatementParts
