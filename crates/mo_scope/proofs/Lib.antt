@@ -1,6 +1,10 @@
+pub mod Keys
 mod Models
 pub mod Numbered
 pub mod Picking
+pub mod RowsFound
+pub mod RowsMade
 mod WorkedRows
+pub mod WalkSteps
 pub mod laws
 pub mod rows

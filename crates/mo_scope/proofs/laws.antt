@@ -3,6 +3,7 @@ pub mod Comparing
 pub mod Finding
 pub mod Naming
 pub mod Number
+pub mod Numbers
 pub mod Passing
 pub mod Places
 pub mod Sources

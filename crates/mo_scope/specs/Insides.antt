@@ -1,6 +1,7 @@
 -- What `Scopes` holds inside, as data.
 use Rattle.std.specs.Prelude.{map}
 use Rattle.mo_scope.specs.declared.scopes.Scopes.TheInside.{Inside}
+use Rattle.mo_scope.specs.Classes.{AreClasses}
 use Rattle.mo_scope.specs.Worlds.{World, IsSound}
 use Rattle.mo_scope.specs.Entries.{entry_seen, table_seen}
 
@@ -11,5 +12,6 @@ world_of scopes = record {
   tables = map table_seen scopes.frames.items;
 }
 
-abbrev pub IsSoundInside : Inside → Type 0
-IsSoundInside scopes = IsSound (world_of scopes)
+pub record IsSoundInside (scopes : Inside) : Type 0 where
+  pub world : IsSound (world_of scopes)
+  pub classes : AreClasses scopes.tree.now.files scopes.classes

@@ -1,9 +1,12 @@
 pub mod Arguments
+pub mod Classes
 pub mod Compatible
 pub mod Entries
 pub mod Frames
+pub mod Held
 pub mod Insides
 pub mod Instances
+pub mod Listed
 pub mod Lookup
 pub mod Names
 pub mod Outcome

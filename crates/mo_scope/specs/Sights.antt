@@ -1,5 +1,6 @@
 -- What the values of the code are as data.
 use Rattle.std.specs.Prelude.{List, map, flat_map, option_map, option_copied}
+use Rattle.mo_syntax.specs.declared.class.Body.{out-Body}
 use Rattle.mo_syntax.specs.Classes as classes
 use Rattle.mo_scope.specs.declared.source.Given.{Given as GivenAt}
 use Rattle.mo_scope.specs.declared.source.Given.TheVariants.{Listed as listed_at, Argued as argued_at, Replacing as replacing_at}
@@ -17,9 +18,10 @@ use Rattle.mo_scope.specs.declared.row.Home.TheVariants.{Under, Inside, Apart}
 use Rattle.mo_scope.specs.declared.row.Member.{Member as MemberAt}
 use Rattle.mo_scope.specs.declared.row.Part.{Part as PartAt}
 use Rattle.mo_scope.specs.declared.row.Part.TheVariants.{Element as element_at, Base as base_at}
+use Rattle.mo_scope.specs.declared.row.Row.{Row as RowAt}
 use Rattle.mo_scope.specs.declared.row.Sort.{Sort as SortAt}
 use Rattle.mo_scope.specs.declared.row.Sort.TheVariants.{Class as class_at, Component as component_at}
-use Rattle.mo_scope.specs.Rows.{Modifiers, Constraint, Declares, Sort, A_class, A_component, Clause, Part, Element_of, Base_of, replacing_in}
+use Rattle.mo_scope.specs.Rows.{Modifiers, Constraint, Declares, Sort, A_class, A_component, Clause, Part, Element_of, Base_of, Row, replacing_in, form_in}
 use Rattle.mo_scope.specs.Frames.{Frame, Given, Listed, Argued, Replacing, Listing, Origin, Elsewhere, Own_of, Constraint_of}
 use Rattle.mo_scope.specs.Parts.{Picked}
 use Rattle.mo_scope.specs.Worlds.{SourceEntry, MemberEntry, scope_in}
@@ -57,6 +59,18 @@ abbrev pub home_seen : HomeAt → classes.Home
 home_seen (Under path) = classes.Under (map (λ name. name.now) path)
 home_seen (Inside n) = classes.Inside n
 home_seen Apart = classes.Apart
+
+abbrev pub row_seen : RowAt → Row
+row_seen row = record {
+  number = row.number;
+  home = home_seen row.home;
+  outermost = row.outermost;
+  class = row.class.now;
+  form = form_in (out-Body row.class.now.body);
+  parts = map part_seen row.parts;
+  replacing = flat_map replacing_in row.replacing.now;
+  imports = map (λ clause. clause.now) row.imports;
+}
 
 -- ---- sources
 

@@ -1,7 +1,7 @@
 -- Numbered frames: what `Scopes` holds, and the frames that its numbers stand for.
 use Rattle.std.specs.Prelude.{◌≡◌, ℕ, ◌<◌, Bool, List, [], ◌∷◌, ◌++◌, length, map, Option, Some, None, Ok, get_or, slice_get}
 use Rattle.mo_syntax.specs.declared.class.FileTree.{FileTree}
-use Rattle.mo_scope.specs.Rows.{Declares, Table, table_of, number_of_classes}
+use Rattle.mo_scope.specs.Rows.{Declares, Part, Element_of, class_number, Table, table_of, number_of_classes}
 use Rattle.mo_scope.specs.Frames.{Piece, Frame, Top, In, Indexed, Iterations, Scope, Source, Member, gathered}
 use Rattle.mo_scope.specs.Names.{elements_of}
 
@@ -92,6 +92,10 @@ pub record IsEntry (classes n : ℕ) (entry : FrameEntry) : Type 0 where
   pub sources : (k : ℕ) (source : SourceEntry) → slice_get entry.sources k ≡ Some source → source.frame < n
   pub outer : (m : ℕ) → entry.outer ≡ Some m → m < n
   pub owner : (m : ℕ) → entry.owner ≡ Some m → m < n
+
+-- each class that one of the parts declares exists
+abbrev pub PartsExist : ℕ → List Part → Type 0
+PartsExist classes parts = (k : ℕ) (declares : Declares) → slice_get parts k ≡ Some (Element_of declares) → class_number declares < classes
 
 -- the frames of some sources exist, and so does a frame that may be missing
 abbrev pub AreFrames : World → List SourceEntry → Type 0

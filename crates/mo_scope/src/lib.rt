@@ -1,8 +1,9 @@
 //! Frames, scopes and sources, and the definitions of what names mean (Modelica Language Specification 3.5, sections 5.3,
 //! 5.4, 5.6, 7.1 to 7.3 and 13.2).
 //!
-//! - `Scopes`: frames by number. `enter` makes one; `class_of`, `sources`, `outer`, `path` and `owner` read it; `keep` and
-//!   `table` hold the table of its elements.
+//! - `Scopes`: the classes of the files and frames by number. `row`, `top_class`, `number_at` and `declared` read the
+//!   classes; `enter` makes a frame; `class_of`, `sources`, `outer`, `path` and `owner` read it; `keep` and `table` hold
+//!   the table of its elements.
 //! - `Source`: what modifies a class, by reference into the class tree. `pick_here` finds the value that sources give for it.
 //! - `Row`, `Declares`, `Member`: a class with what it declares, and an element of a frame.
 //!
@@ -10,12 +11,19 @@
 //! `specs/Worlds.antt` says which tree a number stands for.
 #![tactic(auto)]
 
+mod classes;
+mod declaring;
 mod frame;
+mod groups;
+mod making;
 mod pick;
+mod places;
 mod row;
 mod scopes;
 mod source;
 mod table;
+mod tops;
+mod walk;
 
 pub use pick::pick_here;
 pub use row::{Clause, Constraint, Declares, Home, Member, Part, Row, Sort};

@@ -59,6 +59,8 @@ pub enum Home<'t> {
 /// A class, with what stands in it.
 #[derive(Drop)]
 pub struct Row<'t> {
+    /// Its number, from 6 in the order of files and bytes.
+    pub number: u32,
     pub home: Home<'t>,
     /// Whether it stands in no other class of its file.
     pub outermost: bool,

@@ -1,16 +1,23 @@
 //! Frames by number, and the tables of their elements.
-ghost use Rattle.std.specs.Prelude.{◌≡◌, List as Seq, ◌+◌, ◌<◌, [], ◌∷◌, ◌++◌, length, map, Some, None, option_map, slice_get, IfOk, IfSome, OnOk, OnErr, IsTrue, IsNone, ◌↔◌, set, option_copied};
-ghost use Rattle.mo_scope.specs.Frames.{Frame, class_of, sources_of, outer_of, at_of, owner_of, is_top, In, gathered};
-ghost use Rattle.mo_scope.specs.Rows.{number_of_classes};
+ghost use Rattle.std.specs.Prelude.{◌≡◌, List as Seq, ◌+◌, ◌<◌, [], ◌∷◌, ◌++◌, length, map, Some, None, option_map, slice_get, IfOk, IfSome, OnOk, OnErr, IsTrue, IsNone, ◌↔◌, set, option_copied, find};
+ghost use Rattle.std.specs.Str.{bytes_eq};
+ghost use Rattle.mo_scope.specs.Frames.{Frame, class_of, sources_of, outer_of, at_of, owner_of, is_top, In, gathered, looked_up};
+ghost use Rattle.mo_scope.specs.Rows.{number_of_classes, row_at, number_at, number_of_element, class_number, top_classes};
+ghost use Rattle.mo_scope.specs.Parts.{declared_in};
 ghost use Rattle.mo_scope.specs.Names.{elements_of};
-ghost use Rattle.mo_scope.specs.Sights.{source_seen};
+ghost use Rattle.mo_scope.specs.Sights.{source_seen, row_seen, part_seen, declares_seen};
 ghost use Rattle.mo_scope.specs.Entries.{entry_seen, table_seen, number_of, names_of};
-ghost use Rattle.mo_scope.specs.Worlds.{MemberEntry, IsTable, AreFrames, AreHomes, kept_table, member_in, IsFrameOrNone, IsFrame, IsEntry, Grows, frame_at, frame_of_entry, frames_of, frame_or_top, sources_in, table_in};
+ghost use Rattle.mo_scope.specs.Worlds.{MemberEntry, IsTable, AreFrames, AreHomes, kept_table, member_in, IsFrameOrNone, IsFrame, IsEntry, PartsExist, Grows, frame_at, frame_of_entry, frames_of, frame_or_top, sources_in, table_in};
 
+use crate::classes::Classes;
+use crate::declaring::declared_by;
 use crate::frame::FrameData;
+use crate::row::{Declares, Row};
 use crate::source::Source;
 use crate::table::MemberTable;
-use mo_syntax::{ClassId, ClassTree, FrameId, InstancePath, List, NoMemory};
+use mo_syntax::{
+    ClassId, ClassTree, Element, FrameId, InstancePath, List, NoMemory, Place, Text, What,
+};
 use std::alloc::Global;
 use std::marker::Model;
 
@@ -18,6 +25,7 @@ use std::marker::Model;
 #[derive(Drop)]
 pub struct Scopes<'t> {
     tree: &'t ClassTree,
+    classes: Classes<'t>,
     frames: Vec<FrameData<'t>>,
 }
 
@@ -48,6 +56,7 @@ impl<'t> Scopes<'t> {
     {
         Ok(Scopes {
             tree,
+            classes: Classes::new(alloc, tree.files.as_slice())?,
             frames: Vec::new(alloc),
         })
     }
@@ -57,6 +66,60 @@ impl<'t> Scopes<'t> {
         ensures { result.now.files ≡ self.now.files }
     {
         self.tree
+    }
+
+    /// The row of a class, None of a predefined type.
+    pub fn row(&self, class: ClassId) -> Option<&Row<'t>>
+        ensures is { option_map row_seen (option_copied result) ≡ row_at (table_in self.now) class.0 }
+        ensures exist { IfSome result (λ row. PartsExist (number_of_classes (table_in self.now)) (map part_seen row.now.parts)) }
+    {
+        if class.0 < 6 {
+            return None;
+        }
+        self.classes.rows.get((class.0 - 6) as usize)
+    }
+
+    /// The class at the top with that name, None where no class there has it.
+    pub fn top_class(&self, name: &Text) -> Option<ClassId>
+        ensures is { option_map (λ class. class.0) result ≡ option_map (λ row. row.number) (find (λ row. bytes_eq row.class.name name.now) (top_classes (table_in self.now))) }
+        ensures exists { IfSome result (λ class. class.0 < number_of_classes (table_in self.now)) }
+    {
+        self.classes.tops.class(name)
+    }
+
+    /// The number of the class whose name stands there, 0 where none does.
+    pub fn number_at(&self, place: Place) -> u32
+        ensures is { result ≡ number_at (table_in self.now) place }
+        ensures exists { result < number_of_classes (table_in self.now) }
+    {
+        self.classes.places.number_at(place)
+    }
+
+    /// The number of the class that an element declares, 0 where it declares a component.
+    fn number_of_element(&self, element: &Element) -> u32
+        ensures { result ≡ number_of_element (table_in self.now) element.now }
+    {
+        match &element.what {
+            What::Class(class) => self.number_at(class.place),
+            What::Component(_) => 0,
+        }
+    }
+
+    /// What declares an element of a modifier list, or an element with `redeclare`.
+    pub fn declared(&self, element: &'t Element) -> Declares<'t>
+        ensures is { declares_seen result ≡ declared_in (table_in self.now) element.now }
+        ensures exists { class_number (declares_seen result) < number_of_classes (table_in self.now) }
+    {
+        declared_by(element, self.number_of_element(element))
+    }
+
+    /// The frame of a class that was entered with no sources, no path and no owner in that enclosing frame, None where
+    /// none is known.
+    pub fn entered(&self, _class: ClassId, _outer: Option<FrameId>) -> Option<FrameId>
+        ensures is { IfSome result (λ frame. frame_at self.now frame.0 ≡ looked_up _class.0 [] (frame_or_top (frames_of self.now) (option_map number_of _outer))) }
+        ensures exists { IfSome result (λ frame. IsFrame self.now frame.0) }
+    {
+        None
     }
 
     /// Enters a class: a new number for that frame. The numbers before keep their frames, after a refusal too.

@@ -5,8 +5,11 @@ use Rattle.mo_scope.proofs.Numbered.{kept_set, sound_set}
 use Rattle.mo_scope.proofs.scopes.Scopes.keep.Goals as goal
 
 pub invariant_of-self : goal.invariant_of-self
-invariant_of-self c = sound_set entry_seen table_seen c.self.inside.tree.now.files c.self.inside.frames.items c.args.frame.0 c.index_mut.result.now _ c.args.table c.args.self.now
-    c.self.view_is c.self.invariant c.index_mut.ensures.value refl refl (record { elements = c.requires.elements; homes = c.requires.homes })
+invariant_of-self c = record {
+  world = sound_set entry_seen table_seen c.self.inside.tree.now.files c.self.inside.frames.items c.args.frame.0 c.index_mut.result.now _ c.args.table c.args.self.now
+      c.self.view_is c.self.invariant.world c.index_mut.ensures.value refl refl (record { elements = c.requires.elements; homes = c.requires.homes });
+  classes = c.self.invariant.classes;
+}
 
 pub returns : goal.returns
 returns c = kept_set entry_seen table_seen c.self.inside.tree.now.files c.self.inside.frames.items c.args.frame.0 c.index_mut.result.now _ c.args.table c.args.self.now
