@@ -5,3 +5,8 @@ pub mod Gathering
 pub mod Sections
 pub mod Connectors
 pub mod Ends
+pub mod Equalities
+pub mod Asserts
+pub mod Joining
+pub mod Equations
+pub mod Expansion
