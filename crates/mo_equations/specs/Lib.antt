@@ -10,3 +10,5 @@ pub mod Asserts
 pub mod Joining
 pub mod Equations
 pub mod Expansion
+pub mod Size
+pub mod Sound
