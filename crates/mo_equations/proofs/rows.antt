@@ -1,0 +1,5 @@
+-- Worked examples of the equations of instances.
+pub mod Notation
+pub mod Bindings
+pub mod Connects
+pub mod Equations

@@ -1,0 +1,186 @@
+-- The ends of connects (Modelica Language Specification 3.5, sections 4.4.5, 5.4, 9.1 and 9.3).
+--
+-- An end is judged as it is written, from the class that holds the connect. Its leaves are those of the components that it names: where it
+-- names an outer one, those of the inner one.
+use Rattle.std.specs.Prelude.{Bool, true, false, ◌&&◌, List, [], ◌∷◌, map, Option, Some, None, Ok, Err, option_map, if◌then◌else◌, nat_eq}
+use Rattle.mo_syntax.specs.declared.expr.Expr.{Expr}
+use Rattle.mo_syntax.specs.declared.expr.PartOf.{PartOf}
+use Rattle.mo_syntax.specs.declared.expr.ReferenceOf.{ReferenceOf}
+use Rattle.mo_syntax.specs.declared.place.Broken.{Broken}
+use Rattle.mo_syntax.specs.declared.place.Place.{Place}
+use Rattle.mo_flat.specs.declared.connect.Connect.{Connect}
+use Rattle.mo_flat.specs.declared.connect.End.{End}
+use Rattle.mo_flat.specs.declared.connect.EndLeaf.{EndLeaf}
+use Rattle.mo_flat.specs.declared.connect.Side.{Side}
+use Rattle.mo_flat.specs.declared.connect.Side.TheVariants.{Inside, Outside, Neither}
+use Rattle.mo_scope.specs.Outcome.{Outcome, and_then, breach, breaks}
+use Rattle.mo_scope.specs.Rows.{Table, is_class}
+use Rattle.mo_scope.specs.Frames.{Indexed, Scope, Member, at_of, class_of}
+use Rattle.mo_scope.specs.Lookup.{Found, Component, Reached, Element, asking_of, found_first, reached}
+use Rattle.mo_scope.specs.Names.{child_of_member, component_frame, path_below}
+use Rattle.mo_typing.specs.Outcome.{each}
+use Rattle.mo_typing.specs.Indices.{Index}
+use Rattle.mo_typing.specs.Subscripts.{subscripts}
+use Rattle.mo_eval.specs.Virtuals.{Reading}
+use Rattle.mo_eval.specs.Contexts.{Part}
+use Rattle.mo_eval.specs.References.{Named, Components, Selection, named, selections, elements_selected, handed_in, last_of}
+use Rattle.mo_eval.specs.Components.{reader}
+use Rattle.mo_eval.specs.Resolving.{made}
+use Rattle.mo_eval.specs.Values.{most_references, reading}
+use Rattle.mo_equations.specs.Leaves.{Tree}
+use Rattle.mo_equations.specs.Connectors.{is_connector_class, leaves_below}
+
+-- the place of a name is that of its first identifier
+abbrev pub first_identifier : {E : Type 0} → List (PartOf E) → Place
+first_identifier [] = record { file = 0; byte = 0 }
+first_identifier (part ∷ parts) = part.place
+
+-- ---- inside and outside
+
+-- the component of that name in a component, as it is declared
+abbrev pub declared_behind : Table → Member → PartOf Expr → Outcome Member
+declared_behind table member part =
+    and_then (child_of_member table member []) (λ child.
+    and_then (reached table (asking_of table) part.place (component_frame member [] child) part.name) component_in)
+  where
+    component_in : Reached → Outcome Member
+    component_in (Element next) = if is_class next.declares then breaks 12 part.place else Ok next
+    component_in other = breaks 12 part.place
+
+-- the components that a name finds, one behind the other, as they are declared
+abbrev pub declared_from : Table → Member → List (PartOf Expr) → Outcome (List Member)
+declared_from table member [] = Ok (member ∷ [])
+declared_from table member (part ∷ parts) =
+    and_then (declared_behind table member part) (λ next.
+    and_then (declared_from table next parts) (λ others. Ok (member ∷ others)))
+
+abbrev pub declared_by_name : Table → Scope → ReferenceOf Expr → Outcome (List Member)
+declared_by_name table scope reference = declared_in reference.parts
+  where
+    behind_first : PartOf Expr → List (PartOf Expr) → Found → Outcome (List Member)
+    behind_first part parts (Component frame member) = declared_from table member parts
+    behind_first part parts found = breaks 12 part.place
+
+    declared_in : List (PartOf Expr) → Outcome (List Member)
+    declared_in [] = Ok []
+    declared_in (part ∷ parts) =
+        and_then (found_first table (asking_of table) false reference.top scope part) (λ met. behind_first part parts met.found)
+
+abbrev pub is_connector_member : Table → Member → Outcome Bool
+is_connector_member table member =
+    and_then (child_of_member table member []) (λ child. Ok (is_connector_class table (class_of child.class)))
+
+-- Outside where the first component is a connector and the last one is; inside where the first one is none, and the second one and the
+-- last one are.
+abbrev pub side_by : List Bool → Side
+side_by [] = Neither
+side_by (true ∷ others) = if last_of true others then Outside else Neither
+side_by (false ∷ []) = Neither
+side_by (false ∷ second ∷ others) = if second && last_of second others then Inside else Neither
+
+-- how an end lies to the class that holds the connect
+abbrev pub side_of : Table → Scope → ReferenceOf Expr → Side
+side_of table scope reference =
+    side_in (and_then (declared_by_name table scope reference) (each (is_connector_member table)))
+  where
+    side_in : Outcome (List Bool) → Side
+    side_in (Ok connectors) = side_by connectors
+    side_in (Err broken) = Neither
+
+-- ---- components that their conditions remove
+
+-- Reading an end stops at a component that is removed. The mark of it is no rule: none has this number.
+abbrev pub removed : Broken
+removed = breach 0 (record { file = 0; byte = 0 })
+
+abbrev pub or_removed : Bool → Outcome Bool
+or_removed true = Ok true
+or_removed false = Err removed
+
+abbrev pub reading_of_end : Reading → Reading
+reading_of_end reading = record {
+  is_there = λ member. and_then (reading.is_there member) or_removed;
+  dims = reading.dims;
+  value = reading.value;
+}
+
+-- None where a component is removed
+abbrev pub unless_removed : {A : Type 0} → Outcome A → Outcome (Option A)
+unless_removed (Ok a) = Ok (Some a)
+unless_removed (Err broken) = if nat_eq broken.rule 0 then Ok None else Err broken
+
+-- ---- what an end selects
+
+-- a name with its subscripts, each with how it is resolved
+abbrev pub with_parts : Table → Scope → ReferenceOf Expr → ReferenceOf Part
+with_parts table scope reference = record { top = reference.top; parts = map part_of reference.parts }
+  where
+    resolving : Expr → Part
+    resolving e = (e, made table (reading table most_references) scope e)
+
+    part_of : PartOf Expr → PartOf Part
+    part_of part = record { name = part.name; place = part.place; subs = map (option_map resolving) part.subs }
+
+-- The dimensions and subscripts of an end, and the elements that it selects.
+pub record Selected : Type 0 where
+  pub chosen : List Selection
+  pub elements : List (Member × Index)
+
+abbrev pub selected_from : Table → Place → Member × PartOf Part → List (Member × PartOf Part) → Outcome Selected
+selected_from table place first others =
+    and_then (reading table most_references place) (λ read.
+    and_then (selections table (reading_of_end read) (reader (reading table most_references)) (Some first.0) (first ∷ others)) (λ chosen.
+    and_then (elements_selected table (reading_of_end read) place first.0 chosen) (λ elements.
+    Ok (record { chosen = chosen; elements = elements }))))
+
+-- ---- ends
+
+-- the leaves of an element; a connector that has no instance has none
+abbrev pub leaves_of : Tree → Member × Index → List EndLeaf
+leaves_of tree element = leaves_at (path_below (at_of element.0.home) element.0.name element.1)
+  where
+    leaves_at : Option Indexed → List EndLeaf
+    leaves_at None = []
+    leaves_at (Some path) = leaves_below tree path
+
+-- Subscripts of an end that is neither inside nor outside may lie outside their dimension.
+abbrev pub end_with : Tree → Place → Selected → Side → Outcome End
+end_with tree place selected Neither =
+    Ok (record { place = place; side = Neither; dims = (handed_in selected.chosen).0; elements = [] })
+end_with tree place selected side =
+    and_then (subscripts (handed_in selected.chosen).0 (handed_in selected.chosen).1) (λ _.
+    Ok (record { place = place; side = side; dims = (handed_in selected.chosen).0; elements = map (leaves_of tree) selected.elements }))
+
+abbrev pub no_connector : Place → End
+no_connector place = record { place = place; side = Neither; dims = []; elements = [] }
+
+-- An end: its names are looked up, then its conditions, dimensions and subscripts are asked; none where it is removed.
+abbrev pub end_of : Tree → Scope → ReferenceOf Expr → Outcome (Option End)
+end_of tree scope reference = and_then (named tree.classes scope (with_parts tree.classes scope reference)) end_named
+  where
+    place : Place
+    place = first_identifier reference.parts
+
+    unless_none : Option Selected → Outcome (Option End)
+    unless_none None = Ok None
+    unless_none (Some selected) =
+        and_then (end_with tree place selected (side_of tree.classes scope reference)) (λ end. Ok (Some end))
+
+    end_named : Named → Outcome (Option End)
+    end_named (Components (first ∷ others)) =
+        and_then (unless_removed (selected_from tree.classes place first others)) unless_none
+    end_named other = Ok (Some (no_connector place))
+
+-- ---- connects
+
+-- A connect that names a removed component is removed, and nothing behind that component is asked.
+abbrev pub connect_of : Tree → Scope → Place → ReferenceOf Expr → ReferenceOf Expr → Outcome (List Connect)
+connect_of tree scope place left right = and_then (end_of tree scope left) behind_left
+  where
+    behind_both : End → Option End → Outcome (List Connect)
+    behind_both left None = Ok []
+    behind_both left (Some right) = Ok (record { place = place; left = left; right = right } ∷ [])
+
+    behind_left : Option End → Outcome (List Connect)
+    behind_left None = Ok []
+    behind_left (Some left) = and_then (end_of tree scope right) (behind_both left)

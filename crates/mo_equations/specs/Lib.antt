@@ -1,0 +1,14 @@
+pub mod Leaves
+pub mod Replacing
+pub mod Variables
+pub mod Gathering
+pub mod Sections
+pub mod Connectors
+pub mod Ends
+pub mod Equalities
+pub mod Asserts
+pub mod Joining
+pub mod Equations
+pub mod Expansion
+pub mod Size
+pub mod Sound
