@@ -1,2 +1,3 @@
-mod Forms
+pub mod Forms
+pub mod Nodes
 mod Rows
