@@ -1,3 +1,6 @@
 pub mod Forms
+pub mod Lists
 pub mod Nodes
 mod Rows
+pub mod Splitting
+pub mod Telling
