@@ -1,2 +1,6 @@
-mod Forms
+pub mod Forms
+pub mod Lists
+pub mod Nodes
 mod Rows
+pub mod Splitting
+pub mod Telling

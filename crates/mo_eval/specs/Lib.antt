@@ -2,6 +2,8 @@ pub mod Numbers
 pub mod Scalars
 pub mod Virtuals
 pub mod Walk
+pub mod Told
+pub mod steps
 pub mod Contexts
 pub mod References
 pub mod Calls

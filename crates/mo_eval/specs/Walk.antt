@@ -8,7 +8,7 @@ use Rattle.mo_syntax.specs.declared.meaning.Kind.TheVariants.{Real}
 use Rattle.mo_syntax.specs.declared.place.Place.{Place}
 use Rattle.mo_tables.specs.declared.functions.TheConstants.{ABS, CROSS, IDENTITY, MAX, MIN, NDIMS, NO_EVENT, ONES, PRODUCT, SUM, TRANSPOSE}
 use Rattle.mo_flat.specs.declared.array.ArrayExpr.{ArrayExpr, ArrayExpr-F, para-ArrayExpr}
-use Rattle.mo_flat.specs.declared.array.ArrayNode.{ArrayNode, ArrayNode-F}
+use Rattle.mo_flat.specs.declared.array.ArrayNode.{ArrayNode, ArrayNode-F, para-ArrayNode}
 use Rattle.mo_typing.specs.Outcome.{Outcome, and_then}
 use Rattle.mo_typing.specs.Dims.{Dims}
 use Rattle.mo_typing.specs.Kinds.{kind_of_node}
@@ -199,6 +199,20 @@ known_part e index = and_then (e.node.1 index) (settled e.place (kind_or_real (k
 -- what is known of the element of an expression at an index
 abbrev pub known_by : (ℕ → Outcome Known) → ArrayExpr → Index → Outcome Known
 known_by variable = para-ArrayExpr (Index → Outcome Reckoned) (Index → Outcome Known) (result_node variable) known_part
+
+-- the element of a node
+abbrev pub result_of_node : (ℕ → Outcome Known) → ArrayNode → Index → Outcome Reckoned
+result_of_node variable = para-ArrayNode (Index → Outcome Reckoned) (Index → Outcome Known) (result_node variable) known_part
+
+-- an expression, a term or factor, a branch with what is known of their elements
+abbrev pub part_of : (ℕ → Outcome Known) → ArrayExpr → Part
+part_of variable e = (e, known_by variable e)
+
+abbrev pub signed_of : (ℕ → Outcome Known) → Bool × Bool × ArrayExpr → Factor
+signed_of variable term = (term.0, term.1, part_of variable term.2)
+
+abbrev pub branch_of : (ℕ → Outcome Known) → ArrayExpr × ArrayExpr → Part × Part
+branch_of variable branch = (part_of variable branch.0, part_of variable branch.1)
 
 -- ---- virtual variables
 

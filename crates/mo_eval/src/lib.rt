@@ -3,14 +3,23 @@
 //! - [`Value`]: what is known of an expression before a simulation.
 //! - [`Scalar`]: a value that is decided.
 //! - [`Reckoned`]: what an operation gives.
+//! - [`known`]: what is known of a resolved expression at an index, where [`Told`] says what is read of its variables; or why that is
+//!   not known ([`Halt`]).
 //!
 //! An expression is resolved in a scope, which puts virtual variables in the place of its names; its kind, its dimensions and its
 //! value are then those of the resolved expression. The definitions stand in specs/.
 #![tactic(auto)]
 
+mod answers;
 mod arithmetic;
+mod chains;
+mod elements;
+mod halt;
 mod operations;
 mod relations;
 mod value;
+mod walk;
 
+pub use halt::{Halt, Told};
 pub use value::{Reckoned, Scalar, Value};
+pub use walk::known;
