@@ -1,3 +1,4 @@
 pub mod Floats
 pub mod Below
 mod Examples
+pub mod SameData
