@@ -1,1 +1,4 @@
-pub mod Examples
+mod Examples
+pub mod Once
+pub mod OneReport
+pub mod SameLines

@@ -1,3 +1,4 @@
 pub mod Lines
 pub mod Size
 pub mod Right
+pub mod Same

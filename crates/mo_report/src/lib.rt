@@ -3,14 +3,18 @@
 //! - [`Report`]: what the analyses of an incidence found, with the names of the unknowns.
 //! - [`report_text`] writes it line by line.
 //! - [`report_fits`]: whether the derivatives in it stay within its limit.
+//!
+//! That a flat model has one right report is the contract of [`one_right_report`], which does nothing.
 #![tactic(auto)]
 
+mod laws;
 mod lines;
 mod pushing;
 mod report;
 mod size;
 mod square;
 
+pub use laws::one_right_report;
 pub use lines::report_text;
 pub use report::Report;
 pub use size::report_fits;

@@ -1,0 +1,4 @@
+pub mod Floats
+pub mod Below
+mod Examples
+pub mod SameData

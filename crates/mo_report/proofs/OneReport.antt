@@ -1,0 +1,188 @@
+-- A flat model has one right report.
+use Rattle.std.proofs.Common.{◌≡◌, ◌≢◌, ℕ, suc, ◌+◌, ◌-◌, ◌<◌, ◌≤◌, List, [], Option, Some, None, get_or, refl, sym, ap, ◌∙◌, arith}
+use Rattle.mo_graph.specs.Counting.{sum_below}
+use Rattle.mo_graph.proofs.Unique.{order-unique}
+use Rattle.mo_flat.specs.declared.model.FlatModel.{FlatModel}
+use Rattle.mo_incidence.specs.declared.findings.Offsets.{Offsets}
+use Rattle.mo_incidence.specs.declared.findings.Deficit.{Deficit}
+use Rattle.mo_incidence.specs.Signature.{Signature, equations}
+use Rattle.mo_incidence.specs.Assignment.{ListsWhere, IsDeficit, IsUndetermined, IsDeficient, IsMentionedInDeficit}
+use Rattle.mo_incidence.specs.Offsets.{by_place, by_number, sum_unknowns}
+use Rattle.mo_incidence.specs.Reasons.{AreReasonsOf}
+use Rattle.mo_incidence.specs.Model.{incidence_of}
+use Rattle.mo_incidence.specs.Blocks.{Needs, AreBlocksInOrder, numbers_in}
+use Rattle.mo_incidence.specs.Dummies.{dummies_of, states_of}
+use Rattle.mo_incidence.proofs.Transversals.{one-transversal}
+use Rattle.mo_report.specs.declared.report.Report.{Report}
+use Rattle.mo_report.specs.Right.{index_of, AreLeastOffsets, AreOrdersAt, HasOffsets, HasSquareParts, HasNoSquareParts, IsRightFor, singular, underdetermined, square, IsRightReport}
+use Rattle.mo_report.specs.Same.{deficit_lists, offset_lists, SaySame}
+use Rattle.mo_report.proofs.Once.{same-numbers, same-listed, no-deficit, same-reasons, one-entry}
+
+-- ---- offsets
+
+module _ (g : Signature) (o p : Offsets) (a : AreLeastOffsets g o) (b : AreLeastOffsets g p) where
+  same-c : o.c.items ≡ p.c.items
+  same-c = same-numbers o.c.items p.c.items (a.equations_all ∙ sym b.equations_all) (λ i l.
+      let il : i < equations g = omega (arith, a.equations_all, l) in
+      let under = (a.least.least.below (by_place p.c.items) (by_number p.d.items) b.least.admissible).equation i il in
+      let over = (b.least.least.below (by_place o.c.items) (by_number o.d.items) a.least.admissible).equation i il in
+      omega (arith, under, over))
+
+  same-d : o.d.items ≡ p.d.items
+  same-d = same-numbers o.d.items p.d.items (a.unknowns_all ∙ sym b.unknowns_all) (λ i l.
+      let il : suc i ≤ g.unknowns = omega (arith, a.unknowns_all, l) in
+      let back : suc i - 1 ≡ i = omega arith in
+      let under = (a.least.least.below (by_place p.c.items) (by_number p.d.items) b.least.admissible).unknown (suc i) (omega arith) il in
+      let over = (b.least.least.below (by_place o.c.items) (by_number o.d.items) a.least.admissible).unknown (suc i) (omega arith) il in
+      let low : get_or o.d.items i 0 ≤ get_or p.d.items i 0 = rw back at under in
+      let high : get_or p.d.items i 0 ≤ get_or o.d.items i 0 = rw back at over in
+      omega (arith, low, high))
+
+  same-pairs : o.pairs.items ≡ p.pairs.items
+  same-pairs = same-numbers o.pairs.items p.pairs.items (a.pairs_all ∙ sym b.pairs_all) (λ i l.
+      one-transversal g (by_place o.c.items) (by_number o.d.items) (by_place o.pairs.items) (by_place p.pairs.items) a.tight a.covers a.sequence
+      (rw (same-c, same-d) b.tight) b.covers (rw (same-c, same-d) b.sequence) i (omega (arith, a.pairs_all, l)))
+
+-- ---- orders
+
+same-orders : (m : FlatModel) (pairs orders others : List ℕ) → AreOrdersAt (incidence_of m) pairs orders → AreOrdersAt (incidence_of m) pairs others → orders ≡ others
+same-orders m pairs orders others a b = same-numbers orders others (a.all ∙ sym b.all) (λ i l.
+    let il : i < equations (incidence_of m) = omega (arith, a.all, l) in
+    let x = a.order i il in
+    let y = b.order i il in
+    let same : y.0 ≡ x.0 = one-entry m i x.0 y.0 x.1 y.1 (x.2 ∙ sym y.2) in
+    sym x.3 ∙ rw same at y.3)
+
+-- ---- what stands beside them
+
+module _ (g : Signature) (o p : Offsets) (c_is : o.c.items ≡ p.c.items) (d_is : o.d.items ≡ p.d.items) (t_is : o.pairs.items ≡ p.pairs.items) (r s : Report)
+    (a : HasSquareParts g o r) (b : HasSquareParts g p s) where
+  same-reason-lists : r.reasons.items ≡ s.reasons.items
+  same-reason-lists =
+      let other : AreReasonsOf g (by_place o.c.items) (by_number o.d.items) (by_place o.pairs.items) s.reasons.items = rw (c_is, d_is, t_is) b.reasons in
+      a.reasons.listed ∙ (same-reasons g (by_place o.c.items) (by_number o.d.items) (by_place o.pairs.items) a.reasons.by other.by a.reasons.reason other.reason (equations g) (omega arith) ∙ sym other.listed)
+
+  same-blocks : numbers_in r.blocks.0.items ≡ numbers_in s.blocks.0.items
+  same-blocks =
+      let other : AreBlocksInOrder g (by_place o.c.items) (by_number o.d.items) (by_place o.pairs.items) (numbers_in s.blocks.0.items) = rw (c_is, d_is, t_is) b.blocks in
+      order-unique (Needs g (by_place o.c.items) (by_number o.d.items) (by_place o.pairs.items)) (equations g) (numbers_in r.blocks.0.items) (numbers_in s.blocks.0.items) a.blocks other
+
+  same-dummies : r.dummies.chosen.items ≡ s.dummies.chosen.items
+  same-dummies =
+      let other : s.dummies.chosen.items ≡ dummies_of (by_place o.c.items) (by_number o.d.items) (by_place o.pairs.items) (equations g) = rw (c_is, d_is, t_is) b.dummies in
+      a.dummies ∙ sym other
+
+  same-states : r.dummies.states.items ≡ s.dummies.states.items
+  same-states =
+      let other : s.dummies.states.items ≡ states_of (by_place o.c.items) (by_number o.d.items) (by_place o.pairs.items) (equations g) g.unknowns = rw (c_is, d_is, t_is) b.states in
+      a.states ∙ sym other
+
+  same-index : r.index ≡ s.index
+  same-index =
+      let other : s.index ≡ index_of g (by_place o.c.items) (by_number o.d.items) = rw (c_is, d_is) b.index in
+      a.index ∙ sym other
+
+  same-freedom : r.freedom ≡ s.freedom
+  same-freedom =
+      let other : s.freedom + sum_below (by_place o.c.items) (equations g) ≡ sum_unknowns g (by_number o.d.items) = rw (c_is, d_is) b.freedom in
+      let one = a.freedom in
+      omega (arith, one, other)
+
+-- ---- the whole
+
+some-lists : (o p : Offsets) (x y : Option Offsets) → o.c.items ≡ p.c.items → o.d.items ≡ p.d.items → o.pairs.items ≡ p.pairs.items → x ≡ Some o → y ≡ Some p → offset_lists x ≡ offset_lists y
+some-lists o p x y c d t x_is y_is = rw (x_is, y_is, c, d, t) refl
+
+some-deficits : (a b : Deficit) (x y : Option Deficit) → a.equations.items ≡ b.equations.items → a.unknowns.items ≡ b.unknowns.items → x ≡ Some a → y ≡ Some b → deficit_lists x ≡ deficit_lists y
+some-deficits a b x y e u x_is y_is = rw (x_is, y_is, e, u) refl
+
+module _ (m : FlatModel) (r s : Report) (name : r.name ≡ s.name) (unknowns : r.unknowns ≡ s.unknowns) (equations_are : r.equations ≡ s.equations) where
+  -- neither has offsets
+  both-singular : (deficit other : Deficit) (k l : ℕ) → r.deficit ≡ Some deficit → s.deficit ≡ Some other
+      → IsDeficit (incidence_of m) deficit.equations.items deficit.unknowns.items k → IsDeficit (incidence_of m) other.equations.items other.unknowns.items l
+      → r.offsets ≡ None → s.offsets ≡ None → r.orders.items ≡ [] → s.orders.items ≡ [] → r.loose.items ≡ [] → s.loose.items ≡ []
+      → HasNoSquareParts r → HasNoSquareParts s → SaySame r s
+  both-singular deficit other k l r_is s_is a b no_r no_s orders_r orders_s loose_r loose_s none none' = record {
+    name = name;
+    unknowns = unknowns;
+    equations = equations_are;
+    orders = orders_r ∙ sym orders_s;
+    deficit = some-deficits deficit other r.deficit s.deficit
+        (same-listed (IsDeficient (incidence_of m)) (equations (incidence_of m)) deficit.equations.items other.equations.items a.equations b.equations)
+        (same-listed (IsMentionedInDeficit (incidence_of m)) (incidence_of m).unknowns deficit.unknowns.items other.unknowns.items a.unknowns b.unknowns) r_is s_is;
+    offsets = ap offset_lists (no_r ∙ sym no_s);
+    loose = loose_r ∙ sym loose_s;
+    reasons = none.reasons ∙ sym none'.reasons;
+    blocks = ap numbers_in (none.blocks ∙ sym none'.blocks);
+    dummies = none.dummies ∙ sym none'.dummies;
+    states = none.states ∙ sym none'.states;
+    index = none.index ∙ sym none'.index;
+    freedom = none.freedom ∙ sym none'.freedom;
+  }
+
+  module _ (o p : Offsets) (a : HasOffsets (incidence_of m) o r) (b : HasOffsets (incidence_of m) p s) where
+    c_same : o.c.items ≡ p.c.items
+    c_same = same-c (incidence_of m) o p a.least b.least
+
+    d_same : o.d.items ≡ p.d.items
+    d_same = same-d (incidence_of m) o p a.least b.least
+
+    t_same : o.pairs.items ≡ p.pairs.items
+    t_same = same-pairs (incidence_of m) o p a.least b.least
+
+    orders_same : r.orders.items ≡ s.orders.items
+    orders_same = same-orders m o.pairs.items r.orders.items s.orders.items a.orders (rw t_same b.orders)
+
+    both-loose : ListsWhere (IsUndetermined (incidence_of m)) (incidence_of m).unknowns r.loose.items → ListsWhere (IsUndetermined (incidence_of m)) (incidence_of m).unknowns s.loose.items
+        → HasNoSquareParts r → HasNoSquareParts s → SaySame r s
+    both-loose loose loose' none none' = record {
+      name = name;
+      unknowns = unknowns;
+      equations = equations_are;
+      orders = orders_same;
+      deficit = ap deficit_lists (a.no_deficit ∙ sym b.no_deficit);
+      offsets = some-lists o p r.offsets s.offsets c_same d_same t_same a.given b.given;
+      loose = same-listed (IsUndetermined (incidence_of m)) (incidence_of m).unknowns r.loose.items s.loose.items loose loose';
+      reasons = none.reasons ∙ sym none'.reasons;
+      blocks = ap numbers_in (none.blocks ∙ sym none'.blocks);
+      dummies = none.dummies ∙ sym none'.dummies;
+      states = none.states ∙ sym none'.states;
+      index = none.index ∙ sym none'.index;
+      freedom = none.freedom ∙ sym none'.freedom;
+    }
+
+    both-square : r.loose.items ≡ [] → s.loose.items ≡ [] → HasSquareParts (incidence_of m) o r → HasSquareParts (incidence_of m) p s → SaySame r s
+    both-square loose loose' parts parts' = record {
+      name = name;
+      unknowns = unknowns;
+      equations = equations_are;
+      orders = orders_same;
+      deficit = ap deficit_lists (a.no_deficit ∙ sym b.no_deficit);
+      offsets = some-lists o p r.offsets s.offsets c_same d_same t_same a.given b.given;
+      loose = loose ∙ sym loose';
+      reasons = same-reason-lists (incidence_of m) o p c_same d_same t_same r s parts parts';
+      blocks = same-blocks (incidence_of m) o p c_same d_same t_same r s parts parts';
+      dummies = same-dummies (incidence_of m) o p c_same d_same t_same r s parts parts';
+      states = same-states (incidence_of m) o p c_same d_same t_same r s parts parts';
+      index = same-index (incidence_of m) o p c_same d_same t_same r s parts parts';
+      freedom = same-freedom (incidence_of m) o p c_same d_same t_same r s parts parts';
+    }
+
+  never-both : (deficit : Deficit) (k : ℕ) (o : Offsets) → k ≢ 0 → IsDeficit (incidence_of m) deficit.equations.items deficit.unknowns.items k → AreLeastOffsets (incidence_of m) o → ⊥
+  never-both deficit k o some is least =
+      no-deficit (incidence_of m) (by_place o.c.items) (by_number o.d.items) (by_place o.pairs.items) least.tight least.covers deficit.equations.items deficit.unknowns.items k some is
+
+  found-same : IsRightFor (incidence_of m) r → IsRightFor (incidence_of m) s → SaySame r s
+  found-same (singular deficit k some r_is a no_r orders_r loose_r none) (singular other l some' s_is b no_s orders_s loose_s none') =
+      both-singular deficit other k l r_is s_is a b no_r no_s orders_r orders_s loose_r loose_s none none'
+  found-same (singular deficit k some r_is a no_r orders_r loose_r none) (underdetermined p less has loose' none') = absurd (never-both deficit k p some a has.least)
+  found-same (singular deficit k some r_is a no_r orders_r loose_r none) (square p same has loose' parts') = absurd (never-both deficit k p some a has.least)
+  found-same (underdetermined o less has loose none) (singular other l some' s_is b no_s orders_s loose_s none') = absurd (never-both other l o some' b has.least)
+  found-same (underdetermined o less has loose none) (underdetermined p less' has' loose' none') = both-loose o p has has' loose loose' none none'
+  found-same (underdetermined o less has loose none) (square p same has' loose' parts') = absurd (omega (arith, less, same))
+  found-same (square o same has loose parts) (singular other l some' s_is b no_s orders_s loose_s none') = absurd (never-both other l o some' b has.least)
+  found-same (square o same has loose parts) (underdetermined p less' has' loose' none') = absurd (omega (arith, less', same))
+  found-same (square o same has loose parts) (square p same' has' loose' parts') = both-square o p has has' loose loose' parts parts'
+
+pub one-report : (m : FlatModel) (r s : Report) → IsRightReport m r → IsRightReport m s → SaySame r s
+one-report m r s a b = found-same m r s (a.name ∙ sym b.name) (a.unknowns ∙ sym b.unknowns) (a.equations ∙ sym b.equations) a.found b.found
