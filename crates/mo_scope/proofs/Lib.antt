@@ -1,5 +1,7 @@
+pub mod Entering
 pub mod Keys
 mod Models
+pub mod Named
 pub mod Numbered
 pub mod Picking
 pub mod RowsFound

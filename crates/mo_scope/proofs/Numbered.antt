@@ -120,7 +120,7 @@ read_at f w xs n x same below is =
 absurd_none : {A : Type 0} {B : Type 0} (a : A) → None ≡ Some a → B
 absurd_none a e = cc
 
-at_append : {A : Type 0} (xs : List A) (y : A) (n : ℕ) (x : A) → slice_get (xs ++ y ∷ []) n ≡ Some x → (slice_get xs n ≡ Some x) ⊎ ((n ≡ length xs) × (y ≡ x))
+pub at_append : {A : Type 0} (xs : List A) (y : A) (n : ℕ) (x : A) → slice_get (xs ++ y ∷ []) n ≡ Some x → (slice_get xs n ≡ Some x) ⊎ ((n ≡ length xs) × (y ≡ x))
 at_append [] y zero x at = inr (refl, grind arith)
 at_append [] y (suc n) x at = absurd_none x at
 at_append (z ∷ xs) y zero x at = inl at

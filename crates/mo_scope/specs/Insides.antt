@@ -1,6 +1,7 @@
 -- What `Scopes` holds inside, as data.
 use Rattle.std.specs.Prelude.{map}
 use Rattle.mo_scope.specs.declared.scopes.Scopes.TheInside.{Inside}
+use Rattle.mo_scope.specs.Bare.{AreEntered, entered_held}
 use Rattle.mo_scope.specs.Classes.{AreClasses}
 use Rattle.mo_scope.specs.Worlds.{World, IsSound}
 use Rattle.mo_scope.specs.Entries.{entry_seen, table_seen}
@@ -15,3 +16,5 @@ world_of scopes = record {
 pub record IsSoundInside (scopes : Inside) : Type 0 where
   pub world : IsSound (world_of scopes)
   pub classes : AreClasses scopes.tree.now.files scopes.classes
+  -- frames with no sources, no path and no owner are found by their class and the frame around it
+  pub entered : AreEntered (map entry_seen scopes.frames.items) (entered_held scopes.entered)

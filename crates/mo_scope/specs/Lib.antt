@@ -1,4 +1,6 @@
 pub mod Arguments
+pub mod Bare
+pub mod ByName
 pub mod Classes
 pub mod Compatible
 pub mod Entries

@@ -2,8 +2,8 @@
 //! 5.4, 5.6, 7.1 to 7.3 and 13.2).
 //!
 //! - `Scopes`: the classes of the files and frames by number. `row`, `top_class`, `number_at` and `declared` read the
-//!   classes; `enter` makes a frame; `class_of`, `sources`, `outer`, `path` and `owner` read it; `keep` and `table` hold
-//!   the table of its elements.
+//!   classes; `enter` makes a frame and `entered` finds one that only looks a class up; `class_of`, `sources`, `outer`,
+//!   `path` and `owner` read it; `keep` and `table` hold the table of its elements, which `MemberTable` finds by name.
 //! - `Source`: what modifies a class, by reference into the class tree. `pick_here` finds the value that sources give for it.
 //! - `Row`, `Declares`, `Member`: a class with what it declares, and an element of a frame.
 //!
@@ -13,9 +13,11 @@
 
 mod classes;
 mod declaring;
+mod entered;
 mod frame;
 mod groups;
 mod making;
+mod names;
 mod pick;
 mod places;
 mod row;

@@ -1,6 +1,7 @@
 //! Frames by number, and the tables of their elements.
-ghost use Rattle.std.specs.Prelude.{◌≡◌, List as Seq, ◌+◌, ◌<◌, [], ◌∷◌, ◌++◌, length, map, Some, None, option_map, slice_get, IfOk, IfSome, OnOk, OnErr, IsTrue, IsNone, ◌↔◌, set, option_copied, find};
+ghost use Rattle.std.specs.Prelude.{◌≡◌, List as Seq, ◌+◌, ◌<◌, [], ◌∷◌, ◌++◌, length, map, Some, None, option_map, slice_get, IfOk, IfSome, IsSome, ℕ, OnOk, OnErr, IsTrue, IsNone, ◌↔◌, set, option_copied, find};
 ghost use Rattle.std.specs.Str.{bytes_eq};
+ghost use Rattle.mo_scope.specs.Bare.{bare_entry};
 ghost use Rattle.mo_scope.specs.Frames.{Frame, class_of, sources_of, outer_of, at_of, owner_of, is_top, In, gathered, looked_up};
 ghost use Rattle.mo_scope.specs.Rows.{number_of_classes, row_at, number_at, number_of_element, class_number, top_classes};
 ghost use Rattle.mo_scope.specs.Parts.{declared_in};
@@ -11,6 +12,7 @@ ghost use Rattle.mo_scope.specs.Worlds.{MemberEntry, IsTable, AreFrames, AreHome
 
 use crate::classes::Classes;
 use crate::declaring::declared_by;
+use crate::entered::Entered;
 use crate::frame::FrameData;
 use crate::row::{Declares, Row};
 use crate::source::Source;
@@ -27,6 +29,7 @@ pub struct Scopes<'t> {
     tree: &'t ClassTree,
     classes: Classes<'t>,
     frames: Vec<FrameData<'t>>,
+    entered: Entered,
 }
 
 impl<'t> Model for Scopes<'t> {
@@ -58,6 +61,7 @@ impl<'t> Scopes<'t> {
             tree,
             classes: Classes::new(alloc, tree.files.as_slice())?,
             frames: Vec::new(alloc),
+            entered: Entered::new(alloc),
         })
     }
 
@@ -114,12 +118,13 @@ impl<'t> Scopes<'t> {
     }
 
     /// The frame of a class that was entered with no sources, no path and no owner in that enclosing frame, None where
-    /// none is known.
-    pub fn entered(&self, _class: ClassId, _outer: Option<FrameId>) -> Option<FrameId>
-        ensures is { IfSome result (λ frame. frame_at self.now frame.0 ≡ looked_up _class.0 [] (frame_or_top (frames_of self.now) (option_map number_of _outer))) }
+    /// there is none.
+    pub fn entered(&self, class: ClassId, outer: Option<FrameId>) -> Option<FrameId>
+        ensures is { IfSome result (λ frame. frame_at self.now frame.0 ≡ looked_up class.0 [] (frame_or_top (frames_of self.now) (option_map number_of outer))) }
         ensures exists { IfSome result (λ frame. IsFrame self.now frame.0) }
+        ensures whole { (n : ℕ) → slice_get self.now.entries n ≡ Some (bare_entry class.0 (option_map number_of outer)) → IsSome result }
     {
-        None
+        self.entered.frame(class, outer)
     }
 
     /// Enters a class: a new number for that frame. The numbers before keep their frames, after a refusal too.
@@ -147,15 +152,23 @@ impl<'t> Scopes<'t> {
         if number >= 4294967295 {
             return Err(NoMemory);
         }
-        self.frames.push(FrameData {
+        let frame = FrameData {
             class,
             sources,
             outer,
             at,
             owner,
             table: None,
-        })?;
-        Ok(FrameId(number as u32))
+        };
+        let bare = frame.is_bare();
+        self.frames.push(frame)?;
+        match self.entered.put(bare, class, outer, number as u32) {
+            Ok(()) => Ok(FrameId(number as u32)),
+            Err(refused) => {
+                self.frames.truncate(number);
+                Err(refused)
+            }
+        }
     }
 
     /// What is held of a frame.

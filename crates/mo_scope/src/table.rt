@@ -1,20 +1,26 @@
 //! Tables of the elements of frames, in their order.
-ghost use Rattle.std.specs.Prelude.{◌≡◌, [], ◌∷◌, ◌++◌, map, OnOk, OnErr};
+ghost use Rattle.std.specs.Prelude.{◌≡◌, [], ◌∷◌, ◌++◌, find, map, option_map, option_copied, OnOk, OnErr};
+ghost use Rattle.std.specs.Str.{bytes_eq};
 ghost use Rattle.mo_scope.specs.Sights.{member_seen};
 
+use crate::names::Names;
 use crate::row::Member;
-use mo_syntax::{List, NoMemory};
+use mo_syntax::{List, NoMemory, Text};
 use std::alloc::Global;
 use std::marker::Model;
 
-/// The elements of a frame in their order, which contracts see as their list.
+/// The elements of a frame in their order, found by name, which contracts see as their list.
 #[derive(Drop)]
-pub struct MemberTable<'t>(List<Member<'t>>);
+pub struct MemberTable<'t> {
+    members: List<Member<'t>>,
+    names: Names<'t>,
+}
 
 impl<'t> Model for MemberTable<'t> {
     ghost use Rattle.std.specs.Prelude.{List, map};
     ghost use Rattle.mo_scope.specs.Worlds.{MemberEntry};
     ghost use Rattle.mo_scope.specs.Sights.{member_seen};
+    ghost use Rattle.mo_scope.specs.ByName.{AreNames};
     ghost use Rattle.mo_syntax.specs.contracts.class.Give as give;
     ghost use Rattle.mo_syntax.specs.contracts.class.What as what;
     ghost use Rattle.mo_syntax.specs.contracts.expr.Expr as expr;
@@ -24,7 +30,9 @@ impl<'t> Model for MemberTable<'t> {
 
     ghost coded = { Prim.hlevel (codes, give.the_row.coded, what.the_row.coded, expr.the_row.coded) };
 
-    ghost view = { λ t. map member_seen t.0 };
+    ghost view = { λ t. map member_seen t.members };
+
+    ghost invariant = { λ t. AreNames (map member_seen t.members) t.names };
 }
 
 impl<'t> MemberTable<'t> {
@@ -32,7 +40,10 @@ impl<'t> MemberTable<'t> {
     pub fn new(alloc: Global) -> MemberTable<'t>
         ensures { result ≡ [] }
     {
-        MemberTable(List::new(alloc))
+        MemberTable {
+            members: List::new(alloc),
+            names: Names::new(alloc),
+        }
     }
 
     /// Adds an element at the end.
@@ -40,13 +51,32 @@ impl<'t> MemberTable<'t> {
         ensures ok { OnOk result (self.new ≡ self.old ++ member_seen member.entry ∷ []) }
         ensures err { OnErr result (self.new ≡ self.old) }
     {
-        self.0.push(member)
+        let name = member.name;
+        let at = self.members.len();
+        self.members.push(member)?;
+        match self.names.put(name, at) {
+            Ok(()) => Ok(()),
+            Err(refused) => {
+                self.members.pop();
+                Err(refused)
+            }
+        }
+    }
+
+    /// The first element with that name, found by its key.
+    pub fn find(&self, name: &Text) -> Option<&Member<'t>>
+        ensures { option_map member_seen (option_copied result) ≡ find (λ member. bytes_eq member.name name.now) self.now }
+    {
+        match self.names.place(name) {
+            Some(at) => self.members.get(at),
+            None => None,
+        }
     }
 
     /// The elements in their order.
     pub fn members(&self) -> &[Member<'t>]
         ensures { map member_seen result.now ≡ self.now }
     {
-        self.0.as_slice()
+        self.members.as_slice()
     }
 }

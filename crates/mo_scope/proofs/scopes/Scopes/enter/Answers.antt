@@ -1,24 +1,36 @@
 -- A frame that is pushed behind the others.
-use Rattle.std.proofs.Common.{refl, ◌∙◌}
+use Rattle.std.proofs.Common.{◌≡◌, ap, sym, subst, refl, ◌∙◌, map}
+use Rattle.mo_scope.specs.Bare.{entered_held}
 use Rattle.mo_scope.specs.Entries.{entry_seen, table_seen}
-use Rattle.mo_scope.proofs.Numbered.{grows_pushed, tables_pushed, sound_pushed, frame_pushed}
+use Rattle.mo_scope.specs.Worlds.{IsSound}
+use Rattle.mo_scope.proofs.Entering.{entered_pushed, entered_same, taken_back}
+use Rattle.mo_scope.proofs.Numbered.{world, grows_pushed, sound_pushed, frame_pushed}
 use Rattle.mo_scope.proofs.scopes.Scopes.enter.Goals as goal
 
-pub invariant_of-self-2 : goal.invariant_of-self-2
-invariant_of-self-2 c = record {
+pub invariant_of-self-in-Ok : goal.invariant_of-self-in-Ok
+invariant_of-self-in-Ok c = record {
   world = sound_pushed entry_seen table_seen c.self.inside.tree.now.files c.self.inside.frames.items c.push.new.self.items _ c.args.self.now
       c.self.view_is c.self.invariant.world c.in_ok-push.ensures.items refl c.requires.class c.requires.sources c.requires.outer c.requires.owner;
   classes = c.self.invariant.classes;
+  entered = entered_pushed entry_seen c.self.inside.frames.items c.push.new.self.items _ c.is_bare-bare.result (entered_held c.self.inside.entered) (entered_held c.put.new.self) c.len-number.result
+      c.self.invariant.entered (c.len-number.ensures ∙ c.self.inside.frames.ok.0) c.in_ok-push.ensures.items c.is_bare-bare.ensures c.in-Ok.ensures.ok;
 }
 
-pub returns-clause-grows : goal.returns-clause-grows
-returns-clause-grows c = grows_pushed entry_seen table_seen c.self.inside.tree.now.files c.self.inside.frames.items c.push.new.self.items _ c.args.self.now
+pub invariant_of-self-in-Err : goal.invariant_of-self-in-Err
+invariant_of-self-in-Err c =
+    let back : c.truncate.new.self.items ≡ c.self.inside.frames.items =
+    taken_back c.self.inside.frames.items c.push.new.self.items c.truncate.new.self.items _ c.len-number.result c.in_ok-push.ensures.items c.truncate.ensures.items (c.len-number.ensures ∙ c.self.inside.frames.ok.0) in
+    record {
+      world = subst (λ xs. IsSound (world entry_seen table_seen c.self.inside.tree.now.files xs)) (sym back) c.self.invariant.world;
+      classes = c.self.invariant.classes;
+      entered = entered_same (map entry_seen c.self.inside.frames.items) (map entry_seen c.truncate.new.self.items) (entered_held c.self.inside.entered) (entered_held c.put.new.self)
+          c.self.invariant.entered (ap (map entry_seen) back) c.in-Err.ensures.err;
+    }
+
+pub returns-in-Ok-clause-grows : goal.returns-in-Ok-clause-grows
+returns-in-Ok-clause-grows c = grows_pushed entry_seen table_seen c.self.inside.tree.now.files c.self.inside.frames.items c.push.new.self.items _ c.args.self.now
     c.self.view_is c.in_ok-push.ensures.items
 
-pub returns-clause-is : goal.returns-clause-is
-returns-clause-is c = frame_pushed entry_seen table_seen c.self.inside.tree.now.files c.self.inside.frames.items c.push.new.self.items _ c.args.self.now
+pub returns-in-Ok-clause-is : goal.returns-in-Ok-clause-is
+returns-in-Ok-clause-is c = frame_pushed entry_seen table_seen c.self.inside.tree.now.files c.self.inside.frames.items c.push.new.self.items _ c.args.self.now
     c.len-number.result c.self.view_is c.in_ok-push.ensures.items (c.len-number.ensures ∙ c.self.inside.frames.ok.0)
-
-pub returns-clause-tables : goal.returns-clause-tables
-returns-clause-tables c = tables_pushed entry_seen table_seen c.self.inside.tree.now.files c.self.inside.frames.items c.push.new.self.items _ c.args.self.now
-    c.self.view_is c.in_ok-push.ensures.items refl

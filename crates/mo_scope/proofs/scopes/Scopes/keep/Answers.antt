@@ -1,6 +1,8 @@
 -- A table that is put into its frame.
-use Rattle.std.proofs.Common.{refl}
+use Rattle.std.proofs.Common.{map, ap, sym, refl, ◌∙◌}
+use Rattle.mo_scope.specs.Bare.{entered_held}
 use Rattle.mo_scope.specs.Entries.{entry_seen, table_seen}
+use Rattle.mo_scope.proofs.Entering.{entered_same}
 use Rattle.mo_scope.proofs.Numbered.{kept_set, sound_set}
 use Rattle.mo_scope.proofs.scopes.Scopes.keep.Goals as goal
 
@@ -9,6 +11,12 @@ invariant_of-self c = record {
   world = sound_set entry_seen table_seen c.self.inside.tree.now.files c.self.inside.frames.items c.args.frame.0 c.index_mut.result.now _ c.args.table c.args.self.now
       c.self.view_is c.self.invariant.world c.index_mut.ensures.value refl refl (record { elements = c.requires.elements; homes = c.requires.homes });
   classes = c.self.invariant.classes;
+  entered = entered_same (map entry_seen c.self.inside.frames.items) _ (entered_held c.self.inside.entered) (entered_held c.self.inside.entered) c.self.invariant.entered
+      (ap (λ w. w.entries)
+      (kept_set entry_seen table_seen c.self.inside.tree.now.files c.self.inside.frames.items c.args.frame.0 c.index_mut.result.now _ c.args.table c.args.self.now
+      c.self.view_is c.index_mut.ensures.value refl refl)
+      ∙ sym (ap (λ w. w.entries) c.self.view_is))
+      (λ class outer. refl);
 }
 
 pub returns : goal.returns

@@ -1,0 +1,19 @@
+-- Elements by name.
+use Rattle.std.specs.Prelude.{◌≡◌, ℕ, ◌+◌, List, [], ◌∷◌, Option, Some, None, option_map, if◌then◌else◌}
+use Rattle.std.specs.HashMap.{get_by}
+use Rattle.std.specs.Str.{bytes_eq}
+use Rattle.mo_scope.specs.declared.names.Names.{Names}
+use Rattle.mo_scope.specs.Worlds.{MemberEntry}
+
+-- the place of a name, None where it has none
+abbrev pub place_held : Names → List ℕ → Option ℕ
+place_held names name = get_by (λ k. bytes_eq name k.now) names.places
+
+-- how many elements stand before the first one with that name
+abbrev pub place_of : List ℕ → List MemberEntry → Option ℕ
+place_of name [] = None
+place_of name (member ∷ members) = if bytes_eq member.name name then Some 0 else option_map (λ n. n + 1) (place_of name members)
+
+-- each name has the place of the first element with that name
+abbrev pub AreNames : List MemberEntry → Names → Type 0
+AreNames members names = (name : List ℕ) → place_held names name ≡ place_of name members
