@@ -2,4 +2,6 @@
 pub mod Notation
 pub mod Bindings
 pub mod Connects
+pub mod Constants
 pub mod Equations
+pub mod Sections
