@@ -7,7 +7,7 @@ use Rattle.mo_syntax.specs.declared.equation.EquationOf.{EquationOf}
 use Rattle.mo_syntax.specs.declared.expr.Expr.{Expr, roll-Expr, para-roll-Expr}
 use Rattle.mo_syntax.specs.declared.expr.IndexOf.{IndexOf}
 use Rattle.mo_syntax.specs.declared.expr.Node.{Node, Node-F, para-Node, para-roll-Node}
-use Rattle.mo_syntax.specs.declared.expr.Node.TheVariants.{Range, Ref, Truth, Whole, rolls-Range, rolls-Ref, rolls-Truth, rolls-Whole}
+use Rattle.mo_syntax.specs.declared.expr.Node.TheVariants.{EndMark, Range, Ref, Truth, Whole, rolls-EndMark, rolls-Range, rolls-Ref, rolls-Truth, rolls-Whole}
 use Rattle.mo_syntax.specs.declared.expr.PartOf.{PartOf}
 use Rattle.mo_syntax.specs.declared.expr.ReferenceOf.{ReferenceOf}
 use Rattle.mo_syntax.specs.declared.place.Place.{Place}
@@ -99,3 +99,7 @@ module _ (table : Table) (ask : Ask) (scope : Scope) where
   at_dotted a b p q = ap (made_below table ask scope) (sym (rolls-Ref (record { top = false; parts = indexed a p [] ∷ indexed b q [] ∷ [] })))
       ∙ para-roll-Node (Option Part) Resolving (Option (List Part)) (Context → Making ArrayExpr) argument_of (made_node table ask scope) arguments_of made_expr
       (Node-F.Ref (record { top = false; parts = indexed a p [] ∷ indexed b q [] ∷ [] }))
+
+  pub at_EndMark : made_below table ask scope EndMark ≡ made_node table ask scope Node-F.EndMark
+  at_EndMark = ap (made_below table ask scope) (sym rolls-EndMark)
+      ∙ para-roll-Node (Option Part) Resolving (Option (List Part)) (Context → Making ArrayExpr) argument_of (made_node table ask scope) arguments_of made_expr Node-F.EndMark
