@@ -1,5 +1,5 @@
 -- What each form of equation gives, and what resolving makes of a name and of a literal.
-use Rattle.std.proofs.Common.{◌≡◌, ℕ, ℤ, false, List, [], ◌∷◌, map, Option, Some, None, refl, ap, sym, ◌∙◌}
+use Rattle.std.proofs.Common.{◌≡◌, ℕ, ℤ, Bool, false, List, [], ◌∷◌, map, Option, Some, None, refl, ap, sym, ◌∙◌}
 use Rattle.mo_syntax.specs.declared.equation.EquationKind.{EquationKind, EquationKind-F, fold_out-EquationKind}
 use Rattle.mo_syntax.specs.declared.equation.EquationKind.TheVariants.{Equal, Connect, outs-Equal, outs-Connect}
 use Rattle.mo_syntax.specs.declared.equation.EquationKind.TheVariants.{If as if_equation, outs-If as outs-if_equation, For as for_equation, outs-For as outs-for_equation}
@@ -7,7 +7,7 @@ use Rattle.mo_syntax.specs.declared.equation.EquationOf.{EquationOf}
 use Rattle.mo_syntax.specs.declared.expr.Expr.{Expr, roll-Expr, para-roll-Expr}
 use Rattle.mo_syntax.specs.declared.expr.IndexOf.{IndexOf}
 use Rattle.mo_syntax.specs.declared.expr.Node.{Node, Node-F, para-Node, para-roll-Node}
-use Rattle.mo_syntax.specs.declared.expr.Node.TheVariants.{Range, Ref, Whole, rolls-Range, rolls-Ref, rolls-Whole}
+use Rattle.mo_syntax.specs.declared.expr.Node.TheVariants.{EndMark, Range, Ref, Truth, Whole, rolls-EndMark, rolls-Range, rolls-Ref, rolls-Truth, rolls-Whole}
 use Rattle.mo_syntax.specs.declared.expr.PartOf.{PartOf}
 use Rattle.mo_syntax.specs.declared.expr.ReferenceOf.{ReferenceOf}
 use Rattle.mo_syntax.specs.declared.place.Place.{Place}
@@ -72,6 +72,10 @@ module _ (table : Table) (ask : Ask) (scope : Scope) where
   at_Whole n = ap (made_below table ask scope) (sym (rolls-Whole n))
       ∙ para-roll-Node (Option Part) Resolving (Option (List Part)) (Context → Making ArrayExpr) argument_of (made_node table ask scope) arguments_of made_expr (Node-F.Whole n)
 
+  pub at_Truth : (b : Bool) → made_below table ask scope (Truth b) ≡ made_node table ask scope (Node-F.Truth b)
+  at_Truth b = ap (made_below table ask scope) (sym (rolls-Truth b))
+      ∙ para-roll-Node (Option Part) Resolving (Option (List Part)) (Context → Making ArrayExpr) argument_of (made_node table ask scope) arguments_of made_expr (Node-F.Truth b)
+
   pub at_name : (name : List ℕ) (place : Place) → made_below table ask scope (Ref (simple (indexed name place [])))
       ≡ made_node table ask scope (Node-F.Ref (simple (indexed name place [])))
   at_name name place = ap (made_below table ask scope) (sym (rolls-Ref (simple (indexed name place []))))
@@ -87,3 +91,15 @@ module _ (table : Table) (ask : Ask) (scope : Scope) where
       ≡ made_node table ask scope (Node-F.Range (as_part table ask scope first) None (as_part table ask scope last))
   at_Range first last = ap (made_below table ask scope) (sym (rolls-Range first None last))
       ∙ para-roll-Node (Option Part) Resolving (Option (List Part)) (Context → Making ArrayExpr) argument_of (made_node table ask scope) arguments_of made_expr (Node-F.Range first None last)
+
+  -- two identifiers with a dot between them
+  pub at_dotted : (a b : List ℕ) (p q : Place) →
+      made_below table ask scope (Ref (record { top = false; parts = indexed a p [] ∷ indexed b q [] ∷ [] }))
+      ≡ made_node table ask scope (Node-F.Ref (record { top = false; parts = indexed a p [] ∷ indexed b q [] ∷ [] }))
+  at_dotted a b p q = ap (made_below table ask scope) (sym (rolls-Ref (record { top = false; parts = indexed a p [] ∷ indexed b q [] ∷ [] })))
+      ∙ para-roll-Node (Option Part) Resolving (Option (List Part)) (Context → Making ArrayExpr) argument_of (made_node table ask scope) arguments_of made_expr
+      (Node-F.Ref (record { top = false; parts = indexed a p [] ∷ indexed b q [] ∷ [] }))
+
+  pub at_EndMark : made_below table ask scope EndMark ≡ made_node table ask scope Node-F.EndMark
+  at_EndMark = ap (made_below table ask scope) (sym rolls-EndMark)
+      ∙ para-roll-Node (Option Part) Resolving (Option (List Part)) (Context → Making ArrayExpr) argument_of (made_node table ask scope) arguments_of made_expr Node-F.EndMark

@@ -1,12 +1,12 @@
 -- What is asked of resolved variables, literals and ranges, and what they give.
-use Rattle.std.proofs.Common.{◌≡◌, ℕ, ℤ, List, [], ◌∷◌, Some, None, Ok, Err, refl, ap, sym, ◌∙◌}
+use Rattle.std.proofs.Common.{◌≡◌, ℕ, ℤ, Bool, List, [], ◌∷◌, Some, None, Ok, Err, refl, ap, sym, ◌∙◌}
 use Rattle.mo_syntax.specs.declared.meaning.Kind.{Kind}
 use Rattle.mo_syntax.specs.declared.meaning.Kind.TheVariants as kinds
 use Rattle.mo_syntax.specs.declared.place.Broken.{Broken}
 use Rattle.mo_syntax.specs.declared.place.Place.{Place}
 use Rattle.mo_flat.specs.declared.array.ArrayExpr.{ArrayExpr, roll-ArrayExpr, fold-roll-ArrayExpr, para-roll-ArrayExpr}
 use Rattle.mo_flat.specs.declared.array.ArrayNode.{ArrayNode, ArrayNode-F, fold-roll-ArrayNode, para-ArrayNode, para-roll-ArrayNode}
-use Rattle.mo_flat.specs.declared.array.ArrayNode.TheVariants.{Vars, Whole, Range, rolls-Vars, rolls-Whole, rolls-Range}
+use Rattle.mo_flat.specs.declared.array.ArrayNode.TheVariants.{Vars, Whole, Truth, Range, rolls-Vars, rolls-Whole, rolls-Truth, rolls-Range}
 use Rattle.mo_flat.specs.declared.expr.FlatExpr.{FlatExpr, fold_out-FlatExpr}
 use Rattle.mo_flat.specs.declared.expr.FlatExpr as flat
 use Rattle.mo_flat.specs.declared.expr.FlatExpr.TheVariants.{outs-Var, outs-Whole}
@@ -65,6 +65,15 @@ pub whole_has : (place : Place) (n : ℤ) → Has (at_place place (Whole n)) kin
 whole_has place n = by_node place (Whole n) kinds.Whole [] (kind_of_whole place n)
     (ap (λ (f : Place → Outcome Dims). f place) (ap dims_of_node (sym (rolls-Whole n)) ∙ fold-roll-ArrayNode (Place → Outcome Dims) DimsPart dims_node dims_part (ArrayNode-F.Whole n)))
     (ap subscripts_of_node (sym (rolls-Whole n)) ∙ para-roll-ArrayNode Checked Checked subscripts_node subscripts_part (ArrayNode-F.Whole n))
+
+kind_of_truth : (place : Place) (b : Bool) → kind_of_node (Truth b) place ≡ Ok kinds.Truth
+kind_of_truth place b = ap (λ (f : Place → Outcome Kind). f place)
+    (ap kind_of_node (sym (rolls-Truth b)) ∙ fold-roll-ArrayNode (Place → Outcome Kind) KindPart kind_node kind_part (ArrayNode-F.Truth b))
+
+pub truth_has : (place : Place) (b : Bool) → Has (at_place place (Truth b)) kinds.Truth []
+truth_has place b = by_node place (Truth b) kinds.Truth [] (kind_of_truth place b)
+    (ap (λ (f : Place → Outcome Dims). f place) (ap dims_of_node (sym (rolls-Truth b)) ∙ fold-roll-ArrayNode (Place → Outcome Dims) DimsPart dims_node dims_part (ArrayNode-F.Truth b)))
+    (ap subscripts_of_node (sym (rolls-Truth b)) ∙ para-roll-ArrayNode Checked Checked subscripts_node subscripts_part (ArrayNode-F.Truth b))
 
 kind_of_range : (place : Place) (a b c : ℤ) → kind_of_node (Range a b c) place ≡ Ok kinds.Whole
 kind_of_range place a b c = ap (λ (f : Place → Outcome Kind). f place)
@@ -154,6 +163,11 @@ pub known_whole : (variable : ℕ → Outcome Known) (place : Place) (n : ℤ) �
 known_whole variable place n = known_at_node variable place (Whole n) [] (Is (scalar.Whole n)) kinds.Whole
     (ap (λ (f : Index → Outcome Reckoned). f []) (ap (result_below variable) (sym (rolls-Whole n)) ∙ para-roll-ArrayNode (Index → Outcome Reckoned) (Index → Outcome Known) (result_node variable) known_part (ArrayNode-F.Whole n)))
     (kind_of_whole place n)
+
+pub known_truth : (variable : ℕ → Outcome Known) (place : Place) (b : Bool) → known_by variable (at_place place (Truth b)) [] ≡ Ok (Some (scalar.Truth b))
+known_truth variable place b = known_at_node variable place (Truth b) [] (Is (scalar.Truth b)) kinds.Truth
+    (ap (λ (f : Index → Outcome Reckoned). f []) (ap (result_below variable) (sym (rolls-Truth b)) ∙ para-roll-ArrayNode (Index → Outcome Reckoned) (Index → Outcome Known) (result_node variable) known_part (ArrayNode-F.Truth b)))
+    (kind_of_truth place b)
 
 pub known_range : (variable : ℕ → Outcome Known) (place : Place) (a b c : ℤ) (index : Index) →
     known_by variable (at_place place (Range a b c)) index ≡ Ok (Some (scalar.Whole (range_element a b index)))

@@ -12,3 +12,4 @@ pub mod Equations
 pub mod Expansion
 pub mod Size
 pub mod Sound
+pub mod ElementValues

@@ -1,7 +1,7 @@
 -- The flat model of the class of a path, or the first rule that is broken (Modelica Language Specification 3.5, sections 5.6 and 9.2).
 --
 -- The phases come in this order: the asked class; its instances; variables and equations; connections; the size of the flat model.
-use Rattle.std.specs.Prelude.{◌≡◌, ℕ, List, ◌++◌, flat_map, All, Some, None, Ok, Err, if◌then◌else◌}
+use Rattle.std.specs.Prelude.{◌≡◌, ℕ, true, List, ◌++◌, flat_map, All, Some, None, Ok, Err, if◌then◌else◌}
 use Rattle.mo_syntax.specs.declared.class.FileTree.{FileTree}
 use Rattle.mo_syntax.specs.declared.place.Broken.{Broken}
 use Rattle.mo_syntax.specs.Classes.{ClassRow}
@@ -9,6 +9,7 @@ use Rattle.mo_syntax.specs.ClassTable.{class_of_path, broken_class}
 use Rattle.mo_flat.specs.declared.connect.Expanded.{Expanded}
 use Rattle.mo_flat.specs.declared.connect.FaceSet.{FaceSet}
 use Rattle.mo_flat.specs.declared.model.FlatModel.{FlatModel}
+use Rattle.mo_flat.specs.SoundConnects.{IsSoundConnects}
 use Rattle.mo_scope.specs.Outcome.{Outcome, and_then, breaks}
 use Rattle.mo_scope.specs.Rows.{table_of}
 use Rattle.mo_instance.specs.Instances.{instances_of}
@@ -16,7 +17,7 @@ use Rattle.mo_connect.specs.Alike.{IsConnectable, IsFirstBroken}
 use Rattle.mo_connect.specs.Equations.{equations_of}
 use Rattle.mo_connect.specs.Sets.{AreConnectionSets}
 use Rattle.mo_equations.specs.Expansion.{expansion_of}
-use Rattle.mo_equations.specs.Size.{is_too_large}
+use Rattle.mo_equations.specs.Size.{is_past, is_too_large}
 
 -- ---- instances, variables and equations
 
@@ -66,3 +67,16 @@ pub data Flattens (files : List FileTree) (path : List (List ℕ)) (told : Outco
       expansion_in files row.number ≡ Ok e → IsFirstBroken e.connects.list b → told ≡ Err b → Flattens files path told
   joined : (row : ClassRow) (e : Expanded) → class_of_path files path ≡ Some row → broken_class (Some row) ≡ None →
       expansion_in files row.number ≡ Ok e → Joins e told → Flattens files path told
+
+-- ---- laws
+
+-- What is told leaves no choice, where the connects are sound.
+abbrev pub FlattensOnce : Type 0
+FlattensOnce =
+    (files : List FileTree) (path : List (List ℕ)) (told other : Outcome FlatModel) →
+    ((row : ClassRow) (e : Expanded) → class_of_path files path ≡ Some row → expansion_in files row.number ≡ Ok e → IsSoundConnects e.connects) →
+    Flattens files path told → Flattens files path other → told ≡ other
+
+-- What is too large before its connection sets are known is too large with them, so that it need not be built.
+abbrev pub PastStaysPast : Type 0
+PastStaysPast = (e : Expanded) (sets : List FaceSet) → is_past e ≡ true → is_too_large (model_of e sets) ≡ true

@@ -1,9 +1,10 @@
 -- Worked examples of connects, by computation.
-use Rattle.std.proofs.Common.{◌≡◌, ℕ, Bool, true, false, List, [], ◌∷◌, Option, Some, None, Ok, codes, refl, ap}
+use Rattle.std.proofs.Common.{◌≡◌, ℕ, Bool, true, false, List, [], ◌∷◌, Option, Some, None, Ok, codes, refl, ap, ◌∙◌}
 use Prim.Native.String.{String}
 use Rattle.mo_syntax.specs.declared.class.Body.TheVariants.{Long}
 use Rattle.mo_syntax.specs.declared.class.Causal.TheVariants.{None as NoCausality}
 use Rattle.mo_syntax.specs.declared.class.ClassKind.TheVariants.{Connector}
+use Rattle.mo_syntax.specs.declared.class.ElementFlags.{ElementFlags}
 use Rattle.mo_syntax.specs.declared.class.Vary.TheVariants.{Free}
 use Rattle.mo_syntax.specs.declared.equation.EquationKind.TheVariants.{Connect}
 use Rattle.mo_syntax.specs.declared.expr.Expr.{Expr}
@@ -20,13 +21,15 @@ use Rattle.mo_scope.specs.Frames.{Frame, Top, In, No_source, Indexed}
 use Rattle.mo_scope.specs.Lookup.{walked}
 use Rattle.mo_scope.specs.Sizes.{sizes_from}
 use Rattle.mo_scope.specs.Instances.{Instance, Leaf}
+use Rattle.mo_eval.specs.Contexts.{for_value, only_scalar, only_truth}
 use Rattle.mo_eval.specs.Values.{reading}
 use Rattle.mo_equations.specs.Leaves.{Tree}
 use Rattle.mo_equations.specs.Connectors.{all_flows}
 use Rattle.mo_equations.specs.Equations.{made_kind}
-use Rattle.mo_scope.proofs.rows.Notation.{byte, id, name, component, row}
+use Rattle.mo_scope.proofs.rows.Notation.{byte, id, name, component, component_by, row}
 use Rattle.mo_equations.proofs.Forms.{at_Connect}
-use Rattle.mo_equations.proofs.rows.Notation.{root, in_class}
+use Rattle.mo_equations.proofs.Scalars.{known_truth, layers, truth_has}
+use Rattle.mo_equations.proofs.rows.Notation.{in_class, made_never, never, root}
 
 -- ---- notation
 
@@ -142,3 +145,90 @@ parts_are_no_connectors =
 pub flow_leaves : all_flows with_pins ≡ (2, byte 32) ∷ (4, byte 32) ∷ []
 unfolding with_pins
 flow_leaves = refl
+
+-- ---- a component that its condition removes
+
+-- TYPE NAME if false
+abbrev pub removed_component : ReferenceOf Expr → String → ℕ → ℕ → Part
+removed_component type name at at' = Element_of (record {
+  name = codes name;
+  place = byte at;
+  flags = no_flags;
+  sort = A_component (record {
+    prefix = record { flow = false; stream = false; vary = Free; causal = NoCausality };
+    base = type;
+    base_subs = [];
+    name = codes name;
+    place = byte at;
+    subs = [];
+    mods = record { 0 = [] };
+    binding = None;
+    condition = Some (never at');
+  });
+  own = no_modifiers;
+  limit = None;
+})
+
+--     .. model M Part q if false; equation connect(q.a, q); end M;
+pub with_removed : Tree
+with_removed = record {
+  classes =
+      connector 6 "Pin" 10 [] ∷
+      row 7 [] "Part" 30 [] (component (name (id "Pin" 35 ∷ [])) "a" 39 ∷ []) ∷
+      row 8 [] "M" 58 [] (removed_component (name (id "Part" 60 ∷ [])) "q" 65 70 ∷ []) ∷ [];
+  instances = record { frame = root 8; path = []; place = byte 58; dims = []; leaf = None } ∷ [];
+}
+
+-- the connect is removed, and its right end is not asked
+pub removed_connect :
+    made_kind with_removed (Connect (name (id "q" 95 ∷ id "a" 97 ∷ [])) (name (id "z" 100 ∷ []))) (byte 87) (in_class 8) 0
+    ≡ Ok (record { equations = []; asserts = []; connects = [] }, 0)
+unfolding walked sizes_from reading with_removed
+removed_connect =
+    ap (λ former. former (byte 87) (in_class 8) 0) (at_Connect with_removed (name (id "q" 95 ∷ id "a" 97 ∷ [])) (name (id "z" 100 ∷ [])))
+    ∙ rw (
+      made_never with_removed.classes (reading with_removed.classes 255) (in_class 8).scope 70 for_value,
+      layers (only_truth 40 (byte 70)) (only_scalar 40 (byte 70)) _ (truth_has (byte 70) false) refl refl,
+      known_truth _ (byte 70) false,
+    ) refl
+
+-- ---- an outer component
+
+abbrev pub flags_of : Bool → Bool → ElementFlags
+flags_of inner outer = record { redeclare = false; last = false; inner = inner; outer = outer; replaceable = false; hidden = false }
+
+abbrev pub component_flagged : ElementFlags → ReferenceOf Expr → String → ℕ → Part
+component_flagged flags type name at = component_by flags None Free type name at []
+
+--     connector Pin Real v; flow Real i; end Pin; model Rail Pin a; end Rail; model Load outer Rail r; Pin p; equation connect(r.a, p); end Load;
+--     model M inner Rail r; Load l; end M;
+abbrev pub load : Frame
+load = frame_of 8 ("l" ∷ []) (root 9)
+
+pub with_rail : Tree
+with_rail = record {
+  classes =
+      connector 6 "Pin" 10 (component (name (id "Real" 14 ∷ [])) "v" 19 ∷ flow_component (name (id "Real" 27 ∷ [])) "i" 32 ∷ []) ∷
+      row 7 [] "Rail" 50 [] (component (name (id "Pin" 55 ∷ [])) "a" 59 ∷ []) ∷
+      row 8 [] "Load" 77 [] (component_flagged (flags_of false true) (name (id "Rail" 88 ∷ [])) "r" 93 ∷ component (name (id "Pin" 96 ∷ [])) "p" 100 ∷ []) ∷
+      row 9 [] "M" 145 [] (component_flagged (flags_of true false) (name (id "Rail" 153 ∷ [])) "r" 158 ∷ component (name (id "Load" 161 ∷ [])) "l" 166 ∷ []) ∷ [];
+  instances =
+      record { frame = root 9; path = []; place = byte 145; dims = []; leaf = None } ∷
+      part_of 7 ("r" ∷ []) 158 None (root 9) ∷
+      part_of 6 ("r" ∷ "a" ∷ []) 59 None (frame_of 7 ("r" ∷ []) (root 9)) ∷
+      part_of 0 ("r" ∷ "a" ∷ "v" ∷ []) 19 number (frame_of 6 ("r" ∷ "a" ∷ []) (frame_of 7 ("r" ∷ []) (root 9))) ∷
+      part_of 0 ("r" ∷ "a" ∷ "i" ∷ []) 32 number (frame_of 6 ("r" ∷ "a" ∷ []) (frame_of 7 ("r" ∷ []) (root 9))) ∷
+      part_of 8 ("l" ∷ []) 166 None (root 9) ∷
+      part_of 6 ("l" ∷ "p" ∷ []) 100 None load ∷
+      part_of 0 ("l" ∷ "p" ∷ "v" ∷ []) 19 number (frame_of 6 ("l" ∷ "p" ∷ []) load) ∷
+      part_of 0 ("l" ∷ "p" ∷ "i" ∷ []) 32 number (frame_of 6 ("l" ∷ "p" ∷ []) load) ∷ [];
+}
+
+-- the rail of the outer component is a part of the inner one, and inside
+pub rail_is_connected :
+    made_kind with_rail (Connect (name (id "r" 120 ∷ id "a" 122 ∷ [])) (name (id "p" 125 ∷ []))) (byte 112) (record { scope = record { frame = load; iterations = [] }; undecided = false }) 0
+    ≡ Ok (record { equations = []; asserts = []; connects = record { place = byte 112; left = pin 120 Inside 1 2; right = pin 125 Outside 3 4 } ∷ [] }, 0)
+unfolding walked sizes_from reading with_rail
+rail_is_connected =
+    ap (λ former. former (byte 112) (record { scope = record { frame = load; iterations = [] }; undecided = false }) 0)
+    (at_Connect with_rail (name (id "r" 120 ∷ id "a" 122 ∷ [])) (name (id "p" 125 ∷ [])))

@@ -4,7 +4,7 @@ use Prim.Native.String.{String}
 use Rattle.mo_syntax.specs.declared.equation.EquationKind.TheVariants.{Equal}
 use Rattle.mo_syntax.specs.declared.expr.Expr.{Expr, roll-Expr}
 use Rattle.mo_syntax.specs.declared.expr.Node.{Node-F}
-use Rattle.mo_syntax.specs.declared.expr.Node.TheVariants.{Ref, Whole}
+use Rattle.mo_syntax.specs.declared.expr.Node.TheVariants.{Ref, Truth, Whole}
 use Rattle.mo_syntax.specs.declared.meaning.Kind.{Kind}
 use Rattle.mo_syntax.specs.declared.meaning.Role.{Role}
 use Rattle.mo_syntax.specs.declared.place.Place.{Place}
@@ -29,7 +29,7 @@ use Rattle.mo_equations.specs.Gathering.{Made}
 use Rattle.mo_equations.specs.Equalities.{Sides, made_side, made_sides}
 use Rattle.mo_equations.specs.Equations.{Site, made_kind}
 use Rattle.mo_scope.proofs.rows.Notation.{byte, name}
-use Rattle.mo_equations.proofs.Forms.{simple, indexed, at_Equal, at_expr, at_name, at_Whole}
+use Rattle.mo_equations.proofs.Forms.{simple, indexed, at_Equal, at_expr, at_name, at_Truth, at_Whole}
 use Rattle.mo_equations.proofs.Scalars.{IsSide, at_place, scalar_equation}
 
 -- ---- notation
@@ -94,6 +94,15 @@ number_side n at virtuals = Ok (at_place (byte at) (node.Whole (pos n)), virtual
 pub made_number : (table : Table) (ask : Ask) (scope : Scope) (n at : ℕ) (context : Context) → made table ask scope (number n at) context ≡ number_side n at
 made_number table ask scope n at context =
     ap (λ form. form context) (at_expr table ask scope (byte at) (Whole (pos n))) ∙ ap (λ form. form (byte at) context) (at_Whole table ask scope (pos n))
+
+-- `false`, resolved
+abbrev pub never : ℕ → Expr
+never at = roll-Expr (record { place = byte at; node = Truth false })
+
+pub made_never : (table : Table) (ask : Ask) (scope : Scope) (at : ℕ) (context : Context) →
+    made table ask scope (never at) context ≡ (λ virtuals. Ok (at_place (byte at) (node.Truth false), virtuals))
+made_never table ask scope at context =
+    ap (λ form. form context) (at_expr table ask scope (byte at) (Truth false)) ∙ ap (λ form. form (byte at) context) (at_Truth table ask scope false)
 
 pub both_sides : {a b c d : Making ArrayExpr} → a ≡ c → b ≡ d → made_sides a b ≡ made_sides c d
 both_sides p q = rw (p, q) refl
