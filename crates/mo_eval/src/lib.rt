@@ -13,8 +13,11 @@
 mod answers;
 mod arithmetic;
 mod chains;
+mod context;
 mod elements;
 mod halt;
+mod layers;
+mod making;
 mod operations;
 mod relations;
 mod value;
