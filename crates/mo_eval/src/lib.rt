@@ -24,6 +24,7 @@ mod making;
 mod operations;
 mod reading;
 mod relations;
+mod selecting;
 mod value;
 mod virtuals;
 mod walk;
