@@ -27,7 +27,8 @@ use Rattle.mo_eval.specs.declared.value.Scalar.TheVariants.{Whole as whole_scala
 use Rattle.mo_eval.specs.Scalars.{Known, division}
 use Rattle.mo_eval.specs.Virtuals.{Element, Virtual, Division, Making, make, make_then, make_from, make_each, make_variables}
 use Rattle.mo_eval.specs.Walk.{known_at}
-use Rattle.mo_eval.specs.Contexts.{Context, Part, alone, operand, argument_of_size, read_in, place_of, whole_of}
+use Rattle.mo_eval.specs.declared.context.Context.{Context}
+use Rattle.mo_eval.specs.Contexts.{Part, alone, operand, argument_of_size, read_in, place_of, whole_of}
 use Rattle.mo_eval.specs.References.{identifier}
 
 -- ---- the function
@@ -159,9 +160,9 @@ made_function read context place function arguments =
     (if is_among (DIV ∷ MOD ∷ REM ∷ []) function then made_division read context place function arguments else
     make_then (make_arguments context arguments) (λ arguments. make (Call function arguments))))))
 
-abbrev pub derivative_of : Place → List ArrayExpr → Making ArrayNode
-derivative_of place (argument ∷ []) = make (Der argument)
-derivative_of place arguments = make_from (breaks 33 place)
+abbrev pub derivative_of : Place → List ArrayExpr → Outcome ArrayNode
+derivative_of place (argument ∷ []) = Ok (Der argument)
+derivative_of place arguments = breaks 33 place
 
 -- a call by its function and its arguments, none where they are of a form that is left out
 abbrev pub made_call : Table → Scope → (Element → Outcome Known) → Context → Place → CalleeOf Part → Option (List Part) → Making ArrayNode
@@ -171,6 +172,6 @@ made_call table scope read context place (Named reference) arguments =
     made_function read context place function arguments))
 made_call table scope read context place der arguments =
     make_then (make_from (plain_arguments place arguments)) (λ arguments.
-    make_then (make_arguments context arguments) (λ arguments. derivative_of place arguments))
+    make_then (make_arguments context arguments) (λ arguments. make_from (derivative_of place arguments)))
 made_call table scope read context place Initial arguments = make_from (breaks 34 place)
 made_call table scope read context place Pure arguments = make_from (breaks 34 place)

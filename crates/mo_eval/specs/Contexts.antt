@@ -2,7 +2,7 @@
 -- 4.4.4, 10.4 and 10.5).
 --
 -- All that resolving an expression asks comes first, then its kinds, its dimensions and its subscripts.
-use Rattle.std.specs.Prelude.{ℕ, ℤ, Bool, true, false, [], ◌∷◌, Option, Some, None, Ok, if◌then◌else◌}
+use Rattle.std.specs.Prelude.{ℕ, ℤ, Bool, true, false, [], ◌∷◌, Some, None, Ok, if◌then◌else◌}
 use Rattle.mo_syntax.specs.declared.expr.Expr.{Expr, out-Expr}
 use Rattle.mo_syntax.specs.declared.meaning.Kind.{Kind}
 use Rattle.mo_syntax.specs.declared.meaning.Kind.TheVariants.{Whole as whole_kind, Truth as truth_kind}
@@ -12,19 +12,13 @@ use Rattle.mo_typing.specs.Outcome.{Outcome, and_then, breaks}
 use Rattle.mo_typing.specs.Dims.{Dims, dims_of, is_scalar}
 use Rattle.mo_typing.specs.Kinds.{kind_of}
 use Rattle.mo_typing.specs.Subscripts.{Checked, fine, subscripts_of}
+use Rattle.mo_eval.specs.declared.context.Context.{Context}
 use Rattle.mo_eval.specs.declared.value.Scalar.TheVariants.{Whole, Truth}
 use Rattle.mo_eval.specs.Scalars.{Known, has_values}
 use Rattle.mo_eval.specs.Virtuals.{Element, Ask, Making, Resolved, resolved_by}
 use Rattle.mo_eval.specs.Walk.{known_at}
 
 -- ---- contexts
-
--- Whether the expression is for the flat model, where a call of `div`, `mod` or `rem` is replaced by its value; whether a component that
--- is no leaf is accepted, as `size` and `ndims` do; and what `end` stands for, in a subscript.
-pub record Context : Type 0 where
-  pub flat : Bool
-  pub sized : Bool
-  pub last : Option ℕ
 
 -- an expression that is read for its value, in no subscript
 abbrev pub for_value : Context

@@ -3,6 +3,8 @@ pub mod Scalars
 pub mod Virtuals
 pub mod Walk
 pub mod Told
+pub mod Seen
+pub mod Sequence
 pub mod steps
 pub mod Contexts
 pub mod References

@@ -27,7 +27,8 @@ use Rattle.mo_typing.specs.Subscripts.{Checked, fine, subscripts}
 use Rattle.mo_eval.specs.Scalars.{Known}
 use Rattle.mo_eval.specs.Virtuals.{Element, Virtual, Component_element, Reading, Ask, Making, make, make_then, make_from, make_variables}
 use Rattle.mo_eval.specs.Walk.{known_at}
-use Rattle.mo_eval.specs.Contexts.{Context, Part, alone, place_of, subscript_of, layered, only_whole, scalar_or_vector, must_be_whole, read_element}
+use Rattle.mo_eval.specs.declared.context.Context.{Context}
+use Rattle.mo_eval.specs.Contexts.{Part, alone, place_of, subscript_of, layered, only_whole, scalar_or_vector, must_be_whole, read_element}
 
 -- ---- names
 

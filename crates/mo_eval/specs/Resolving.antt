@@ -31,7 +31,8 @@ use Rattle.mo_eval.specs.declared.value.Scalar.{Scalar}
 use Rattle.mo_eval.specs.declared.value.Scalar.TheVariants.{Truth as truth_scalar}
 use Rattle.mo_eval.specs.Scalars.{Known}
 use Rattle.mo_eval.specs.Virtuals.{Element, Ask, Making, make, make_then, make_from, make_each, Resolved, resolved_by}
-use Rattle.mo_eval.specs.Contexts.{Context, Part, alone, operand, read_in, place_of, read_element, truth_of, layered, only_whole, only_scalar}
+use Rattle.mo_eval.specs.declared.context.Context.{Context}
+use Rattle.mo_eval.specs.Contexts.{Part, alone, operand, read_in, place_of, read_element, truth_of, layered, only_whole, only_scalar}
 use Rattle.mo_eval.specs.Walk.{known_at}
 use Rattle.mo_eval.specs.References.{Named, Components, Found_at, named, made_reference, is_replaced}
 use Rattle.mo_eval.specs.Calls.{made_call}
@@ -84,23 +85,26 @@ make_part context part = part.1 (operand context)
 abbrev pub make_parts : Context → List Part → Making (List ArrayExpr)
 make_parts context = make_each (make_part context)
 
+abbrev pub is_string : Outcome Kind → Bool
+is_string (Ok string_kind) = true
+is_string outcome = false
+
+abbrev pub is_joined : Bool × Bool × ArrayExpr → Bool
+is_joined term = not (term.0 || term.1) && is_string (kind_of term.2)
+
 -- Two or more Strings that are joined by `+` alone are a form that is left out.
 abbrev pub is_string_sum : List (Bool × Bool × ArrayExpr) → Bool
 is_string_sum [] = false
 is_string_sum (term ∷ []) = false
 is_string_sum (term ∷ next ∷ terms) = list_all is_joined (term ∷ next ∷ terms)
-  where
-    is_string : Outcome Kind → Bool
-    is_string (Ok string_kind) = true
-    is_string outcome = false
 
-    is_joined : Bool × Bool × ArrayExpr → Bool
-    is_joined term = not (term.0 || term.1) && is_string (kind_of term.2)
+abbrev pub sum_of : Place → List (Bool × Bool × ArrayExpr) → Outcome ArrayNode
+sum_of place terms = if is_string_sum terms then breaks 34 place else Ok (Sum terms)
 
 abbrev pub made_sum : Context → Place → List (TermOf Part) → Making ArrayNode
 made_sum context place terms =
     make_then (make_each (λ term. make_then (make_part context term.value) (λ e. make (term.minus, term.dotted, e))) terms) (λ terms.
-    if is_string_sum terms then make_from (breaks 34 place) else make (Sum terms))
+    make_from (sum_of place terms))
 
 abbrev pub made_product : Context → List (FactorOf Part) → Making ArrayNode
 made_product context factors =
@@ -112,11 +116,13 @@ abbrev pub is_matrix : Outcome Dims → Bool
 is_matrix (Ok (n ∷ m ∷ [])) = true
 is_matrix outcome = false
 
+abbrev pub power_of : Place → ArrayExpr → Bool → ArrayExpr → Outcome ArrayNode
+power_of place base dotted exponent = if not dotted && is_matrix (dims_of base) then breaks 34 place else Ok (Power base dotted exponent)
+
 abbrev pub made_power : Context → Place → Part → Bool → Part → Making ArrayNode
 made_power context place base dotted exponent =
     make_then (make_part context base) (λ base.
-    make_then (make_part context exponent) (λ exponent.
-    if not dotted && is_matrix (dims_of base) then make_from (breaks 34 place) else make (Power base dotted exponent)))
+    make_then (make_part context exponent) (λ exponent. make_from (power_of place base dotted exponent)))
 
 -- ---- ranges
 

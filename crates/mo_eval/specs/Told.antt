@@ -22,12 +22,16 @@ IsRead (Some (Some told)) outcome = outcome ≡ told
 pub record AreRead (read : Reads) (variable : ℕ → Outcome Known) : Type 0 where
   pub each : (n : ℕ) → IsRead (slice_get read (n - 1)) (variable n)
 
-abbrev pub IsAnswer : {T : Type 0} → Result T Halt → Outcome T → Type 0
-IsAnswer (Ok value) told = told ≡ Ok value
-IsAnswer (Err (broken_by broken)) told = told ≡ Err broken
-IsAnswer (Err no_memory) told = Unit {0}
-IsAnswer (Err (Unread n)) told = Unit {0}
+-- A variable is in the list, and it is not read yet.
+abbrev pub IsUnread : Reads → ℕ → Type 0
+IsUnread read n = slice_get read (n - 1) ≡ Some None
 
--- The answer is this outcome; want of memory and a variable that has to be read first say nothing.
-pub record Tells {T : Type 0} (answer : Result T Halt) (told : Outcome T) : Type 0 where
-  pub answers : IsAnswer answer told
+abbrev pub IsAnswer : {T : Type 0} → Reads → Result T Halt → Outcome T → Type 0
+IsAnswer read (Ok value) told = told ≡ Ok value
+IsAnswer read (Err (broken_by broken)) told = told ≡ Err broken
+IsAnswer read (Err no_memory) told = Unit {0}
+IsAnswer read (Err (Unread n)) told = IsUnread read n
+
+-- The answer is this outcome, or a variable that is not read yet; want of memory says nothing.
+pub record Tells {T : Type 0} (read : Reads) (answer : Result T Halt) (told : Outcome T) : Type 0 where
+  pub answers : IsAnswer read answer told

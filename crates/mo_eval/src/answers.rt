@@ -5,7 +5,7 @@ ghost use Rattle.mo_eval.specs.declared.value.Reckoned.{Reckoned};
 ghost use Rattle.mo_eval.specs.declared.value.Reckoned.TheVariants.{Unknown};
 ghost use Rattle.mo_eval.specs.Scalars.{Known, settled, of_known, negated, absolute_of, sum_with, product_with, related, lesser_of, greater_of, read_all};
 ghost use Rattle.mo_eval.specs.Walk.{read_as, both, on_both};
-ghost use Rattle.mo_eval.specs.Told.{Tells};
+ghost use Rattle.mo_eval.specs.Told.{Reads, Tells};
 ghost use Rattle.mo_eval.specs.steps.Chains.{gathering};
 
 use crate::halt::Halt;
@@ -21,7 +21,7 @@ pub(crate) type Given = Result<Reckoned, Halt>;
 
 /// What is read of a variable as an answer.
 pub(crate) fn answer(told: Result<Option<Scalar>, Broken>) -> Answer
-    ensures { Tells result told }
+    ensures { (read : Reads) → Tells read result told }
 {
     match told {
         Ok(known) => Ok(known),
@@ -31,7 +31,7 @@ pub(crate) fn answer(told: Result<Option<Scalar>, Broken>) -> Answer
 
 /// The result of an operation of that kind at its place.
 pub(crate) fn settle(place: Place, kind: Kind, given: Given) -> Answer
-    ensures { (told : Outcome Reckoned) → Tells given told → Tells result (and_then told (settled place kind)) }
+    ensures { (read : Reads) → (told : Outcome Reckoned) → Tells read given told → Tells read result (and_then told (settled place kind)) }
 {
     let reckoned = given?;
     answer(operations::settled(place, kind, reckoned))
@@ -39,7 +39,7 @@ pub(crate) fn settle(place: Place, kind: Kind, given: Given) -> Answer
 
 /// What is known as the result of an operation.
 pub(crate) fn reckon(operand: Answer) -> Given
-    ensures { (told : Outcome Known) → Tells operand told → Tells result (read_as of_known told) }
+    ensures { (read : Reads) → (told : Outcome Known) → Tells read operand told → Tells read result (read_as of_known told) }
 {
     let known = operand?;
     Ok(operations::of_known(known))
@@ -47,7 +47,7 @@ pub(crate) fn reckon(operand: Answer) -> Given
 
 /// `not`.
 pub(crate) fn negate(operand: Answer) -> Given
-    ensures { (told : Outcome Known) → Tells operand told → Tells result (read_as (λ known. of_known (negated known)) told) }
+    ensures { (read : Reads) → (told : Outcome Known) → Tells read operand told → Tells read result (read_as (λ known. of_known (negated known)) told) }
 {
     let known = operand?;
     Ok(operations::of_known(relations::negated(known)))
@@ -55,7 +55,7 @@ pub(crate) fn negate(operand: Answer) -> Given
 
 /// `abs`.
 pub(crate) fn absolute(operand: Answer) -> Given
-    ensures { (told : Outcome Known) → Tells operand told → Tells result (read_as absolute_of told) }
+    ensures { (read : Reads) → (told : Outcome Known) → Tells read operand told → Tells read result (read_as absolute_of told) }
 {
     let known = operand?;
     Ok(operations::absolute_of(known))
@@ -63,7 +63,7 @@ pub(crate) fn absolute(operand: Answer) -> Given
 
 /// An operation that is undecided whatever its operand has.
 pub(crate) fn undecided(operand: Answer) -> Given
-    ensures { (told : Outcome Known) → Tells operand told → Tells result (and_then told (λ known. Ok Unknown)) }
+    ensures { (read : Reads) → (told : Outcome Known) → Tells read operand told → Tells read result (and_then told (λ known. Ok Unknown)) }
 {
     operand?;
     Ok(Reckoned::Unknown)
@@ -71,7 +71,7 @@ pub(crate) fn undecided(operand: Answer) -> Given
 
 /// One more operand of an operation that is undecided whatever they have.
 pub(crate) fn read_also(first: Answer, second: Answer) -> Answer
-    ensures { (a b : Outcome Known) → Tells first a → Tells second b → Tells result (read_all (a ∷ b ∷ [])) }
+    ensures { (read : Reads) → (a b : Outcome Known) → Tells read first a → Tells read second b → Tells read result (read_all (a ∷ b ∷ [])) }
 {
     first?;
     second?;
@@ -80,7 +80,7 @@ pub(crate) fn read_also(first: Answer, second: Answer) -> Answer
 
 /// A sum so far with one more term.
 pub(crate) fn sum(minus: bool, so_far: Given, term: Given) -> Given
-    ensures { (a b : Outcome Reckoned) → Tells so_far a → Tells term b → Tells result (both (sum_with minus) a b) }
+    ensures { (read : Reads) → (a b : Outcome Reckoned) → Tells read so_far a → Tells read term b → Tells read result (both (sum_with minus) a b) }
 {
     let m = so_far?;
     let n = term?;
@@ -89,7 +89,7 @@ pub(crate) fn sum(minus: bool, so_far: Given, term: Given) -> Given
 
 /// A product so far with one more factor.
 pub(crate) fn product(divide: bool, so_far: Given, factor: Given) -> Given
-    ensures { (a b : Outcome Reckoned) → Tells so_far a → Tells factor b → Tells result (both (product_with divide) a b) }
+    ensures { (read : Reads) → (a b : Outcome Reckoned) → Tells read so_far a → Tells read factor b → Tells read result (both (product_with divide) a b) }
 {
     let m = so_far?;
     let n = factor?;
@@ -105,7 +105,7 @@ pub(crate) struct Gathering {
 
 /// A sum or a product of elements so far with one more.
 pub(crate) fn gather(before: Gathering, element: Given) -> Given
-    ensures { (a b : Outcome Reckoned) → Tells before.so_far a → Tells element b → Tells result (both (gathering before.multiplies) a b) }
+    ensures { (read : Reads) → (a b : Outcome Reckoned) → Tells read before.so_far a → Tells read element b → Tells read result (both (gathering before.multiplies) a b) }
 {
     if before.multiplies {
         product(false, before.so_far, element)
@@ -116,7 +116,7 @@ pub(crate) fn gather(before: Gathering, element: Given) -> Given
 
 /// A relation.
 pub(crate) fn relate(op: RelOp, left: Answer, right: Answer) -> Given
-    ensures { (a b : Outcome Known) → Tells left a → Tells right b → Tells result (on_both (related op) a b) }
+    ensures { (read : Reads) → (a b : Outcome Known) → Tells read left a → Tells read right b → Tells read result (on_both (related op) a b) }
 {
     let m = left?;
     let n = right?;
@@ -125,7 +125,7 @@ pub(crate) fn relate(op: RelOp, left: Answer, right: Answer) -> Given
 
 /// `min`.
 pub(crate) fn lesser(left: Answer, right: Answer) -> Given
-    ensures { (a b : Outcome Known) → Tells left a → Tells right b → Tells result (on_both lesser_of a b) }
+    ensures { (read : Reads) → (a b : Outcome Known) → Tells read left a → Tells read right b → Tells read result (on_both lesser_of a b) }
 {
     let m = left?;
     let n = right?;
@@ -134,7 +134,7 @@ pub(crate) fn lesser(left: Answer, right: Answer) -> Given
 
 /// `max`.
 pub(crate) fn greater(left: Answer, right: Answer) -> Given
-    ensures { (a b : Outcome Known) → Tells left a → Tells right b → Tells result (on_both greater_of a b) }
+    ensures { (read : Reads) → (a b : Outcome Known) → Tells read left a → Tells read right b → Tells read result (on_both greater_of a b) }
 {
     let m = left?;
     let n = right?;

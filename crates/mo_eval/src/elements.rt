@@ -9,7 +9,7 @@ ghost use Rattle.mo_eval.specs.declared.value.Reckoned.TheVariants.{Is};
 ghost use Rattle.mo_eval.specs.declared.value.Scalar.TheVariants.{Whole};
 ghost use Rattle.mo_eval.specs.Scalars.{Known, of_known};
 ghost use Rattle.mo_eval.specs.Walk.{read_as, number, size_at, size_element, constant, kind_or_real};
-ghost use Rattle.mo_eval.specs.Told.{AreRead, Tells};
+ghost use Rattle.mo_eval.specs.Told.{Reads, AreRead, Tells};
 ghost use Rattle.mo_eval.specs.steps.Chains.{decides, is_truth, chain_end};
 
 use crate::answers::{Answer, Given, answer, reckon};
@@ -43,7 +43,7 @@ pub(crate) fn own<'a>(dims: &[u32], index: &'a [u32]) -> &'a [u32]
 
 /// What a variable has, by what is read.
 fn told(read: &[Told], number: u32) -> Answer
-    ensures { (variable : ℕ → Outcome Known) → AreRead read.now variable → Tells result (variable number) }
+    ensures { (variable : ℕ → Outcome Known) → AreRead read.now variable → Tells read.now result (variable number) }
 {
     match read.get(number.saturating_sub(1) as usize) {
         None => Ok(None),
@@ -61,7 +61,7 @@ pub(crate) fn variable(
     index: &[u32],
     read: &[Told],
 ) -> Given
-    ensures { (variable : ℕ → Outcome Known) → AreRead read.now variable → Tells result (read_as of_known (variable (variable_at vars.now dims.now (located subs.now index.now)))) }
+    ensures { (variable : ℕ → Outcome Known) → AreRead read.now variable → Tells read.now result (read_as of_known (variable (variable_at vars.now dims.now (located subs.now index.now)))) }
 {
     let place = located(alloc, subs, index)?;
     let number = variable_at(vars, dims, place.as_slice())?;
@@ -76,7 +76,7 @@ pub(crate) fn number(n: i64) -> Reckoned
 
 /// A number of a range; one past 64 bits is answered by want of memory.
 pub(crate) fn of_range(first: i64, step: i64, index: &[u32]) -> Given
-    ensures { Tells result (Ok (Is (Whole (range_element first step index.now)))) }
+    ensures { (read : Reads) → Tells read result (Ok (Is (Whole (range_element first step index.now)))) }
 {
     Ok(number(range_element(first, step, index)?))
 }
@@ -97,7 +97,7 @@ pub(crate) fn of_size(
     at: &Option<(Place, i64)>,
     index: &[u32],
 ) -> Given
-    ensures { Tells result (Ok (size_element (shape_of inner.now) at.now index.now)) }
+    ensures { (read : Reads) → Tells read result (Ok (size_element (shape_of inner.now) at.now index.now)) }
 {
     let dims = shape(alloc, inner)?;
     match at {

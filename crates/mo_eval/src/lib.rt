@@ -5,6 +5,9 @@
 //! - [`Reckoned`]: what an operation gives.
 //! - [`known`]: what is known of a resolved expression at an index, where [`Told`] says what is read of its variables; or why that is
 //!   not known ([`Halt`]).
+//! - [`Resolved`], [`Virtual`] and [`Element`]: a resolved expression, and what its variables stand for.
+//! - [`next`]: what comes next ([`Step`]) where an element of a resolved expression is wanted and its variables are read one after
+//!   another, only where they are needed.
 //!
 //! An expression is resolved in a scope, which puts virtual variables in the place of its names; its kind, its dimensions and its
 //! value are then those of the resolved expression. The definitions stand in specs/.
@@ -13,13 +16,21 @@
 mod answers;
 mod arithmetic;
 mod chains;
+mod context;
 mod elements;
 mod halt;
+mod layers;
+mod making;
 mod operations;
+mod reading;
 mod relations;
+mod selecting;
 mod value;
+mod virtuals;
 mod walk;
 
 pub use halt::{Halt, Told};
+pub use reading::{Step, next};
 pub use value::{Reckoned, Scalar, Value};
+pub use virtuals::{Element, Resolved, Virtual};
 pub use walk::known;

@@ -32,7 +32,7 @@ use std::alloc::Global;
 /// not read yet halts it, and so does want of memory.
 #[cycle(walk)]
 pub fn known(alloc: Global, e: &ArrayExpr, index: &[u32], read: &[Told]) -> Answer
-    ensures { (variable : ℕ → Outcome Known) → AreRead read.now variable → Tells result (known_by variable e.now index.now) }
+    ensures { (variable : ℕ → Outcome Known) → AreRead read.now variable → Tells read.now result (known_by variable e.now index.now) }
 {
     let given = result_of_node(alloc, e.node.get(), index, read);
     settle(e.place, kind_or_real(e), given)
@@ -41,7 +41,7 @@ pub fn known(alloc: Global, e: &ArrayExpr, index: &[u32], read: &[Told]) -> Answ
 /// The element of an operand beside an array.
 #[cycle(walk)]
 fn at(alloc: Global, e: &ArrayExpr, index: &[u32], read: &[Told]) -> Answer
-    ensures { (variable : ℕ → Outcome Known) → AreRead read.now variable → Tells result (at (part_of variable e.now) index.now) }
+    ensures { (variable : ℕ → Outcome Known) → AreRead read.now variable → Tells read.now result (at (part_of variable e.now) index.now) }
 {
     let dims = shape(alloc, e)?;
     known(alloc, e, own(dims.as_slice(), index), read)
@@ -49,7 +49,7 @@ fn at(alloc: Global, e: &ArrayExpr, index: &[u32], read: &[Told]) -> Answer
 
 #[cycle(walk)]
 fn result_of_node(alloc: Global, node: &ArrayNode, index: &[u32], read: &[Told]) -> Given
-    ensures { (variable : ℕ → Outcome Known) → AreRead read.now variable → Tells result (result_of_node variable node.now index.now) }
+    ensures { (variable : ℕ → Outcome Known) → AreRead read.now variable → Tells read.now result (result_of_node variable node.now index.now) }
 {
     match node {
         ArrayNode::Whole(n) => Ok(number(*n)),
@@ -101,7 +101,7 @@ fn result_of_node(alloc: Global, node: &ArrayNode, index: &[u32], read: &[Told])
 
 #[cycle(walk)]
 fn of_terms(alloc: Global, terms: &[Signed], index: &[u32], read: &[Told]) -> Given
-    ensures { (variable : ℕ → Outcome Known) → AreRead read.now variable → Tells result (fold (sum_at index.now) (Ok (number 0)) (map (signed_of variable) terms.now)) }
+    ensures { (variable : ℕ → Outcome Known) → AreRead read.now variable → Tells read.now result (fold (sum_at index.now) (Ok (number 0)) (map (signed_of variable) terms.now)) }
 {
     let mut all = Ok(number(0));
     for term in terms {
@@ -119,7 +119,7 @@ fn of_two(
     index: &[u32],
     read: &[Told],
 ) -> Answer
-    ensures { (variable : ℕ → Outcome Known) → AreRead read.now variable → Tells result (read_all (at (part_of variable first.now) index.now ∷ at (part_of variable second.now) index.now ∷ [])) }
+    ensures { (variable : ℕ → Outcome Known) → AreRead read.now variable → Tells read.now result (read_all (at (part_of variable first.now) index.now ∷ at (part_of variable second.now) index.now ∷ [])) }
 {
     read_also(
         at(alloc, first, index, read),
@@ -136,7 +136,7 @@ fn chained(
     index: &[u32],
     read: &[Told],
 ) -> Answer
-    ensures { (variable : ℕ → Outcome Known) → AreRead read.now variable → Tells result (chained deciding (map (λ part. at (part_of variable part) index.now) parts.now)) }
+    ensures { (variable : ℕ → Outcome Known) → AreRead read.now variable → Tells read.now result (chained deciding (map (λ part. at (part_of variable part) index.now) parts.now)) }
 {
     let mut undecided = false;
     for part in parts {
@@ -157,7 +157,7 @@ fn of_branches(
     index: &[u32],
     read: &[Told],
 ) -> Answer
-    ensures { (variable : ℕ → Outcome Known) → AreRead read.now variable → Tells result (read_all (branch_reads index.now (map (branch_of variable) branches.now))) }
+    ensures { (variable : ℕ → Outcome Known) → AreRead read.now variable → Tells read.now result (read_all (branch_reads index.now (map (branch_of variable) branches.now))) }
 {
     let mut all = Ok(None);
     for branch in branches {
@@ -175,7 +175,7 @@ fn of_choice(
     index: &[u32],
     read: &[Told],
 ) -> Answer
-    ensures { (variable : ℕ → Outcome Known) → AreRead read.now variable → Tells result (read_all (branch_reads index.now (map (branch_of variable) branches.now) ++ at (part_of variable other.now) index.now ∷ [])) }
+    ensures { (variable : ℕ → Outcome Known) → AreRead read.now variable → Tells read.now result (read_all (branch_reads index.now (map (branch_of variable) branches.now) ++ at (part_of variable other.now) index.now ∷ [])) }
 {
     read_also(
         of_branches(alloc, branches, index, read),
@@ -185,7 +185,7 @@ fn of_choice(
 
 #[cycle(walk)]
 fn of_array(alloc: Global, parts: &[ArrayExpr], index: &[u32], read: &[Told]) -> Given
-    ensures { (variable : ℕ → Outcome Known) → AreRead read.now variable → Tells result (element_among (map (part_of variable) parts.now) index.now) }
+    ensures { (variable : ℕ → Outcome Known) → AreRead read.now variable → Tells read.now result (element_among (map (part_of variable) parts.now) index.now) }
 {
     match index {
         [] => Ok(Reckoned::Unknown),
@@ -207,7 +207,7 @@ fn of_sized(
     index: &[u32],
     read: &[Told],
 ) -> Given
-    ensures { (variable : ℕ → Outcome Known) → AreRead read.now variable → Tells result (sized_element function (option_map (part_of variable) part.now) index.now) }
+    ensures { (variable : ℕ → Outcome Known) → AreRead read.now variable → Tells read.now result (sized_element function (option_map (part_of variable) part.now) index.now) }
 {
     match part {
         None => Ok(constant(function, index)),
@@ -228,7 +228,7 @@ fn acting(
 ) -> Given
     requires from { from ≤ n }
     requires to { n ≤ length factors.now }
-    ensures { (variable : ℕ → Outcome Known) → AreRead read.now variable → (so_far : Outcome Reckoned) → Tells begun so_far → Tells result (acting variable index.now so_far (slice_range factors.now from n)) }
+    ensures { (variable : ℕ → Outcome Known) → AreRead read.now variable → (so_far : Outcome Reckoned) → Tells read.now begun so_far → Tells read.now result (acting variable index.now so_far (slice_range factors.now from n)) }
 {
     let mut all = begun;
     for j in from..n {
@@ -242,7 +242,7 @@ fn acting(
 #[cycle(walk)]
 fn chain_at(alloc: Global, factors: &[Signed], n: usize, index: &[u32], read: &[Told]) -> Given
     requires { n ≤ length factors.now }
-    ensures { (variable : ℕ → Outcome Known) → AreRead read.now variable → Tells result ((chain_before variable factors.now n).product index.now) }
+    ensures { (variable : ℕ → Outcome Known) → AreRead read.now variable → Tells read.now result ((chain_before variable factors.now n).product index.now) }
 {
     let last = last_matrix_factor(alloc, factors, n)?;
     let begun = begun_by(alloc, factors, last, index, read);
@@ -259,7 +259,7 @@ fn begun_by(
     read: &[Told],
 ) -> Given
     requires { behind_last last ≤ length factors.now }
-    ensures { (variable : ℕ → Outcome Known) → AreRead read.now variable → Tells result (begun_by variable factors.now last index.now) }
+    ensures { (variable : ℕ → Outcome Known) → AreRead read.now variable → Tells read.now result (begun_by variable factors.now last index.now) }
 {
     match last {
         None => Ok(number(1)),
@@ -271,7 +271,7 @@ fn begun_by(
 #[cycle(walk)]
 fn inner_product(alloc: Global, factors: &[Signed], m: usize, index: &[u32], read: &[Told]) -> Given
     requires { m < length factors.now }
-    ensures { (variable : ℕ → Outcome Known) → AreRead read.now variable → Tells result (begun_by variable factors.now (Some m) index.now) }
+    ensures { (variable : ℕ → Outcome Known) → AreRead read.now variable → Tells read.now result (begun_by variable factors.now (Some m) index.now) }
 {
     let factor = &factors[m];
     let before = dims_before(alloc, factors, m)?;
@@ -296,7 +296,7 @@ fn inner_sum(
     read: &[Told],
 ) -> Given
     requires { m < length factors.now }
-    ensures { (variable : ℕ → Outcome Known) → AreRead read.now variable → Tells result (inner_sum variable (chain_before variable factors.now m) (slice_get factors.now m) row.now column.now count) }
+    ensures { (variable : ℕ → Outcome Known) → AreRead read.now variable → Tells read.now result (inner_sum variable (chain_before variable factors.now m) (slice_get factors.now m) row.now column.now count) }
 {
     let mut all = Ok(number(0));
     for k in 0..count {
@@ -317,7 +317,7 @@ fn inner_term(
     read: &[Told],
 ) -> Given
     requires { m < length factors.now }
-    ensures { (variable : ℕ → Outcome Known) → AreRead read.now variable → Tells result (inner_term variable (chain_before variable factors.now m) (slice_get factors.now m) row.now column.now k) }
+    ensures { (variable : ℕ → Outcome Known) → AreRead read.now variable → Tells read.now result (inner_term variable (chain_before variable factors.now m) (slice_get factors.now m) row.now column.now k) }
 {
     let left = joined_lists(alloc, row, &[k])?;
     let right = joined_lists(alloc, &[k], column)?;
@@ -336,7 +336,7 @@ fn gathered(
     before: Gathering,
     read: &[Told],
 ) -> Given
-    ensures { (variable : ℕ → Outcome Known) → AreRead read.now variable → (so_far : Outcome Reckoned) → Tells before.so_far so_far → Tells result (gathered before.multiplies so_far (map (λ index. read_as of_known (known_by variable e.now (begun.now ++ index))) (indices dims.now))) }
+    ensures { (variable : ℕ → Outcome Known) → AreRead read.now variable → (so_far : Outcome Reckoned) → Tells read.now before.so_far so_far → Tells read.now result (gathered before.multiplies so_far (map (λ index. read_as of_known (known_by variable e.now (begun.now ++ index))) (indices dims.now))) }
 {
     match dims {
         [] => gather(before, reckon(known(alloc, e, begun, read))),
@@ -355,7 +355,7 @@ fn gathered_rows(
     before: Gathering,
     read: &[Told],
 ) -> Given
-    ensures { (variable : ℕ → Outcome Known) → AreRead read.now variable → (so_far : Outcome Reckoned) → Tells before.so_far so_far → Tells result (gathered before.multiplies so_far (map (λ index. read_as of_known (known_by variable e.now (begun.now ++ index))) (indices (n ∷ more.now)))) }
+    ensures { (variable : ℕ → Outcome Known) → AreRead read.now variable → (so_far : Outcome Reckoned) → Tells read.now before.so_far so_far → Tells read.now result (gathered before.multiplies so_far (map (λ index. read_as of_known (known_by variable e.now (begun.now ++ index))) (indices (n ∷ more.now)))) }
 {
     let mut all = before.so_far;
     for k in 0..n {
@@ -377,7 +377,7 @@ fn of_call_of_one(
     index: &[u32],
     read: &[Told],
 ) -> Given
-    ensures { (variable : ℕ → Outcome Known) → AreRead read.now variable → Tells result (call_of_one function (part_of variable arg.now) index.now) }
+    ensures { (variable : ℕ → Outcome Known) → AreRead read.now variable → Tells read.now result (call_of_one function (part_of variable arg.now) index.now) }
 {
     match function {
         functions::NDIMS => Ok(number(shape(alloc, arg)?.len() as i64)),
@@ -417,7 +417,7 @@ fn product_of_two(
     k: u32,
     read: &[Told],
 ) -> Given
-    ensures { (variable : ℕ → Outcome Known) → AreRead read.now variable → Tells result (product_of_two (part_of variable a.now) (part_of variable b.now) j k) }
+    ensures { (variable : ℕ → Outcome Known) → AreRead read.now variable → Tells read.now result (product_of_two (part_of variable a.now) (part_of variable b.now) j k) }
 {
     let left = reckon(at(alloc, a, &[j], read));
     let right = reckon(at(alloc, b, &[k], read));
@@ -427,7 +427,7 @@ fn product_of_two(
 /// `a[j]*b[k] - a[k]*b[j]`
 #[cycle(walk)]
 fn crossed_at(alloc: Global, a: &ArrayExpr, b: &ArrayExpr, j: u32, k: u32, read: &[Told]) -> Given
-    ensures { (variable : ℕ → Outcome Known) → AreRead read.now variable → Tells result (crossed_at (part_of variable a.now) (part_of variable b.now) j k) }
+    ensures { (variable : ℕ → Outcome Known) → AreRead read.now variable → Tells read.now result (crossed_at (part_of variable a.now) (part_of variable b.now) j k) }
 {
     let left = product_of_two(alloc, a, b, j, k, read);
     let right = product_of_two(alloc, a, b, k, j, read);
@@ -436,7 +436,7 @@ fn crossed_at(alloc: Global, a: &ArrayExpr, b: &ArrayExpr, j: u32, k: u32, read:
 
 #[cycle(walk)]
 fn crossed(alloc: Global, a: &ArrayExpr, b: &ArrayExpr, n: u32, read: &[Told]) -> Given
-    ensures { (variable : ℕ → Outcome Known) → AreRead read.now variable → Tells result (crossed (part_of variable a.now) (part_of variable b.now) n) }
+    ensures { (variable : ℕ → Outcome Known) → AreRead read.now variable → Tells read.now result (crossed (part_of variable a.now) (part_of variable b.now) n) }
 {
     if n == 1 {
         return crossed_at(alloc, a, b, 2, 3, read);
@@ -456,7 +456,7 @@ fn of_call_of_two(
     index: &[u32],
     read: &[Told],
 ) -> Given
-    ensures { (variable : ℕ → Outcome Known) → AreRead read.now variable → Tells result (call_of_two function (part_of variable a.now) (part_of variable b.now) index.now) }
+    ensures { (variable : ℕ → Outcome Known) → AreRead read.now variable → Tells read.now result (call_of_two function (part_of variable a.now) (part_of variable b.now) index.now) }
 {
     match function {
         functions::CROSS => crossed(alloc, a, b, first_number(index), read),
@@ -469,7 +469,7 @@ fn of_call_of_two(
 /// The arguments of a call that is undecided whatever they have.
 #[cycle(walk)]
 fn of_args(alloc: Global, args: &[ArrayExpr], index: &[u32], read: &[Told]) -> Answer
-    ensures { (variable : ℕ → Outcome Known) → AreRead read.now variable → Tells result (read_all (map (λ arg. at (part_of variable arg) index.now) args.now)) }
+    ensures { (variable : ℕ → Outcome Known) → AreRead read.now variable → Tells read.now result (read_all (map (λ arg. at (part_of variable arg) index.now) args.now)) }
 {
     let mut all = Ok(None);
     for arg in args {
@@ -480,7 +480,7 @@ fn of_args(alloc: Global, args: &[ArrayExpr], index: &[u32], read: &[Told]) -> A
 
 #[cycle(walk)]
 fn of_call(alloc: Global, function: u16, args: &[ArrayExpr], index: &[u32], read: &[Told]) -> Given
-    ensures { (variable : ℕ → Outcome Known) → AreRead read.now variable → Tells result (call function (map (part_of variable) args.now) index.now) }
+    ensures { (variable : ℕ → Outcome Known) → AreRead read.now variable → Tells read.now result (call function (map (part_of variable) args.now) index.now) }
 {
     match args {
         [] => Ok(Reckoned::Unknown),

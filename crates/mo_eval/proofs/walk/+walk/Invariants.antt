@@ -11,27 +11,27 @@ use Rattle.mo_eval.specs.steps.Chains.{chain_before, acting, inner_sum, gathered
 use Rattle.mo_eval.proofs.walk.+walk.Given as goal
 
 abbrev pub invariant-of_terms-loop-term : goal.invariant-of_terms-loop-term
-invariant-of_terms-loop-term l = (variable : ℕ → Outcome Known) → AreRead l.read variable → Tells l.all (fold (sum_at l.index) (Ok (number 0)) (map (signed_of variable) (take l.term-index l.terms)))
+invariant-of_terms-loop-term l = (variable : ℕ → Outcome Known) → AreRead l.read variable → Tells l.read l.all (fold (sum_at l.index) (Ok (number 0)) (map (signed_of variable) (take l.term-index l.terms)))
 
 abbrev pub invariant-chained-loop-part : goal.invariant-chained-loop-part
 invariant-chained-loop-part l = (variable : ℕ → Outcome Known) → AreRead l.read variable →
     chain_left l.undecided l.deciding (map (λ part. at (part_of variable part) l.index) (drop l.part-index l.parts)) ≡ chained l.deciding (map (λ part. at (part_of variable part) l.index) l.parts)
 
 abbrev pub invariant-of_branches-loop-branch : goal.invariant-of_branches-loop-branch
-invariant-of_branches-loop-branch l = (variable : ℕ → Outcome Known) → AreRead l.read variable → Tells l.all (read_all (branch_reads l.index (map (branch_of variable) (take l.branch-index l.branches))))
+invariant-of_branches-loop-branch l = (variable : ℕ → Outcome Known) → AreRead l.read variable → Tells l.read l.all (read_all (branch_reads l.index (map (branch_of variable) (take l.branch-index l.branches))))
 
 abbrev pub invariant-of_args-loop-arg : goal.invariant-of_args-loop-arg
-invariant-of_args-loop-arg l = (variable : ℕ → Outcome Known) → AreRead l.read variable → Tells l.all (read_all (map (λ arg. at (part_of variable arg) l.index) (take l.arg-index l.args)))
+invariant-of_args-loop-arg l = (variable : ℕ → Outcome Known) → AreRead l.read variable → Tells l.read l.all (read_all (map (λ arg. at (part_of variable arg) l.index) (take l.arg-index l.args)))
 
 abbrev pub invariant-acting-loop-j : goal.invariant-acting-loop-j
-invariant-acting-loop-j l = (variable : ℕ → Outcome Known) → AreRead l.read variable → (so_far : Outcome Reckoned) → Tells l.fn.begun so_far → Tells l.all (acting variable l.index so_far (slice_range l.factors l.from l.j))
+invariant-acting-loop-j l = (variable : ℕ → Outcome Known) → AreRead l.read variable → (so_far : Outcome Reckoned) → Tells l.read l.fn.begun so_far → Tells l.read l.all (acting variable l.index so_far (slice_range l.factors l.from l.j))
 
 abbrev pub invariant-inner_sum-loop-k : goal.invariant-inner_sum-loop-k
-invariant-inner_sum-loop-k l = (variable : ℕ → Outcome Known) → AreRead l.read variable → Tells l.all (inner_sum variable (chain_before variable l.factors l.m) (slice_get l.factors l.m) l.row l.column l.k)
+invariant-inner_sum-loop-k l = (variable : ℕ → Outcome Known) → AreRead l.read variable → Tells l.read l.all (inner_sum variable (chain_before variable l.factors l.m) (slice_get l.factors l.m) l.row l.column l.k)
 
 abbrev pub invariant-gathered_rows-loop-k : goal.invariant-gathered_rows-loop-k
-invariant-gathered_rows-loop-k l = (variable : ℕ → Outcome Known) → AreRead l.read variable → (so_far : Outcome Reckoned) → Tells l.before.so_far so_far →
-    Tells l.all (gathered l.before.multiplies so_far (flat_map (λ k. map (λ index. read_as of_known (known_by variable l.e ((l.begun ++ k ∷ []) ++ index))) (indices l.more)) (numbers_to l.k)))
+invariant-gathered_rows-loop-k l = (variable : ℕ → Outcome Known) → AreRead l.read variable → (so_far : Outcome Reckoned) → Tells l.read l.before.so_far so_far →
+    Tells l.read l.all (gathered l.before.multiplies so_far (flat_map (λ k. map (λ index. read_as of_known (known_by variable l.e ((l.begun ++ k ∷ []) ++ index))) (indices l.more)) (numbers_to l.k)))
 
 abbrev pub decreases-known : goal.decreases-known
 decreases-known l = 2 ^ 70 * goal.size-known l + 0

@@ -1,0 +1,94 @@
+-- What is read of virtual variables, and what that says of those before one of them.
+use Rattle.std.proofs.Common.{◌≡◌, ℕ, zero, suc, ◌-◌, ◌<◌, ◌≤◌, List, [], ◌∷◌, ◌++◌, map, take, Option, Some, None, Ok, refl, ap, sym, ◌∙◌, append_assoc, ⊎_elim, arith}
+use Rattle.std.specs.Prelude.{fold, slice_get}
+use Rattle.std.specs.Option.{option_map}
+use Rattle.std.proofs.lemmas.Bool.{cases_lt}
+use Rattle.std.proofs.lemmas.List.{append-nil}
+use Rattle.std.proofs.lemmas.Option.{slice_get-map}
+use Rattle.mo_typing.specs.Outcome.{Outcome}
+use Rattle.mo_typing.specs.Indices.{or_else}
+use Rattle.mo_eval.specs.Scalars.{Known}
+use Rattle.mo_eval.specs.Virtuals.{Element, Virtual}
+use Rattle.mo_eval.specs.Walk.{numbered, known_of_virtual, known_of_virtuals}
+use Rattle.mo_eval.specs.Told.{Reads, IsRead, AreRead, IsUnread}
+
+-- ---- what each variable has, by those before it
+
+grown : (Element → Outcome Known) → List (Outcome Known) → List Virtual → List (Outcome Known)
+grown read before [] = []
+grown read before (v ∷ vs) = known_of_virtual read before v ∷ grown read (before ++ known_of_virtual read before v ∷ []) vs
+
+grows : (read : Element → Outcome Known) (before : List (Outcome Known)) (vs : List Virtual) →
+    fold (λ before v. before ++ known_of_virtual read before v ∷ []) before vs ≡ before ++ grown read before vs
+unfolding grown
+grows read before [] = sym (append-nil before)
+grows read before (v ∷ vs) =
+    let x = known_of_virtual read before v in
+    grows read (before ++ x ∷ []) vs ∙ append_assoc before (x ∷ []) (grown read (before ++ x ∷ []) vs)
+
+grown_at : (read : Element → Outcome Known) (before : List (Outcome Known)) (vs : List Virtual) (k : ℕ) →
+    slice_get (grown read before vs) k ≡ option_map (known_of_virtual read (before ++ take k (grown read before vs))) (slice_get vs k)
+unfolding grown
+grown_at read before [] k = refl
+grown_at read before (v ∷ vs) zero = ap (λ xs. Some (known_of_virtual read xs v)) (sym (append-nil before))
+grown_at read before (v ∷ vs) (suc k) =
+    let x = known_of_virtual read before v in
+    let more = grown read (before ++ x ∷ []) vs in
+    grown_at read (before ++ x ∷ []) vs k
+    ∙ ap (λ xs. option_map (known_of_virtual read xs) (slice_get vs k)) (append_assoc before (x ∷ []) (take k more))
+
+-- what a variable has depends on those before it alone
+pub known_of_virtual_at : (read : Element → Outcome Known) (vs : List Virtual) (k : ℕ) →
+    slice_get (known_of_virtuals read vs) k ≡ option_map (known_of_virtual read (take k (known_of_virtuals read vs))) (slice_get vs k)
+known_of_virtual_at read vs k =
+    ap (λ xs. slice_get xs k) (grows read [] vs)
+    ∙ (grown_at read [] vs k
+    ∙ ap (λ xs. option_map (known_of_virtual read (take k xs)) (slice_get vs k)) (sym (grows read [] vs)))
+
+pub told_at : (read : Element → Outcome Known) (vs : List Virtual) (k : ℕ) (it : Virtual) (outcome : Outcome Known) →
+    slice_get vs k ≡ Some it → known_of_virtual read (take k (known_of_virtuals read vs)) it ≡ outcome → slice_get (known_of_virtuals read vs) k ≡ Some outcome
+told_at read vs k it outcome found told =
+    known_of_virtual_at read vs k
+    ∙ (ap (option_map (known_of_virtual read (take k (known_of_virtuals read vs)))) found ∙ ap Some told)
+
+-- ---- what is read
+
+pub read_or_undecided : Option (Outcome Known) → Outcome Known
+read_or_undecided (Some told) = told
+read_or_undecided None = Ok None
+
+is_read : (it : Option (Option (Outcome Known))) → IsRead it (or_else (option_map read_or_undecided it) (Ok None))
+unfolding read_or_undecided
+is_read None = refl
+is_read (Some None) = tt
+is_read (Some (Some told)) = refl
+
+-- there are variables of which that is read
+pub some_read : (reads : Reads) → AreRead reads (numbered (map read_or_undecided reads))
+some_read reads = record { each = λ n. rw (slice_get-map read_or_undecided reads (n - 1)) (is_read (slice_get reads (n - 1))) }
+
+pub slice_take : {A : Type 0} (xs : List A) (k i : ℕ) → i < k → slice_get (take k xs) i ≡ slice_get xs i
+slice_take xs zero i small = absurd (omega arith)
+slice_take [] (suc k) i small = refl
+slice_take (x ∷ xs) (suc k) zero small = refl
+slice_take (x ∷ xs) (suc k) (suc i) small = slice_take xs k i (omega arith)
+
+take_past : {A : Type 0} (xs : List A) (k i : ℕ) → k ≤ i → slice_get (take k xs) i ≡ None
+take_past xs zero i all = refl
+take_past [] (suc k) i all = refl
+take_past (x ∷ xs) (suc k) zero all = absurd (omega arith)
+take_past (x ∷ xs) (suc k) (suc i) all = take_past xs k i (omega arith)
+
+-- those before one of them
+pub before_read : (reads : Reads) (known : List (Outcome Known)) (k : ℕ) → AreRead reads (numbered known) → AreRead (take k reads) (numbered (take k known))
+before_read reads known k are = record { each = λ n. ⊎_elim (inside n) (outside n) (cases_lt (n - 1) k) }
+  where
+    inside : (n : ℕ) → n - 1 < k → IsRead (slice_get (take k reads) (n - 1)) (numbered (take k known) n)
+    inside n small = rw (slice_take reads k (n - 1) small, slice_take known k (n - 1) small) (are.each n)
+
+    outside : (n : ℕ) → k ≤ n - 1 → IsRead (slice_get (take k reads) (n - 1)) (numbered (take k known) n)
+    outside n all = rw (take_past reads k (n - 1) all, take_past known k (n - 1) all) refl
+
+-- one that is not read before another one
+pub unread_before : (reads : Reads) (k n : ℕ) → IsUnread (take k reads) n → (n - 1 < k) × IsUnread reads n
+unread_before reads k n is = ⊎_elim (λ (small : n - 1 < k). (small, sym (slice_take reads k (n - 1) small) ∙ is)) (λ (all : k ≤ n - 1). absurd (let e : ◌≡◌ {A = Option (Option (Outcome Known))} None (Some None) = sym (take_past reads k (n - 1) all) ∙ is in cc)) (cases_lt (n - 1) k)

@@ -1,0 +1,29 @@
+-- What virtual variables of the code are as data, where frames have these numbers.
+use Rattle.std.specs.Prelude.{List, map}
+use Rattle.mo_scope.specs.Frames.{Frame}
+use Rattle.mo_scope.specs.Worlds.{member_in}
+use Rattle.mo_scope.specs.Sights.{member_seen}
+use Rattle.mo_eval.specs.declared.virtuals.Element.{Element as ElementAt}
+use Rattle.mo_eval.specs.declared.virtuals.Virtual.{Virtual as VirtualAt}
+use Rattle.mo_eval.specs.declared.virtuals.Virtual.TheVariants.{Component, Division as division_at}
+use Rattle.mo_eval.specs.declared.virtuals.Resolved.{Resolved as ResolvedAt}
+use Rattle.mo_eval.specs.Virtuals.{Element, Virtual, Component_element, Division, Resolved}
+
+abbrev pub element_seen : List Frame → ElementAt → Element
+element_seen frames element = record {
+  member = member_in frames (member_seen element.member);
+  index = element.index;
+  kind = element.kind;
+  place = element.place;
+  constant = element.constant;
+}
+
+abbrev pub virtual_seen : List Frame → VirtualAt → Virtual
+virtual_seen frames (Component element) = Component_element (element_seen frames element)
+virtual_seen frames (division_at place function left right) = Division place function left right
+
+abbrev pub virtuals_seen : List Frame → List VirtualAt → List Virtual
+virtuals_seen frames virtuals = map (virtual_seen frames) virtuals
+
+abbrev pub resolved_seen : List Frame → ResolvedAt → Resolved
+resolved_seen frames resolved = record { expression = resolved.expression; virtuals = virtuals_seen frames resolved.virtuals }
