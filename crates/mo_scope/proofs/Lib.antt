@@ -1,10 +1,13 @@
 pub mod Keys
+pub mod Lists
 mod Models
 pub mod Numbered
 pub mod Picking
 pub mod RowsFound
 pub mod RowsMade
-mod WorkedRows
+pub mod Sayings
+pub mod Scoped
 pub mod WalkSteps
+mod WorkedRows
 pub mod laws
 pub mod rows
