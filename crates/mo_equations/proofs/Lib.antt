@@ -1,3 +1,5 @@
+mod Below
 mod Forms
+mod Numbers
 mod Scalars
 mod rows
