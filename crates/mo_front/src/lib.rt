@@ -4,6 +4,7 @@
 //! - `run`: the program over any shelf and sink.
 //! - `files_give_one` is the law that files give one thing only.
 //! - `Status`: how it ended, and the number that it ends with.
+//! - `read_words`: what the words of the command line ask for, as `Words` and `Emit`, or a `WordsFault`.
 #![tactic(auto)]
 
 mod answer;
@@ -21,6 +22,7 @@ mod refusal;
 mod size;
 mod status;
 mod structure;
+mod table;
 mod top;
 mod variables;
 mod words;
@@ -28,3 +30,4 @@ mod words;
 pub use laws::files_give_one;
 pub use program::run;
 pub use status::Status;
+pub use words::{Emit, Words, WordsFault, read_words};
