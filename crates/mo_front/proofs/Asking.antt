@@ -12,7 +12,9 @@ use Rattle.clap.specs.declared.error.kind.ErrorKind.{ErrorKind}
 use Rattle.clap.specs.declared.error.kind.ErrorKind.TheVariants as kind
 use Rattle.clap.proofs.OnLiterals.{clap_on_literals}
 use Rattle.mo_front.specs.declared.words.Emit.{Emit}
-use Rattle.mo_front.specs.Words.{Asks, AsksFor, Names, NamesClass, command}
+use Rattle.mo_front.specs.declared.words.Words.{Words}
+use Rattle.mo_front.specs.declared.words.Words.TheVariants.{Job}
+use Rattle.mo_front.specs.Words.{Asks, AsksFor, AsksWords, Names, NamesClass, NamesWords, command}
 
 -- ---- options and files that ask for nothing
 
@@ -99,7 +101,7 @@ is-free : is_simple_and_free command ≡ true
 unfolding clap_on_literals
 is-free = refl
 
-pub named : {Rest : Type 0} (app : App) (words : List Text) (given : List Row) (path files : List (List ℕ)) (emit : Emit)
+named : {Rest : Type 0} (app : App) (words : List Text) (given : List Row) (path files : List (List ℕ)) (emit : Emit)
     → app ≡ command → (is_simple_and_free app ≡ true → fault_of app words ≡ [])
     → (is_simple app ≡ true → (given ≡ matches_of app words) × Rest)
     → Asks given path emit files → Names words path emit files
@@ -108,6 +110,12 @@ named app words given path files emit is faults matched a = record {
   asks = subst (λ (x : List Row). Asks x path emit files)
       ((matched (ap is_simple is ∙ is-simple)).0 ∙ ap (λ (x : App). matches_of x words) is) a;
 }
+
+pub words-named : {Rest : Type 0} (app : App) (words : List Text) (given : List Row) (read : Words)
+    → app ≡ command → (is_simple_and_free app ≡ true → fault_of app words ≡ [])
+    → (is_simple app ≡ true → (given ≡ matches_of app words) × Rest)
+    → AsksWords given read → NamesWords words read
+words-named app words given (Job class emit files) is faults matched a = named app words given class.0 files emit is faults matched a
 
 pub not-named : {Rest : Type 0} (app : App) (words : List Text) (given : List Row) (path files : List (List ℕ)) (emit : Emit)
     → app ≡ command → (is_simple app ≡ true → (given ≡ matches_of app words) × Rest) → (Asks given path emit files → ⊥)

@@ -20,7 +20,8 @@ use Rattle.mo_report.specs.Size.{report_limit}
 use Rattle.mo_front.specs.declared.status.Status.{Status}
 use Rattle.mo_front.specs.declared.words.Emit.{Emit}
 use Rattle.mo_front.specs.declared.words.Emit.TheVariants as asks
-use Rattle.mo_front.specs.Emitted.{PhasesBreak, ReducedBreaks, Refuses, derivatives_size, all_reduced, given, large, no_text, nothing, reduced, reduced_part, report_refusal}
+use Rattle.mo_front.specs.Emitted.{PhaseBreaks, PhasesBreak, ReducedBreaks, Refuses, all_passed, asked_by, derivatives_size, given, large, later, no_text, nothing, reduced_part, report_refusal, this_one}
+use Rattle.mo_front.specs.declared.table.Phase.{Phase}
 
 -- ---- the size of the report
 
@@ -93,26 +94,32 @@ reduced-refused m o offsets c r s is same stops was = subst (λ (x : Option Offs
 pub stopped-at : (s : Stop) (b : Broken) (P : Broken → Type 0) → s ≡ broken_by b → P b → IfBroken {T = List ℕ} (Err s) P
 stopped-at s b P is p = rw is p
 
-pub by-reduced : (m : FlatModel) (r : Report) (t : Result (Option (List ℕ)) Stop) (s : Stop) → t ≡ Err s → IfBroken t (λ b. ReducedBreaks m r.offsets (Some b))
-    → IfBroken {T = List ℕ} (Err s) (λ b. PhasesBreak m r asks.Reduced (Some b))
-by-reduced m r t s is was = at s (rw is at was)
-  where
-    at : (s : Stop) → IfBroken {T = Option (List ℕ)} (Err s) (λ b. ReducedBreaks m r.offsets (Some b)) → IfBroken {T = List ℕ} (Err s) (λ b. PhasesBreak m r asks.Reduced (Some b))
-    at (broken_by b) was = reduced was
-    at no_memory was = tt
+-- ---- phases, one after another
 
-pub by-all : (m : FlatModel) (r : Report) (t : Result (Option (List ℕ)) Stop) (s : Stop) → t ≡ Err s → report_refusal m r ≡ None → IfBroken t (λ b. ReducedBreaks m r.offsets (Some b))
-    → IfBroken {T = List ℕ} (Err s) (λ b. PhasesBreak m r asks.All (Some b))
-by-all m r t s is fits was = at s (rw is at was)
-  where
-    at : (s : Stop) → IfBroken {T = Option (List ℕ)} (Err s) (λ b. ReducedBreaks m r.offsets (Some b)) → IfBroken {T = List ℕ} (Err s) (λ b. PhasesBreak m r asks.All (Some b))
-    at (broken_by b) was = all_reduced fits was
-    at no_memory was = tt
+-- whatever the phases from `left` on break is what all of them break
+abbrev pub Passed : FlatModel → Report → List Phase → List Phase → Type 0
+Passed m r phases left = (o : Option Broken) → PhasesBreak m r left o → PhasesBreak m r phases o
+
+module _ (m : FlatModel) (r : Report) (phases left rest : List Phase) (asked : Phase) (so_far : Passed m r phases left) (front : left ≡ asked ∷ rest) where
+  pub one-passed : PhaseBreaks m r asked None → Passed m r phases rest
+  one-passed here o breaks = so_far o (subst (λ (l : List Phase). PhasesBreak m r l o) (sym front) (later here breaks))
+
+  -- want of memory says nothing; a rule that one phase breaks is what is broken
+  pub one-stopped : {A : Type 0} (t : Result A Stop) (s : Stop) → t ≡ Err s → IfBroken t (λ b. PhaseBreaks m r asked (Some b))
+      → IfBroken {T = A} (Err s) (λ b. PhasesBreak m r phases (Some b))
+  one-stopped {A} t s is was = at s (rw is at was)
+    where
+      at : (s : Stop) → IfBroken {T = A} (Err s) (λ b. PhaseBreaks m r asked (Some b)) → IfBroken {T = A} (Err s) (λ b. PhasesBreak m r phases (Some b))
+      at (broken_by b) was = so_far (Some b) (subst (λ (l : List Phase). PhasesBreak m r l (Some b)) (sym front) (this_one was))
+      at no_memory was = tt
+
+pub all-asked : (m : FlatModel) (r : Report) (phases left : List Phase) → Passed m r phases left → left ≡ [] → PhasesBreak m r phases None
+all-asked m r phases left so_far is = so_far None (subst (λ (l : List Phase). PhasesBreak m r l None) (sym is) all_passed)
 
 pub by-phases : (emit : Emit) (m : FlatModel) (r : Report) (t : Result (List ℕ) Stop) (s : Stop) → t ≡ Err s → (emit ≡ asks.Flat → ⊥) → refusal_of m ≡ None → IsRightReport m r
-    → IfBroken t (λ b. PhasesBreak m r emit (Some b)) → IfBroken {T = Status × List ℕ} (Err s) (λ b. Refuses emit m b)
+    → IfBroken t (λ b. PhasesBreak m r (asked_by emit).phases (Some b)) → IfBroken {T = Status × List ℕ} (Err s) (λ b. Refuses emit m b)
 by-phases emit m r t s is asked accepted right was = at s (rw is at was)
   where
-    at : (s : Stop) → IfBroken {T = List ℕ} (Err s) (λ b. PhasesBreak m r emit (Some b)) → IfBroken {T = Status × List ℕ} (Err s) (λ b. Refuses emit m b)
+    at : (s : Stop) → IfBroken {T = List ℕ} (Err s) (λ b. PhasesBreak m r (asked_by emit).phases (Some b)) → IfBroken {T = Status × List ℕ} (Err s) (λ b. Refuses emit m b)
     at (broken_by b) was = no_text r asked accepted right was
     at no_memory was = tt

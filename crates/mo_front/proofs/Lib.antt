@@ -14,4 +14,5 @@ mod OneByOne
 mod Loaded
 mod Writing
 pub mod Once
+mod OneTold
 mod Structuring

@@ -1,9 +1,7 @@
 -- Files that are read, one after another.
 use Rattle.std.proofs.Common.{◌≡◌, ◌<◌, ◌≤◌, ◌+◌, ◌-◌, ℕ, suc, zero, List, [], ◌∷◌, ◌++◌, map, length, drop, get_or, min, Option, Some, None, unwrap_or, IfSome, IsSomeAnd, Result, Ok, Err, IfOk, IfErr, refl, ap, sym, ◌∙◌, subst, append_assoc, append-nil, arith}
-use Rattle.std.specs.Prelude.{IsUtf8, Contains, slice_index_or, string_bytes}
-use Rattle.std.specs.declared.string.String.{String}
-use Rattle.std.specs.declared.alloc.Global.{Global}
-use Rattle.std.proofs.lemmas.List.{drop_more, drop-map, length-drop, length-append}
+use Rattle.std.specs.Prelude.{IsUtf8, Contains, slice_index_or}
+use Rattle.std.proofs.lemmas.List.{drop_more, length-drop, length-append}
 use Rattle.std.specs.Str.Lossy.{utf8_valid_len}
 use Rattle.mo_syntax.specs.declared.place.Broken.{Broken}
 use Rattle.mo_ports.specs.Contents.{Contents}
@@ -14,7 +12,7 @@ use Rattle.mo_front.specs.Files.{IsText, too_long, not_utf8, Reads, none, broken
 use Rattle.mo_front.specs.Limits.{file_limit, all_files_limit}
 use Rattle.mo_front.specs.Loading.{IsLine, IsTextOf, RefusesBytes, RefusesFile, RefusesReading, MoreFiles}
 use Rattle.mo_front.specs.Refusal.{refusal_line}
-use Rattle.mo_front.specs.Run.{IsNamedFault, words_of}
+use Rattle.mo_front.specs.Run.{IsNamedFault}
 use Rattle.mo_front.specs.Told.{bytes_of_all, line_of_broken}
 
 -- ---- one file
@@ -142,11 +140,8 @@ rose-later first before after before_rose rose = omega (arith, before_rose, rose
 
 -- ---- names
 
-pub words-front : (names : List (String Global)) (i : ℕ) (d : String Global) (name : List ℕ) → i < length names → name ≡ string_bytes (get_or names i d) → words_of (drop i names) ≡ name ∷ words_of (drop (i + 1) names)
-words-front names i d name within is = ap words_of (drop_more names i d within) ∙ ap (λ (x : List ℕ). x ∷ words_of (drop (i + 1) names)) (sym is)
-
-pub words-left : (names : List (String Global)) (i : ℕ) → drop i (words_of names) ≡ words_of (drop i names)
-words-left names i = drop-map string_bytes i names
+pub words-front : (names : List (List ℕ)) (i : ℕ) (d name : List ℕ) → i < length names → name ≡ get_or names i d → drop i names ≡ name ∷ drop (i + 1) names
+words-front names i d name within is = drop_more names i d within ∙ ap (λ (x : List ℕ). x ∷ drop (i + 1) names) (sym is)
 
 length-cons : (x : List ℕ) (xs : List (List ℕ)) → length (x ∷ xs) ≡ suc (length xs)
 length-cons x xs = refl
@@ -166,8 +161,8 @@ contained names after i name is = (i, within, same)
     same : slice_index_or names i name ≡ name
     same = front-of names i name (drop_more names i name within) is
 
-pub named-fault : (failed : Option (List ℕ)) (names : List (String Global)) (i : ℕ) (name : List ℕ) (after : List (List ℕ)) → failed ≡ Some name → words_of (drop i names) ≡ name ∷ after → IsNamedFault failed (words_of names)
-named-fault failed names i name after is front = record { name = name; is = is; among = contained (words_of names) after i name (words-left names i ∙ front) }
+pub named-fault : (failed : Option (List ℕ)) (names : List (List ℕ)) (i : ℕ) (name : List ℕ) (after : List (List ℕ)) → failed ≡ Some name → drop i names ≡ name ∷ after → IsNamedFault failed names
+named-fault failed names i name after is front = record { name = name; is = is; among = contained names after i name front }
 
 -- ---- numbers
 

@@ -1,10 +1,11 @@
 -- What was written of what is told.
-use Rattle.std.proofs.Common.{◌≡◌, ℕ, List, Option, Some, None, IfSome, ap, sym, ◌∙◌, subst, refl, slice_index, if◌then◌else◌, ◌==◌}
+use Rattle.std.proofs.Common.{◌≡◌, ℕ, List, Option, Some, None, IfSome, ap, sym, ◌∙◌, subst, refl, slice_index, if◌then◌else◌, ◌==◌, ◌⊎◌, inl, inr}
 use Rattle.mo_ports.specs.Contents.{Contents}
 use Rattle.mo_ports.specs.Written.{AppendsFront, appended}
 use Rattle.mo_front.specs.declared.status.Status.{Status}
+use Rattle.mo_front.specs.declared.status.Status.TheVariants.{Done, Refused, Singular, Usage, ReadFault, WriteFault, NoMemory}
 use Rattle.mo_front.specs.declared.words.Emit.{Emit}
-use Rattle.mo_front.specs.Run.{TellsWords, WritesFront, WritesTold}
+use Rattle.mo_front.specs.Run.{IsAnswer, IsNamedFault, NamesFault, TellsWords, WritesFront, WritesTold}
 use Rattle.mo_front.specs.Told.{Tells}
 use Rattle.mo_front.specs.declared.words.Emit.TheVariants as asks
 use Rattle.mo_front.specs.Words.{AsksFor, Names, word_of}
@@ -32,11 +33,14 @@ words-front None words path files before after emit names wrote = tt
 words-front (Some contents) words path files before after emit names wrote =
     record { status = wrote.status; text = wrote.text; told = record { path = path; files = files; emit = emit; names = names; tells = wrote.told }; written = wrote.written }
 
+pub names-fault : (words path files : List (List ℕ)) (emit : Emit) (failed : Option (List ℕ)) → Names words path emit files → IsNamedFault failed files → NamesFault words failed
+names-fault words path files emit failed names fault = record { path = path; files = files; emit = emit; names = names; fault = fault }
+
 -- ---- what the words ask for
 
 -- what is asked for by a word, which its third letter tells
 asked_by : List ℕ → Emit
-asked_by word = if slice_index word 2 == 97 then asks.Flat else (if slice_index word 2 == 100 then asks.Reduced else (if slice_index word 2 == 112 then asks.Report else asks.All))
+asked_by word = if slice_index word 2 == 97 then asks.Flat else (if slice_index word 2 == 100 then asks.Reduced else (if slice_index word 2 == 112 then asks.Report else (if slice_index word 2 == 111 then asks.Json else asks.All)))
 
 asked-word : (emit : Emit) → asked_by (word_of emit) ≡ emit
 unfolding asked_by
@@ -44,6 +48,7 @@ asked-word asks.Flat = refl
 asked-word asks.Reduced = refl
 asked-word asks.Report = refl
 asked-word asks.All = refl
+asked-word asks.Json = refl
 
 one-asked : (word : Option (List ℕ)) (emit other : Emit) → AsksFor word emit → AsksFor word other → emit ≡ other
 one-asked None emit other is also = is ∙ sym also
@@ -52,3 +57,13 @@ one-asked (Some word) emit other is also = sym (asked-word emit) ∙ ap asked_by
 -- words ask for one thing only
 pub one-emit : (words path others files more : List (List ℕ)) (emit other : Emit) → Names words path emit files → Names words others other more → emit ≡ other
 one-emit words path others files more emit other names again = one-asked _ emit other names.asks.asks_for again.asks.asks_for
+
+-- a run that is asked for something, and meets no fault, answers, or memory is refused
+pub answered : (s : Status) → (s ≡ Usage → ⊥) → (s ≡ ReadFault → ⊥) → (s ≡ WriteFault → ⊥) → IsAnswer s ⊎ (s ≡ NoMemory)
+answered Done usage read write = inl tt
+answered Refused usage read write = inl tt
+answered Singular usage read write = inl tt
+answered Usage usage read write = absurd (usage refl)
+answered ReadFault usage read write = absurd (read refl)
+answered WriteFault usage read write = absurd (write refl)
+answered NoMemory usage read write = inr refl

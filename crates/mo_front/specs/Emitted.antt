@@ -1,7 +1,7 @@
 -- What is written of a flat model, by what is asked for: its text, its reduced model (S. E. Mattsson and G. Söderlind, Index
 -- reduction in differential-algebraic equations using dummy derivatives, SIAM J. Sci. Comput. 14, 1993), the report on its
--- structure (J. D. Pryce, A simple structural analysis method for DAEs, BIT 41, 2001), or all three.
-use Rattle.std.specs.Prelude.{◌≡◌, ◌≢◌, ℕ, ◌==◌, ◌||◌, Bool, List, [], ◌++◌, Option, Some, None, is_some, length, nat_le, nat_lt, unwrap_or, if◌then◌else◌}
+-- structure (J. D. Pryce, A simple structural analysis method for DAEs, BIT 41, 2001), as lines or as JSON, or all three.
+use Rattle.std.specs.Prelude.{◌≡◌, ◌≢◌, ℕ, ◌==◌, ◌||◌, Bool, List, [], ◌∷◌, flat_map, Option, Some, None, is_some, length, nat_le, nat_lt, unwrap_or, if◌then◌else◌}
 use Rattle.mo_syntax.specs.declared.place.Broken.{Broken}
 use Rattle.mo_syntax.specs.declared.place.Place.{Place}
 use Rattle.mo_flat.specs.declared.model.FlatModel.{FlatModel}
@@ -14,10 +14,30 @@ use Rattle.mo_report.specs.declared.report.Report.{Report}
 use Rattle.mo_report.specs.Lines.{report_lines}
 use Rattle.mo_report.specs.Right.{IsRightReport}
 use Rattle.mo_report.specs.Size.{report_limit, report_size}
+use Rattle.mo_json.specs.Values.{json_line}
 use Rattle.mo_front.specs.declared.status.Status.{Status}
 use Rattle.mo_front.specs.declared.status.Status.TheVariants.{Done, Singular}
 use Rattle.mo_front.specs.declared.words.Emit.{Emit}
 use Rattle.mo_front.specs.declared.words.Emit.TheVariants as emit
+use Rattle.mo_front.specs.declared.table.Phase.{Phase}
+use Rattle.mo_front.specs.declared.table.Phase.TheVariants as phase
+use Rattle.mo_front.specs.declared.table.Part.{Part}
+use Rattle.mo_front.specs.declared.table.Part.TheVariants as part
+
+-- ---- what is asked for
+
+-- phases behind the incidence, in order, and texts, one behind the other
+pub record Asked : Type 0 where
+  pub phases : List Phase
+  pub parts : List Part
+
+-- the phases and texts of each value; of the flat text alone not even the incidence is asked
+abbrev pub asked_by : Emit → Asked
+asked_by emit.Flat = record { phases = []; parts = part.Flat ∷ [] }
+asked_by emit.Reduced = record { phases = phase.Reduction ∷ []; parts = part.ReducedOrReport ∷ [] }
+asked_by emit.Report = record { phases = phase.Size ∷ []; parts = part.Report ∷ [] }
+asked_by emit.All = record { phases = phase.Size ∷ phase.Reduction ∷ []; parts = part.Flat ∷ part.Reduced ∷ part.Report ∷ [] }
+asked_by emit.Json = record { phases = phase.Size ∷ []; parts = part.Json ∷ [] }
 
 -- ---- the rules that the phases behind the incidence break, which go by a right report
 
@@ -40,13 +60,16 @@ pub data ReducedBreaks (m : FlatModel) : Option Offsets → Option Broken → Ty
   nothing : {offsets : Offsets} → first_given m.vars m.equations offsets.c.items ≡ None → IsWithin m (reduced_lines m.vars m.equations offsets.c.items)
       → ReducedBreaks m (Some offsets) None
 
--- the rule that is broken by the phases that are asked for, the report before the reduced model
-pub data PhasesBreak (m : FlatModel) (r : Report) : Emit → Option Broken → Type 0 where
-  flat : PhasesBreak m r emit.Flat None
-  report : {o : Option Broken} → report_refusal m r ≡ o → PhasesBreak m r emit.Report o
-  reduced : {o : Option Broken} → ReducedBreaks m r.offsets o → PhasesBreak m r emit.Reduced o
-  all_report : {b : Broken} → report_refusal m r ≡ Some b → PhasesBreak m r emit.All (Some b)
-  all_reduced : {o : Option Broken} → report_refusal m r ≡ None → ReducedBreaks m r.offsets o → PhasesBreak m r emit.All o
+-- the rule that one phase breaks
+abbrev pub PhaseBreaks : FlatModel → Report → Phase → Option Broken → Type 0
+PhaseBreaks m r phase.Size o = report_refusal m r ≡ o
+PhaseBreaks m r phase.Reduction o = ReducedBreaks m r.offsets o
+
+-- the rule that is broken by phases that are asked one after another
+pub data PhasesBreak (m : FlatModel) (r : Report) : List Phase → Option Broken → Type 0 where
+  all_passed : PhasesBreak m r [] None
+  this_one : {asked : Phase} {phases : List Phase} {b : Broken} → PhaseBreaks m r asked (Some b) → PhasesBreak m r (asked ∷ phases) (Some b)
+  later : {asked : Phase} {phases : List Phase} {o : Option Broken} → PhaseBreaks m r asked None → PhasesBreak m r phases o → PhasesBreak m r (asked ∷ phases) o
 
 -- ---- the text and the status
 
@@ -55,12 +78,13 @@ abbrev pub reduced_part : FlatModel → Option Offsets → Option (List ℕ)
 reduced_part m None = None
 reduced_part m (Some offsets) = Some (reduced_text m (reduced_lines m.vars m.equations offsets.c.items))
 
--- where there is no reduced model the report stands in its place, or it is left out
-abbrev pub text_of : Emit → FlatModel → Report → List ℕ
-text_of emit.Flat m r = model_text m
-text_of emit.Report m r = report_lines r
-text_of emit.Reduced m r = unwrap_or (reduced_part m r.offsets) (report_lines r)
-text_of emit.All m r = model_text m ++ unwrap_or (reduced_part m r.offsets) [] ++ report_lines r
+-- one of the texts that may be written of the model
+abbrev pub part_text : FlatModel → Report → Part → List ℕ
+part_text m r part.Flat = model_text m
+part_text m r part.Reduced = unwrap_or (reduced_part m r.offsets) []
+part_text m r part.ReducedOrReport = unwrap_or (reduced_part m r.offsets) (report_lines r)
+part_text m r part.Report = report_lines r
+part_text m r part.Json = json_line r
 
 -- not every equation or not every unknown can be assigned
 abbrev pub is_singular : Report → Bool
@@ -74,10 +98,10 @@ status_of r = if is_singular r then Singular else Done
 -- the text that is written of the model, with its status
 pub data Writes (asked : Emit) (m : FlatModel) (status : Status) (text : List ℕ) : Type 0 where
   flat_text : asked ≡ emit.Flat → status ≡ Done → text ≡ model_text m → Writes asked m status text
-  analysed : (r : Report) → asked ≢ emit.Flat → refusal_of m ≡ None → IsRightReport m r → PhasesBreak m r asked None → status ≡ status_of r → text ≡ text_of asked m r
+  analysed : (r : Report) → asked ≢ emit.Flat → refusal_of m ≡ None → IsRightReport m r → PhasesBreak m r (asked_by asked).phases None → status ≡ status_of r → text ≡ flat_map (part_text m r) (asked_by asked).parts
       → Writes asked m status text
 
 -- the first rule that is broken instead: those of the incidence before those of the other phases
 pub data Refuses (asked : Emit) (m : FlatModel) (b : Broken) : Type 0 where
   no_incidence : asked ≢ emit.Flat → refusal_of m ≡ Some b → Refuses asked m b
-  no_text : (r : Report) → asked ≢ emit.Flat → refusal_of m ≡ None → IsRightReport m r → PhasesBreak m r asked (Some b) → Refuses asked m b
+  no_text : (r : Report) → asked ≢ emit.Flat → refusal_of m ≡ None → IsRightReport m r → PhasesBreak m r (asked_by asked).phases (Some b) → Refuses asked m b

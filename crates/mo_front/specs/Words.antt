@@ -11,6 +11,8 @@ use Rattle.mo_syntax.specs.Lexeme.{Lexeme}
 use Rattle.mo_lexer.specs.Lexing.{Lexes}
 use Rattle.mo_front.specs.declared.words.Emit.{Emit}
 use Rattle.mo_front.specs.declared.words.Emit.TheVariants as emit
+use Rattle.mo_front.specs.declared.words.Words.{Words}
+use Rattle.mo_front.specs.declared.words.Words.TheVariants.{Job}
 use Rattle.mo_front.specs.Limits.{most_files}
 
 -- ---- the class
@@ -70,6 +72,7 @@ word_of emit.Flat = codes "flat"
 word_of emit.Reduced = codes "reduced"
 word_of emit.Report = codes "report"
 word_of emit.All = codes "all"
+word_of emit.Json = codes "json"
 
 -- a word that is given says what is to be written; with none all is written
 abbrev pub AsksFor : Option (List ℕ) → Emit → Type 0
@@ -117,3 +120,13 @@ pub record Asks (given : List Row) (path : List (List ℕ)) (emit : Emit) (files
 pub record Names (words path : List (List ℕ)) (emit : Emit) (files : List (List ℕ)) : Type 0 where
   pub no_fault : fault_of command words ≡ []
   pub asks : Asks (matches_of command words) path emit files
+
+-- ---- what is read of the words
+
+-- options and files ask for what is read
+abbrev pub AsksWords : List Row → Words → Type 0
+AsksWords given (Job class emit files) = Asks given class.0 emit files
+
+-- the words ask for what is read
+abbrev pub NamesWords : List (List ℕ) → Words → Type 0
+NamesWords words (Job class emit files) = Names words class.0 emit files

@@ -1,19 +1,22 @@
 //! What is written of a flat model.
-ghost use Rattle.std.specs.Prelude.{◌≡◌, ◌≢◌, ◌++◌, Some, None, [], nat_le, unwrap_or, string_bytes, IfOk, OnOk};
+ghost use Rattle.std.specs.Prelude.{◌≡◌, ◌≢◌, ◌++◌, Some, None, flat_map, nat_le, string_bytes, IfOk, IfSome, OnOk};
 ghost use Rattle.mo_lexer.specs.Lexing.{IfBroken};
 ghost use Rattle.mo_flat.specs.Sound.{IsSoundModel};
 ghost use Rattle.mo_flat.specs.Text.{model_text};
 ghost use Rattle.mo_incidence.specs.Model.{refusal_of};
 ghost use Rattle.mo_symdiff.specs.Reduced.{too_large};
 ghost use Rattle.mo_report.specs.Lines.{report_lines};
+ghost use Rattle.mo_json.specs.Values.{json_line};
 ghost use Rattle.mo_report.specs.Right.{IsRightReport};
 ghost use Rattle.mo_report.specs.Size.{report_limit};
-ghost use Rattle.mo_front.specs.Emitted.{PhasesBreak, ReducedBreaks, Refuses, Writes, derivatives_size, is_singular, reduced_part, status_of, text_of};
+ghost use Rattle.mo_front.specs.Emitted.{PhaseBreaks, PhasesBreak, ReducedBreaks, Refuses, Writes, asked_by, derivatives_size, is_singular, part_text, reduced_part, status_of};
 
 use crate::status::Status;
 use crate::structure::report_of;
+use crate::table::{Part, Phase, parts, phases};
 use crate::words::Emit;
 use mo_flat::{FlatModel, flat_text};
+use mo_json::report_json;
 use mo_report::{Report, report_fits, report_text};
 use mo_symdiff::{reduced, reduced_text};
 use mo_syntax::{Broken, NoMemory, Rule, Stop, Text};
@@ -62,15 +65,64 @@ fn status_of(r: &Report) -> Status
 /// The text of a model with that report, or the rule that a phase behind the incidence breaks.
 fn text_of(alloc: Global, emit: Emit, m: &FlatModel, r: &Report) -> Result<Text, Stop>
     requires right { IsRightReport m.now r.now }
-    ensures passed { OnOk result (PhasesBreak m.now r.now emit None) }
-    ensures text { IfOk result (λ text. text ≡ text_of emit m.now r.now) }
-    ensures refused { IfBroken result (λ b. PhasesBreak m.now r.now emit (Some b)) }
+    ensures passed { OnOk result (PhasesBreak m.now r.now (asked_by emit).phases None) }
+    ensures text { IfOk result (λ text. text ≡ flat_map (part_text m.now r.now) (asked_by emit).parts) }
+    ensures refused { IfBroken result (λ b. PhasesBreak m.now r.now (asked_by emit).phases (Some b)) }
 {
-    match emit {
-        Emit::Flat => Ok(flat_text(alloc, m)?),
-        Emit::Report => text_of_report(alloc, m, r),
-        Emit::Reduced => text_of_reduced(alloc, m, r),
-        Emit::All => text_of_all(alloc, m, r),
+    match passed(alloc, m, r, phases(emit)) {
+        Ok(made) => Ok(all_parts(alloc, m, r, &made, parts(emit))?),
+        Err(stop) => Err(stop),
+    }
+}
+
+/// Asks phases one after another, or gives the first rule that one of them breaks. The text of the reduced model is kept, where
+/// one of them makes it.
+fn passed(
+    alloc: Global,
+    m: &FlatModel,
+    r: &Report,
+    phases: &[Phase],
+) -> Result<Option<Option<Text>>, Stop>
+    requires right { IsRightReport m.now r.now }
+    ensures passed { OnOk result (PhasesBreak m.now r.now phases.now None) }
+    ensures made { IfOk result (λ made. IfSome made (λ part. part ≡ reduced_part m.now r.now.offsets)) }
+    ensures refused { IfBroken result (λ b. PhasesBreak m.now r.now phases.now (Some b)) }
+{
+    let mut made = None;
+    for phase in phases {
+        match pass(alloc, m, r, *phase, made) {
+            Ok(passed) => made = passed,
+            Err(stop) => return Err(stop),
+        }
+    }
+    Ok(made)
+}
+
+/// Asks one phase.
+fn pass(
+    alloc: Global,
+    m: &FlatModel,
+    r: &Report,
+    phase: Phase,
+    made: Option<Option<Text>>,
+) -> Result<Option<Option<Text>>, Stop>
+    requires right { IsRightReport m.now r.now }
+    requires made { IfSome made (λ part. part ≡ reduced_part m.now r.now.offsets) }
+    ensures passed { OnOk result (PhaseBreaks m.now r.now phase None) }
+    ensures made { IfOk result (λ made. IfSome made (λ part. part ≡ reduced_part m.now r.now.offsets)) }
+    ensures refused { IfBroken result (λ b. PhaseBreaks m.now r.now phase (Some b)) }
+{
+    match phase {
+        Phase::Size => {
+            if fits(m, r) {
+                return Ok(made);
+            }
+            Err(too_large(m))
+        }
+        Phase::Reduction => match reduced_part(alloc, m, r) {
+            Ok(part) => Ok(Some(part)),
+            Err(stop) => Err(stop),
+        },
     }
 }
 
@@ -97,74 +149,92 @@ fn too_large(m: &FlatModel) -> Stop
     })
 }
 
-fn text_of_report(alloc: Global, m: &FlatModel, r: &Report) -> Result<Text, Stop>
-    requires right { IsRightReport m.now r.now }
-    ensures passed { OnOk result (PhasesBreak m.now r.now Emit.Report None) }
-    ensures text { IfOk result (λ text. text ≡ report_lines r.now) }
-    ensures refused { IfBroken result (λ b. PhasesBreak m.now r.now Emit.Report (Some b)) }
+/// The texts, one behind the other.
+fn all_parts(
+    alloc: Global,
+    m: &FlatModel,
+    r: &Report,
+    reduced: &Option<Option<Text>>,
+    parts: &[Part],
+) -> Result<Text, NoMemory>
+    requires { IfSome reduced.now (λ part. part ≡ reduced_part m.now r.now.offsets) }
+    ensures { IfOk result (λ text. text ≡ flat_map (part_text m.now r.now) parts.now) }
 {
-    if !fits(m, r) {
-        return Err(too_large(m));
-    }
-    Ok(report_text(alloc, r)?)
-}
-
-fn text_of_reduced(alloc: Global, m: &FlatModel, r: &Report) -> Result<Text, Stop>
-    requires right { IsRightReport m.now r.now }
-    ensures passed { OnOk result (PhasesBreak m.now r.now Emit.Reduced None) }
-    ensures text { IfOk result (λ text. text ≡ unwrap_or (reduced_part m.now r.now.offsets) (report_lines r.now)) }
-    ensures refused { IfBroken result (λ b. PhasesBreak m.now r.now Emit.Reduced (Some b)) }
-{
-    match reduced_part(alloc, m, r) {
-        Ok(part) => Ok(part_or_report(alloc, part, r)?),
-        Err(stop) => Err(stop),
-    }
-}
-
-/// The text of the reduced model, or the report where there is none.
-fn part_or_report(alloc: Global, part: Option<Text>, r: &Report) -> Result<Text, NoMemory>
-    ensures { IfOk result (λ text. text ≡ unwrap_or part (report_lines r.now)) }
-{
-    match part {
-        Some(text) => Ok(text),
-        None => report_text(alloc, r),
-    }
-}
-
-fn text_of_all(alloc: Global, m: &FlatModel, r: &Report) -> Result<Text, Stop>
-    requires right { IsRightReport m.now r.now }
-    ensures passed { OnOk result (PhasesBreak m.now r.now Emit.All None) }
-    ensures text { IfOk result (λ text. text ≡ model_text m.now ++ unwrap_or (reduced_part m.now r.now.offsets) [] ++ report_lines r.now) }
-    ensures refused { IfBroken result (λ b. PhasesBreak m.now r.now Emit.All (Some b)) }
-{
-    if !fits(m, r) {
-        return Err(too_large(m));
-    }
-    match reduced_part(alloc, m, r) {
-        Ok(part) => Ok(all_texts(alloc, m, text_or_nothing(&part), r)?),
-        Err(stop) => Err(stop),
-    }
-}
-
-fn text_or_nothing(part: &Option<Text>) -> &str
-    ensures { result.now ≡ unwrap_or part.now [] }
-{
-    match part {
-        Some(text) => text.as_str(),
-        None => "",
-    }
-}
-
-/// The flat text, the text of the reduced model, and the report, one behind the other.
-fn all_texts(alloc: Global, m: &FlatModel, reduced: &str, r: &Report) -> Result<Text, NoMemory>
-    ensures { IfOk result (λ text. text ≡ model_text m.now ++ reduced.now ++ report_lines r.now) }
-{
-    let flat = flat_text(alloc, m)?;
-    let report = report_text(alloc, r)?;
-    let mut out = String::from_str(alloc, flat.as_str())?;
-    out.push_str(reduced)?;
-    out.push_str(report.as_str())?;
+    let mut out = String::new(alloc);
+    write_parts(alloc, &mut out, m, r, reduced, parts)?;
     Ok(Text::from_string(out))
+}
+
+/// Writes texts, one behind the other.
+fn write_parts(
+    alloc: Global,
+    out: &mut String,
+    m: &FlatModel,
+    r: &Report,
+    reduced: &Option<Option<Text>>,
+    parts: &[Part],
+) -> Result<(), NoMemory>
+    requires { IfSome reduced.now (λ part. part ≡ reduced_part m.now r.now.offsets) }
+    ensures { OnOk result (string_bytes out.new ≡ string_bytes out.old ++ flat_map (part_text m.now r.now) parts.now) }
+{
+    for part in parts {
+        write_part(alloc, out, m, r, reduced, *part)?;
+    }
+    Ok(())
+}
+
+/// Writes one text. The reduced model is one of the phases wherever its text is asked for.
+fn write_part(
+    alloc: Global,
+    out: &mut String,
+    m: &FlatModel,
+    r: &Report,
+    reduced: &Option<Option<Text>>,
+    part: Part,
+) -> Result<(), NoMemory>
+    requires { IfSome reduced.now (λ part. part ≡ reduced_part m.now r.now.offsets) }
+    ensures { OnOk result (string_bytes out.new ≡ string_bytes out.old ++ part_text m.now r.now part) }
+{
+    match part {
+        Part::Flat => write_flat(alloc, out, m),
+        Part::Report => write_report(alloc, out, r),
+        Part::Json => write_json(alloc, out, r),
+        Part::Reduced => match reduced {
+            Some(Some(text)) => write_text(out, text),
+            Some(None) => Ok(()),
+            None => Err(NoMemory),
+        },
+        Part::ReducedOrReport => match reduced {
+            Some(Some(text)) => write_text(out, text),
+            Some(None) => write_report(alloc, out, r),
+            None => Err(NoMemory),
+        },
+    }
+}
+
+fn write_text(out: &mut String, text: &Text) -> Result<(), NoMemory>
+    ensures { OnOk result (string_bytes out.new ≡ string_bytes out.old ++ text.now) }
+{
+    out.push_str(text.as_str())?;
+    Ok(())
+}
+
+fn write_flat(alloc: Global, out: &mut String, m: &FlatModel) -> Result<(), NoMemory>
+    ensures { OnOk result (string_bytes out.new ≡ string_bytes out.old ++ model_text m.now) }
+{
+    write_text(out, &flat_text(alloc, m)?)
+}
+
+fn write_json(alloc: Global, out: &mut String, r: &Report) -> Result<(), NoMemory>
+    ensures { OnOk result (string_bytes out.new ≡ string_bytes out.old ++ json_line r.now) }
+{
+    write_text(out, &report_json(alloc, r)?)
+}
+
+fn write_report(alloc: Global, out: &mut String, r: &Report) -> Result<(), NoMemory>
+    ensures { OnOk result (string_bytes out.new ≡ string_bytes out.old ++ report_lines r.now) }
+{
+    write_text(out, &report_text(alloc, r)?)
 }
 
 /// The text of the reduced model, None where some equation cannot be assigned, or the rule that it breaks.

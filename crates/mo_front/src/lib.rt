@@ -2,8 +2,9 @@
 //! text, its reduced model and the report on its structure, or the line that names the first broken rule.
 //!
 //! - `run`: the program over any shelf and sink.
-//! - `files_give_one` is the law that files give one thing only.
+//! - `files_give_one` and `files_tell_one` are the laws that files give one thing only, and that one text is told of it.
 //! - `Status`: how it ended, and the number that it ends with.
+//! - `read_words`: what the words of the command line ask for, as `Words` and `Emit`, or a `WordsFault`.
 #![tactic(auto)]
 
 mod answer;
@@ -21,10 +22,12 @@ mod refusal;
 mod size;
 mod status;
 mod structure;
+mod table;
 mod top;
 mod variables;
 mod words;
 
-pub use laws::files_give_one;
+pub use laws::{files_give_one, files_tell_one};
 pub use program::run;
 pub use status::Status;
+pub use words::{Emit, Words, WordsFault, read_words};

@@ -5,7 +5,7 @@ ghost use Rattle.mo_ports.specs.Counts.{Rose};
 ghost use Rattle.mo_front.specs.Files.{Reads, IsText, breaks_at};
 ghost use Rattle.mo_front.specs.Limits.{file_limit, all_files_limit, most_files};
 ghost use Rattle.mo_front.specs.Loading.{IsLine, IsTextOf, RefusesBytes, RefusesFile, RefusesReading};
-ghost use Rattle.mo_front.specs.Run.{IsNamedFault, words_of};
+ghost use Rattle.mo_front.specs.Run.{IsNamedFault};
 
 use crate::refusal::refusal_text;
 use mo_ports::{ReadStop, Shelf, read_all};
@@ -42,16 +42,16 @@ impl From<NoMemory> for Unread {
 /// The texts of the named files, of which there are at most 64.
 pub(crate) fn read_files<S: Shelf>(
     alloc: Global,
-    names: &[String],
+    names: &[Text],
     shelf: &mut S,
 ) -> Result<List<Text>, Unread>
     requires few { length names.now ≤ most_files }
-    ensures texts { IfOk result (λ texts. IfSome (S.told shelf.old) (λ contents. Reads contents 1 all_files_limit (words_of names.now) (Yes texts))) }
+    ensures texts { IfOk result (λ texts. IfSome (S.told shelf.old) (λ contents. Reads contents 1 all_files_limit names.now (Yes texts))) }
     ensures count { IfOk result (λ texts. length texts ≡ length names.now) }
     ensures short { IfOk result (All (λ text. length text ≤ file_limit)) }
-    ensures refused { IfErr result (λ u. IfSome (S.told shelf.old) (λ contents. RefusesReading contents (words_of names.now) u)) }
+    ensures refused { IfErr result (λ u. IfSome (S.told shelf.old) (λ contents. RefusesReading contents names.now u)) }
     ensures fault { IfErr result (λ u. u ≡ Unread.Fault → Rose (S.faults shelf.old) (S.faults shelf.new)) }
-    ensures fault_name { IfErr result (λ u. u ≡ Unread.Fault → IsNamedFault (S.failed shelf.new) (words_of names.now)) }
+    ensures fault_name { IfErr result (λ u. u ≡ Unread.Fault → IsNamedFault (S.failed shelf.new) names.now) }
 {
     let mut texts = List::new(alloc);
     let mut left = ALL_FILES_LIMIT;

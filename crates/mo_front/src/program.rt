@@ -13,7 +13,7 @@ use crate::emit::written_of;
 use crate::load::{Unread, read_files};
 use crate::refusal::refusal_text;
 use crate::status::Status;
-use crate::words::{Emit, WordsFault, read_words};
+use crate::words::{Emit, Words, WordsFault, read_words};
 use mo_ports::{Shelf, Sink, put_all};
 use mo_syntax::{Broken, List, NoMemory, Path, Stop, Text};
 use std::alloc::Global;
@@ -38,16 +38,21 @@ pub fn run<S: Shelf, W: Sink>(alloc: Global, words: &[String], shelf: &mut S, ou
     ensures complete { (path files : Seq (Seq ℕ)) → (emit : Emit) → Names (words_of words.now) path emit files → (Rose (S.faults shelf.old) (S.faults shelf.new) → ⊥) → (Rose (W.faults out.old) (W.faults out.new) → ⊥) → IsAnswer result ⊎ (result ≡ Status.NoMemory) }
 {
     match read_words(alloc, words) {
-        Ok(job) => run_job(
-            alloc,
-            &job.class,
-            job.emit,
-            job.files.as_slice(),
-            shelf,
-            out,
-        ),
+        Ok(asked) => {
+            let (class, emit, files) = parts(asked);
+            run_job(alloc, &class, emit, files.as_slice(), shelf, out)
+        }
         Err(WordsFault::Usage) => Status::Usage,
         Err(WordsFault::NoMemory) => Status::NoMemory,
+    }
+}
+
+/// What the words ask for, in parts.
+fn parts(asked: Words) -> (Path, Emit, List<Text>)
+    ensures { asked ≡ Words.Job result.0 result.1 result.2 }
+{
+    match asked {
+        Words::Job { class, emit, files } => (class, emit, files),
     }
 }
 
@@ -56,19 +61,19 @@ fn run_job<S: Shelf, W: Sink>(
     alloc: Global,
     class: &Path,
     emit: Emit,
-    files: &[String],
+    files: &[Text],
     shelf: &mut S,
     out: &mut W,
 ) -> Status
     requires few { length files.now ≤ most_files }
-    ensures told { IsAnswer result → IfSome (S.told shelf.old) (λ contents. WritesTold (Tells class.now.0 emit (words_of files.now) contents) (W.written out.old) (W.written out.new) result) }
+    ensures told { IsAnswer result → IfSome (S.told shelf.old) (λ contents. WritesTold (Tells class.now.0 emit files.now contents) (W.written out.old) (W.written out.new) result) }
     ensures silent { IsSilent result → W.written out.new ≡ W.written out.old }
-    ensures front { result ≡ Status.WriteFault → IfSome (S.told shelf.old) (λ contents. WritesFront (Tells class.now.0 emit (words_of files.now) contents) (W.written out.old) (W.written out.new)) }
+    ensures front { result ≡ Status.WriteFault → IfSome (S.told shelf.old) (λ contents. WritesFront (Tells class.now.0 emit files.now contents) (W.written out.old) (W.written out.new)) }
 
     ensures usage { result ≢ Status.Usage }
     ensures flat { emit ≡ Emit.Flat → result ≢ Status.Singular }
     ensures read { result ≡ Status.ReadFault → Rose (S.faults shelf.old) (S.faults shelf.new) }
-    ensures read_name { result ≡ Status.ReadFault → IsNamedFault (S.failed shelf.new) (words_of files.now) }
+    ensures read_name { result ≡ Status.ReadFault → IsNamedFault (S.failed shelf.new) files.now }
     ensures write { result ≡ Status.WriteFault → Rose (W.faults out.old) (W.faults out.new) }
 {
     let (status, text) = match read_answer(alloc, class, emit, files, shelf) {
@@ -86,16 +91,16 @@ fn read_answer<S: Shelf>(
     alloc: Global,
     class: &Path,
     emit: Emit,
-    files: &[String],
+    files: &[Text],
     shelf: &mut S,
 ) -> Result<(Status, List<u8>), Status>
     requires few { length files.now ≤ most_files }
-    ensures told { IfOk result (λ a. IfSome (S.told shelf.old) (λ contents. Tells class.now.0 emit (words_of files.now) contents a.0 a.1)) }
+    ensures told { IfOk result (λ a. IfSome (S.told shelf.old) (λ contents. Tells class.now.0 emit files.now contents a.0 a.1)) }
     ensures answers { IfOk result (λ a. IsAnswer a.0) }
     ensures flat { IfOk result (λ a. emit ≡ Emit.Flat → a.0 ≢ Status.Singular) }
     ensures stops { IfErr result (λ status. (status ≡ Status.ReadFault) ⊎ (status ≡ Status.NoMemory)) }
     ensures read { IfErr result (λ status. status ≡ Status.ReadFault → Rose (S.faults shelf.old) (S.faults shelf.new)) }
-    ensures read_name { IfErr result (λ status. status ≡ Status.ReadFault → IsNamedFault (S.failed shelf.new) (words_of files.now)) }
+    ensures read_name { IfErr result (λ status. status ≡ Status.ReadFault → IsNamedFault (S.failed shelf.new) files.now) }
 {
     match read_files(alloc, files, shelf) {
         Ok(texts) => match answer(alloc, class, emit, files, texts.as_slice()) {
@@ -113,12 +118,12 @@ fn answer(
     alloc: Global,
     class: &Path,
     emit: Emit,
-    files: &[String],
+    files: &[Text],
     texts: &[Text],
 ) -> Result<(Status, List<u8>), NoMemory>
     requires few { length texts.now ≤ most_files }
     requires short { All (λ text. length text ≤ file_limit) texts.now }
-    ensures tells { IfOk result (λ a. TellsTexts class.now.0 emit (words_of files.now) texts.now a.0 a.1) }
+    ensures tells { IfOk result (λ a. TellsTexts class.now.0 emit files.now texts.now a.0 a.1) }
 {
     match written(alloc, class, emit, texts) {
         Ok((status, text)) => Ok((status, bytes_of(alloc, &text)?)),
@@ -153,11 +158,11 @@ fn bytes_of(alloc: Global, text: &Text) -> Result<List<u8>, NoMemory>
 /// The line of a rule that is broken in files with these texts.
 fn line_of(
     alloc: Global,
-    files: &[String],
+    files: &[Text],
     texts: &[Text],
     broken: Broken,
 ) -> Result<Vec<u8>, NoMemory>
-    ensures { IfOk result (λ line. line.items ≡ line_of_broken (words_of files.now) texts.now broken) }
+    ensures { IfOk result (λ line. line.items ≡ line_of_broken files.now texts.now broken) }
 {
     let at = (broken.place.file as usize).saturating_sub(1);
     let name = match files.get(at) {

@@ -3,15 +3,16 @@ ghost use Rattle.std.specs.Prelude.{◌≡◌, ◌≢◌, ◌++◌, ◌∷◌, [
 ghost use Rattle.std.specs.List.{flat_map};
 ghost use Rattle.mo_syntax.specs.Lexeme.{lexemes};
 ghost use Rattle.std.specs.String.{string_bytes};
-ghost use Rattle.mo_front.specs.Words.{Asks, AsksFor, Names, NamesClass, command, dotted_names, is_dot, is_end, is_ident, name_alone, name_before_dot, with_dots};
+ghost use Rattle.mo_front.specs.Words.{Asks, AsksFor, AsksWords, Names, NamesClass, NamesWords, command, dotted_names, is_dot, is_end, is_ident, name_alone, name_before_dot, with_dots};
 ghost use Rattle.mo_front.specs.Run.{words_of};
 ghost use Rattle.clap.specs.Words.{app_of, found_of, kind_of, rows_of};
 
 use clap::error::ErrorKind;
-use clap::{Arg, ArgAction, ArgMatches, Command, Error};
+use clap::{Arg, ArgAction, ArgMatches, Command};
 use mo_lexer::tokens;
-use mo_syntax::{List, NoMemory, Path, Stop, Text, Token, TokenKind};
+use mo_syntax::{List, NoMemory, Path, Stop, Text, Token, TokenKind, pushed};
 use std::alloc::{AllocError, Global};
+use thiserror::Error;
 
 /// The most files that the words may name.
 const MOST_FILES: usize = 64;
@@ -27,24 +28,31 @@ pub enum Emit {
     Report,
     /// All three.
     All,
+    /// The report as JSON.
+    Json,
 }
 
 /// What the words ask for.
-#[derive(Drop)]
-pub(crate) struct Job {
-    /// The path of the class.
-    pub class: Path,
-    /// What is to be written of it.
-    pub emit: Emit,
-    /// From 1 to 64 names.
-    pub files: Vec<String>,
+#[derive(Debug, Drop)]
+pub enum Words {
+    /// A text of a class in files.
+    Job {
+        /// The path of the class.
+        class: Path,
+        /// What is to be written of it.
+        emit: Emit,
+        /// From 1 to 64 names of files.
+        files: List<Text>,
+    },
 }
 
 /// Why the words ask for nothing.
-#[derive(Clone, Copy, Debug, PartialEq, Eq)]
-pub(crate) enum WordsFault {
+#[derive(Clone, Copy, Debug, PartialEq, Eq, Error)]
+pub enum WordsFault {
     /// They are of another form.
+    #[error("the words are of no form that the program knows")]
     Usage,
+    #[error("out of memory")]
     NoMemory,
 }
 
@@ -70,9 +78,10 @@ impl From<NoMemory> for WordsFault {
     }
 }
 
-/// Reads the words of the command line, without the program's own name.
-pub(crate) fn read_words(alloc: Global, words: &[String]) -> Result<Job, WordsFault>
-    ensures names { IfOk result (λ job. Names (words_of words.now) job.class.0 job.emit (words_of job.files.items)) }
+/// Reads the words of the command line, without the program's own name. `Usage` exactly where they are of no form that the
+/// program knows; `NoMemory` is the only other answer.
+pub fn read_words(alloc: Global, words: &[String]) -> Result<Words, WordsFault>
+    ensures names { IfOk result (NamesWords (words_of words.now)) }
     ensures usage { IsErrOf result WordsFault.Usage → (path files : Seq (Seq ℕ)) → (emit : Emit) → Names (words_of words.now) path emit files → ⊥ }
 {
     match command(alloc)?.try_get_matches_from(words) {
@@ -99,7 +108,7 @@ fn command<'a>(alloc: Global) -> Result<Command<'a>, AllocError>
 }
 
 /// What an error of `clap` comes to.
-fn fault(error: &Error) -> WordsFault
+fn fault(error: &clap::Error) -> WordsFault
     ensures usage { result ≡ WordsFault.Usage → kind_of error.now ≢ ErrorKind.OutOfMemory }
     ensures memory { result ≡ WordsFault.NoMemory → kind_of error.now ≡ ErrorKind.OutOfMemory }
 {
@@ -110,8 +119,8 @@ fn fault(error: &Error) -> WordsFault
 }
 
 /// What the options and files ask for.
-fn asked(alloc: Global, matches: &ArgMatches<'_>) -> Result<Job, WordsFault>
-    ensures asks { IfOk result (λ job. Asks (rows_of (found_of matches.now)) job.class.0 job.emit (words_of job.files.items)) }
+fn asked(alloc: Global, matches: &ArgMatches<'_>) -> Result<Words, WordsFault>
+    ensures asks { IfOk result (AsksWords (rows_of (found_of matches.now))) }
     ensures usage { IsErrOf result WordsFault.Usage → (path files : Seq (Seq ℕ)) → (emit : Emit) → Asks (rows_of (found_of matches.now)) path emit files → ⊥ }
 {
     let Some(word) = matches.get_str("class") else {
@@ -130,7 +139,7 @@ fn asked(alloc: Global, matches: &ArgMatches<'_>) -> Result<Job, WordsFault>
         return Err(WordsFault::Usage);
     }
     let files = copied(alloc, files)?;
-    Ok(Job { class, emit, files })
+    Ok(Words::Job { class, emit, files })
 }
 
 /// What the word of `--emit` asks for, None where it is no such word.
@@ -146,17 +155,18 @@ fn emit_named(word: Option<&str>) -> Option<Emit>
         "reduced" => Some(Emit::Reduced),
         "report" => Some(Emit::Report),
         "all" => Some(Emit::All),
+        "json" => Some(Emit::Json),
         _ => None,
     }
 }
 
-/// The texts as strings.
-fn copied(alloc: Global, texts: &[&str]) -> Result<Vec<String>, AllocError>
-    ensures { IfOk result (λ copies. words_of copies.items ≡ map (λ t. t.now) texts.now) }
+/// Copies of the texts.
+fn copied(alloc: Global, texts: &[&str]) -> Result<List<Text>, NoMemory>
+    ensures { IfOk result (λ copies. copies ≡ map (λ t. t.now) texts.now) }
 {
-    let mut copies = Vec::new(alloc);
+    let mut copies = List::new(alloc);
     for text in texts {
-        copies.push(String::from_str(alloc, text)?)?;
+        pushed(&mut copies, Text::from_str(alloc, text))?;
     }
     Ok(copies)
 }

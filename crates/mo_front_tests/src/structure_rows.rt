@@ -33,15 +33,29 @@ const EMPTY: [Asked; 4] = [
 ];
 
 /// One equation decides one unknown.
-const EVERYTHING: [Asked; 1] = [(
-    "all",
-    "model M\n  Real x;\nequation\n  x = 1.0;\nend M;\n",
-    Status::Done,
-    "model M\n  Real x;\nequation\n  x = 1.0;\nend M;\nreduced M\n  x = 1.0;\nend M;\nreport M\nequations 1 unknowns 1\nequation 1 c 0 pairs x order 0\nunknown x d 0\nblock 1\nindex 1\nfreedom 0\n",
-)];
+const EVERYTHING: [Asked; 2] = [
+    (
+        "all",
+        "model M\n  Real x;\nequation\n  x = 1.0;\nend M;\n",
+        Status::Done,
+        "model M\n  Real x;\nequation\n  x = 1.0;\nend M;\nreduced M\n  x = 1.0;\nend M;\nreport M\nequations 1 unknowns 1\nequation 1 c 0 pairs x order 0\nunknown x d 0\nblock 1\nindex 1\nfreedom 0\n",
+    ),
+    (
+        "json",
+        "model M\n  Real x;\nequation\n  x = 1.0;\nend M;\n",
+        Status::Done,
+        "{\"blocks\":[[1]],\"dummies\":[],\"equation_count\":1,\"equations\":[{\"c\":0,\"order\":0,\"pair\":\"x\"}],\"freedom\":0,\"index\":1,\"kind\":\"square\",\"model\":\"M\",\"reasons\":[],\"states\":[],\"unknown_count\":1,\"unknowns\":[{\"d\":0,\"name\":\"x\"}]}\n",
+    ),
+];
 
 /// Two equations mention one unknown, or one equation two.
-const SINGULAR: [Asked; 5] = [
+const SINGULAR: [Asked; 6] = [
+    (
+        "json",
+        "model M Real x; Real y; equation x = 1.0; x = 2.0; end M;",
+        Status::Singular,
+        "{\"deficit\":{\"equations\":[1,2],\"mentions\":[\"x\"]},\"equation_count\":2,\"kind\":\"deficit\",\"model\":\"M\",\"unknown_count\":2}\n",
+    ),
     (
         "report",
         "model M Real x; Real y; equation x = 1.0; x = 2.0; end M;",

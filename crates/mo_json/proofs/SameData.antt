@@ -1,15 +1,16 @@
 -- Reports that say the same have the same data.
 use Rattle.std.proofs.Common.{◌≡◌, ℕ, zero, suc, List, [], ◌∷◌, ◌++◌, Bool, true, false, if◌then◌else◌, nat_lt, Option, Some, None, length, map, refl, sym, ap, ◌∙◌}
-use Rattle.std.specs.Prelude.{Vec}
+use Rattle.std.specs.Prelude.{Vec, codes}
 use Rattle.std.specs.Global.{Global}
 use Rattle.serde_json.specs.Data.{Data}
+use Rattle.serde_json.specs.Written.{compact_text}
 use Rattle.mo_incidence.specs.declared.findings.Offsets.{Offsets}
 use Rattle.mo_incidence.specs.declared.findings.Deficit.{Deficit}
 use Rattle.mo_incidence.specs.Blocks.{numbers_in}
 use Rattle.mo_report.specs.declared.report.Report.{Report}
 use Rattle.mo_report.specs.Same.{SaySame, deficit_lists, offset_lists}
 use Rattle.mo_report.proofs.SameLines.{deficit-is, offsets-are, both-none, none-both, offsets-none, none-offsets}
-use Rattle.mo_json.specs.Values.{listed, numbers_data, data_below, equation_data, unknown_data, equations_data, unknowns_data, singular_data, undetermined_data, square_data, found_data, part_data, report_data}
+use Rattle.mo_json.specs.Values.{listed, numbers_data, data_below, equation_data, unknown_data, equations_data, unknowns_data, singular_data, undetermined_data, square_data, found_data, part_data, report_data, json_line}
 
 blocks-data : (blocks : List (Vec ℕ Global)) → map (λ block. numbers_data block.items) blocks ≡ map numbers_data (numbers_in blocks)
 blocks-data [] = refl
@@ -78,3 +79,6 @@ module _ (r s : Report) (say : SaySame r s) where
 
   pub same-data : report_data r ≡ report_data s
   same-data = same-parts r.deficit s.deficit say.deficit
+
+  pub same-line : json_line r ≡ json_line s
+  same-line = ap (λ (d : Data). compact_text d ++ codes "\n") same-data

@@ -2,25 +2,24 @@
 use Rattle.std.proofs.Common.{rules, ◌+◌, drop, refl, ap, ◌∙◌, le_refl, le_trans, length, ◌≤◌}
 use Rattle.std.proofs.lemmas.List.{drop_all}
 use Rattle.mo_front.specs.Limits.{file_limit}
-use Rattle.mo_front.specs.Run.{words_of}
-use Rattle.mo_front.proofs.Loaded.{files-start, files-step, files-ended, files-refused, rose-later, words-front, words-left, named-fault, one-up, one-longer, within-limit, few-enough}
+use Rattle.mo_front.proofs.Loaded.{files-start, files-step, files-ended, files-refused, rose-later, words-front, named-fault, one-up, one-longer, within-limit, few-enough}
 use Rattle.mo_front.proofs.OneByOne.{all-more}
 use Rattle.mo_front.proofs.load.read_files.Goals as goal
 
 pub loop-name-init : goal.loop-name-init
-loop-name-init g c = (refl, ap length c.new-texts.ensures, search (rules, c.new-texts.ensures), refl, le_refl _, rw c.new-texts.ensures (files-start (g.S.Shelf.told c.args.shelf.now) (words_of c.args.names.now)))
+loop-name-init g c = (refl, ap length c.new-texts.ensures, search (rules, c.new-texts.ensures), refl, le_refl _, rw c.new-texts.ensures (files-start (g.S.Shelf.told c.args.shelf.now) c.args.names.now))
 
 pub returns-in-Err-clause-refused : goal.returns-in-Err-clause-refused
 returns-in-Err-clause-refused g c =
-    files-refused (g.S.Shelf.told c.args.shelf.now) _ (words_of c.args.names.now) c.loop-name.texts (words_of (drop c.loop-name.name-index c.args.names.now)) (words_of (drop (c.loop-name.name-index + 1) c.args.names.now))
-    c.as_str.result.now c.loop-name.number c.loop-name.name-index c.loop-name.left c.in-Err.unread c.loop-name.invariant.3 c.loop-name.invariant.5 (words-front c.args.names.now c.loop-name.name-index c.name-item.result c.as_str.result.now (search rules) (search rules))
-    c.loop-name.invariant.0 (words-left c.args.names.now c.loop-name.name-index) c.in-Err.ensures.refused
+    files-refused (g.S.Shelf.told c.args.shelf.now) _ c.args.names.now c.loop-name.texts (drop c.loop-name.name-index c.args.names.now) (drop (c.loop-name.name-index + 1) c.args.names.now)
+    c.as_str.result.now c.loop-name.number c.loop-name.name-index c.loop-name.left c.in-Err.unread c.loop-name.invariant.3 c.loop-name.invariant.5 (words-front c.args.names.now c.loop-name.name-index c.name-item.result c.as_str.result.now (search rules) (c.as_str.ensures ∙ c.name-item.is))
+    c.loop-name.invariant.0 refl c.in-Err.ensures.refused
 
 pub returns-in-Err-clause-fault : goal.returns-in-Err-clause-fault
 returns-in-Err-clause-fault g c = λ u. rose-later _ _ _ c.loop-name.invariant.4 (c.in-Err.ensures.fault u)
 
 pub returns-in-Err-clause-fault_name : goal.returns-in-Err-clause-fault_name
-returns-in-Err-clause-fault_name g c = λ u. named-fault _ c.args.names.now c.loop-name.name-index c.as_str.result.now (words_of (drop (c.loop-name.name-index + 1) c.args.names.now)) (c.in-Err.ensures.fault_name u) (words-front c.args.names.now c.loop-name.name-index c.name-item.result c.as_str.result.now (search rules) (search rules))
+returns-in-Err-clause-fault_name g c = λ u. named-fault _ c.args.names.now c.loop-name.name-index c.as_str.result.now (drop (c.loop-name.name-index + 1) c.args.names.now) (c.in-Err.ensures.fault_name u) (words-front c.args.names.now c.loop-name.name-index c.name-item.result c.as_str.result.now (search rules) (c.as_str.ensures ∙ c.name-item.is))
 
 pub overflow_add-number : goal.overflow_add-number
 overflow_add-number g c = search (rules, few-enough c.loop-name.number c.loop-name.name-index _ c.loop-name.invariant.0 c.loop-name-test.true c.requires.few)
@@ -32,11 +31,11 @@ loop-name-preserved g c = (
   all-more (λ text. length text ≤ file_limit) c.loop-name.texts _ c.in-Ok.text c.in_ok-push.ensures.ok c.loop-name.invariant.2 (within-limit c.loop-name.left _ c.in-Ok.ensures.within),
   c.read_file.ensures.same ∙ c.loop-name.invariant.3,
   le_trans c.loop-name.invariant.4 c.read_file.ensures.faults_later,
-  files-step (g.S.Shelf.told c.args.shelf.now) _ (words_of c.args.names.now) c.loop-name.texts c.push.new.self (words_of (drop c.loop-name.name-index c.args.names.now)) (words_of (drop (c.loop-name.name-index + 1) c.args.names.now))
-      c.as_str.result.now _ c.loop-name.number (c.loop-name.number + 1) c.loop-name.left _ c.loop-name.invariant.3 c.loop-name.invariant.5 (words-front c.args.names.now c.loop-name.name-index c.name-item.result c.as_str.result.now (search rules) (search rules)) c.in-Ok.ensures.text c.in_ok-push.ensures.ok refl (search rules),
+  files-step (g.S.Shelf.told c.args.shelf.now) _ c.args.names.now c.loop-name.texts c.push.new.self (drop c.loop-name.name-index c.args.names.now) (drop (c.loop-name.name-index + 1) c.args.names.now)
+      c.as_str.result.now _ c.loop-name.number (c.loop-name.number + 1) c.loop-name.left _ c.loop-name.invariant.3 c.loop-name.invariant.5 (words-front c.args.names.now c.loop-name.name-index c.name-item.result c.as_str.result.now (search rules) (c.as_str.ensures ∙ c.name-item.is)) c.in-Ok.ensures.text c.in_ok-push.ensures.ok refl (search rules),
 )
 
 pub returns-clause-texts : goal.returns-clause-texts
 returns-clause-texts g c =
-    files-ended (g.S.Shelf.told c.args.shelf.now) (words_of c.args.names.now) c.loop-name.texts (words_of (drop c.loop-name.name-index c.args.names.now)) c.loop-name.number c.loop-name.left c.loop-name.invariant.5
-    (ap words_of (drop_all c.loop-name.name-index c.args.names.now (search rules)))
+    files-ended (g.S.Shelf.told c.args.shelf.now) c.args.names.now c.loop-name.texts (drop c.loop-name.name-index c.args.names.now) c.loop-name.number c.loop-name.left c.loop-name.invariant.5
+    (drop_all c.loop-name.name-index c.args.names.now (search rules))

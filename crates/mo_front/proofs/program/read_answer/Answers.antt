@@ -2,7 +2,6 @@
 use Rattle.std.proofs.Common.{sym, subst, Ok, IfSome}
 use Rattle.mo_front.specs.Files.{Reads}
 use Rattle.mo_front.specs.Limits.{all_files_limit}
-use Rattle.mo_front.specs.Run.{words_of}
 use Rattle.mo_front.proofs.Answering.{told-texts, told-line, answers, never-singular}
 use Rattle.mo_front.proofs.program.read_answer.Goals as goal
 
@@ -12,7 +11,7 @@ answer-requires-clause-few g c = rw (c.as_slice.ensures, c.in-Ok.ensures.count) 
 pub returns-in-Ok-answer-clause-told : goal.returns-in-Ok-answer-clause-told
 returns-in-Ok-answer-clause-told g c =
     told-texts (g.S.Shelf.told c.args.shelf.now) _ _ _ c.as_slice.result.now c.answer.result c.in-Ok-answer.answer c.in-Ok-answer.is
-    (subst (λ x. IfSome (g.S.Shelf.told c.args.shelf.now) (λ contents. Reads contents 1 all_files_limit (words_of c.args.files.now) (Ok x))) (sym c.as_slice.ensures) c.in-Ok.ensures.texts)
+    (subst (λ x. IfSome (g.S.Shelf.told c.args.shelf.now) (λ contents. Reads contents 1 all_files_limit c.args.files.now (Ok x))) (sym c.as_slice.ensures) c.in-Ok.ensures.texts)
     c.answer.ensures.tells
 
 pub returns-in-Ok-answer-clause-answers : goal.returns-in-Ok-answer-clause-answers
@@ -23,4 +22,4 @@ returns-in-Ok-answer-clause-flat g c = never-singular _ _ _ _ _ _ c.in-Ok-answer
 
 pub returns-in-Err-Refused-clause-told : goal.returns-in-Err-Refused-clause-told
 returns-in-Err-Refused-clause-told g c =
-    rw c.in-Err-Refused.field-0-is (told-line (g.S.Shelf.told c.args.shelf.now) c.args.class.now.0 c.args.emit (words_of c.args.files.now) c.in-Err-Refused.line (rw c.in-Err-Refused.field-0-is at c.in-Err-Refused.ensures.refused))
+    rw c.in-Err-Refused.field-0-is (told-line (g.S.Shelf.told c.args.shelf.now) c.args.class.now.0 c.args.emit c.args.files.now c.in-Err-Refused.line (rw c.in-Err-Refused.field-0-is at c.in-Err-Refused.ensures.refused))

@@ -1,7 +1,6 @@
--- The texts so far as strings.
+-- The copies so far.
 use Rattle.std.proofs.Common.{◌≡◌, map, take}
-use Rattle.mo_front.specs.Run.{words_of}
 use Rattle.mo_front.proofs.words.copied.Given as goal
 
 abbrev pub invariant-loop-text : goal.invariant-loop-text
-invariant-loop-text l = words_of l.copies.items ≡ map (λ t. t.now) (take l.text-index l.texts)
+invariant-loop-text l = l.copies ≡ map (λ t. t.now) (take l.text-index l.texts)

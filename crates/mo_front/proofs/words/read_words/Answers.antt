@@ -1,13 +1,13 @@
 -- Words that `clap` reads, and words that it refuses.
 use Rattle.std.proofs.Common.{rules}
 use Rattle.std.proofs.lemmas.Result.{IfOk-weaker}
-use Rattle.mo_front.proofs.Asking.{at-fault, named, not-named}
+use Rattle.mo_front.proofs.Asking.{at-fault, words-named, not-named}
 use Rattle.mo_front.proofs.words.read_words.Goals as goal
 
 pub returns-in-Ok-clause-names : goal.returns-in-Ok-clause-names
 returns-in-Ok-clause-names c =
     IfOk-weaker c.asked.result _ _
-    (λ job asks. named _ _ _ _ _ _ c.in_ok-command.ensures c.in-Ok.ensures.kinds c.in-Ok.ensures.matches asks)
+    (λ read asks. words-named _ _ _ read c.in_ok-command.ensures c.in-Ok.ensures.kinds c.in-Ok.ensures.matches asks)
     c.asked.ensures.asks
 
 pub returns-in-Ok-clause-usage : goal.returns-in-Ok-clause-usage

@@ -1,0 +1,155 @@
+-- What is told of one input is one thing: one status and one text.
+use Rattle.std.proofs.Common.{◌≡◌, ℕ, if◌then◌else◌, List, [], ◌∷◌, Option, Some, None, is_some, unwrap_or, nat_le, refl, ap, sym, ◌∙◌, subst}
+use Rattle.std.specs.Prelude.{flat_map}
+use Rattle.mo_syntax.specs.declared.place.Broken.{Broken}
+use Rattle.mo_syntax.specs.declared.place.Place.{Place}
+use Rattle.mo_flat.specs.declared.model.FlatModel.{FlatModel}
+use Rattle.mo_symdiff.specs.Reduced.{IsWithin, first_given, reduced_lines, reduced_text, too_large}
+use Rattle.mo_symdiff.specs.Refusal.{of_given}
+use Rattle.mo_incidence.specs.declared.findings.Deficit.{Deficit}
+use Rattle.mo_incidence.specs.declared.findings.Offsets.{Offsets}
+use Rattle.mo_report.specs.declared.report.Report.{Report}
+use Rattle.mo_report.specs.Size.{report_limit}
+use Rattle.mo_report.specs.Same.{SaySame, deficit_lists, offset_lists}
+use Rattle.mo_report.proofs.OneReport.{one-report}
+use Rattle.mo_report.proofs.SameLines.{same-lines, offsets-are, offsets-none, none-offsets, both-none, none-both}
+use Rattle.mo_json.proofs.SameData.{same-line}
+use Rattle.mo_front.specs.declared.status.Status.{Status}
+use Rattle.mo_front.specs.declared.table.Part.{Part}
+use Rattle.mo_front.specs.declared.table.Part.TheVariants as part
+use Rattle.mo_front.specs.declared.table.Phase.{Phase}
+use Rattle.mo_front.specs.declared.table.Phase.TheVariants as phase
+use Rattle.mo_front.specs.declared.words.Emit.{Emit}
+use Rattle.mo_front.specs.Emitted.{PhaseBreaks, PhasesBreak, all_passed, this_one, later, ReducedBreaks, no_offsets, given, large, nothing, Writes, flat_text, analysed, Refuses, no_incidence, no_text as no_part, asked_by, derivatives_size, report_refusal, reduced_part, part_text, status_of}
+use Rattle.mo_front.specs.Told.{Outcome, flat, broken, WritesGiven, Breaks, no_model, no_text, TellsOf, written, refused}
+
+some-is : {A : Type 0} (a b : A) → Some a ≡ Some b → a ≡ b
+some-is a b e = cc
+
+some-none : {A : Type 0} (a : A) → Some a ≡ None → ⊥
+some-none a e = cc
+
+-- ---- the phases
+
+module _ (m : FlatModel) where
+  same-reduced : (o p : Option Offsets) → offset_lists o ≡ offset_lists p → reduced_part m o ≡ reduced_part m p
+  same-reduced None None e = refl
+  same-reduced None (Some p) e = absurd (none-offsets p e)
+  same-reduced (Some o) None e = absurd (offsets-none o e)
+  same-reduced (Some o) (Some p) e = ap (λ (c : List ℕ). Some (reduced_text m (reduced_lines m.vars m.equations c))) (offsets-are o p e).0
+
+  one-reduced : (o p : Offsets) (x y : Option Broken) → o.c.items ≡ p.c.items → ReducedBreaks m (Some o) x → ReducedBreaks m (Some p) y → x ≡ y
+  one-reduced o p x y same (given place at) (given other at') =
+      ap (λ (q : Place). Some (of_given q)) (some-is place other (sym at ∙ (ap (first_given m.vars m.equations) same ∙ at')))
+  one-reduced o p x y same (given place at) (large none past) = absurd (some-none place (sym at ∙ (ap (first_given m.vars m.equations) same ∙ none)))
+  one-reduced o p x y same (given place at) (nothing none within) = absurd (some-none place (sym at ∙ (ap (first_given m.vars m.equations) same ∙ none)))
+  one-reduced o p x y same (large none past) (given other at') = absurd (some-none other (sym at' ∙ (ap (first_given m.vars m.equations) (sym same) ∙ none)))
+  one-reduced o p x y same (large none past) (large none' past') = refl
+  one-reduced o p x y same (large none past) (nothing none' within) = absurd (past (subst (λ (c : List ℕ). IsWithin m (reduced_lines m.vars m.equations c)) (sym same) within))
+  one-reduced o p x y same (nothing none within) (given other at') = absurd (some-none other (sym at' ∙ (ap (first_given m.vars m.equations) (sym same) ∙ none)))
+  one-reduced o p x y same (nothing none within) (large none' past) = absurd (past (subst (λ (c : List ℕ). IsWithin m (reduced_lines m.vars m.equations c)) same within))
+  one-reduced o p x y same (nothing none within) (nothing none' within') = refl
+
+  one-reduction : (o p : Option Offsets) (x y : Option Broken) → offset_lists o ≡ offset_lists p → ReducedBreaks m o x → ReducedBreaks m p y → x ≡ y
+  one-reduction None None x y e no_offsets no_offsets = refl
+  one-reduction None (Some p) x y e a b = absurd (none-offsets p e)
+  one-reduction (Some o) None x y e a b = absurd (offsets-none o e)
+  one-reduction (Some o) (Some p) x y e a b = one-reduced o p x y (offsets-are o p e).0 a b
+
+  module _ (r s : Report) (say : SaySame r s) where
+    same-size : (o p : Option Offsets) → offset_lists o ≡ offset_lists p → derivatives_size r o ≡ derivatives_size s p
+    same-size None None e = refl
+    same-size None (Some p) e = absurd (none-offsets p e)
+    same-size (Some o) None e = absurd (offsets-none o e)
+    same-size (Some o) (Some p) e = rw (say.unknowns, say.equations, (offsets-are o p e).1) refl
+
+    same-refusal : report_refusal m r ≡ report_refusal m s
+    same-refusal = ap (λ (n : ℕ). if nat_le n report_limit then None else Some (too_large m)) (same-size r.offsets s.offsets say.offsets)
+
+    one-phase : (asked : Phase) (x y : Option Broken) → PhaseBreaks m r asked x → PhaseBreaks m s asked y → x ≡ y
+    one-phase phase.Size x y a b = sym a ∙ (same-refusal ∙ b)
+    one-phase phase.Reduction x y a b = one-reduction r.offsets s.offsets x y say.offsets a b
+
+    one-break : (phases : List Phase) (x y : Option Broken) → PhasesBreak m r phases x → PhasesBreak m s phases y → x ≡ y
+    one-break [] x y all_passed all_passed = refl
+    one-break (asked ∷ phases) x y (this_one {b = b} a) (this_one {b = c} a') = one-phase asked (Some b) (Some c) a a'
+    one-break (asked ∷ phases) x y (this_one {b = b} a) (later a' rest') = absurd (some-none b (one-phase asked (Some b) None a a'))
+    one-break (asked ∷ phases) x y (later a rest) (this_one {b = c} a') = absurd (some-none c (sym (one-phase asked None (Some c) a a')))
+    one-break (asked ∷ phases) x y (later a rest) (later a' rest') = one-break phases x y rest rest'
+
+    -- ---- the text and the status
+
+    same-part : (p : Part) → part_text m r p ≡ part_text m s p
+    same-part part.Flat = refl
+    same-part part.Reduced = ap (λ (t : Option (List ℕ)). unwrap_or t []) (same-reduced r.offsets s.offsets say.offsets)
+    same-part part.ReducedOrReport = rw (same-reduced r.offsets s.offsets say.offsets, same-lines r s say) refl
+    same-part part.Report = same-lines r s say
+    same-part part.Json = same-line r s say
+
+    same-parts : (parts : List Part) → flat_map (part_text m r) parts ≡ flat_map (part_text m s) parts
+    same-parts [] = refl
+    same-parts (p ∷ parts) = rw (same-part p, same-parts parts) refl
+
+    same-test : (x y : Option Deficit) → deficit_lists x ≡ deficit_lists y → is_some x ≡ is_some y
+    same-test None None e = refl
+    same-test None (Some y) e = absurd (none-both y e)
+    same-test (Some x) None e = absurd (both-none x e)
+    same-test (Some x) (Some y) e = refl
+
+    same-status : status_of r ≡ status_of s
+    same-status = rw (same-test r.deficit s.deficit say.deficit, say.equations, say.unknowns) refl
+
+  module _ (emit : Emit) where
+    one-written : (status other : Status) (text more : List ℕ) → Writes emit m status text → Writes emit m other more → (status ≡ other) × (text ≡ more)
+    one-written status other text more (flat_text is done whole) (flat_text is' done' whole') = (done ∙ sym done', whole ∙ sym whole')
+    one-written status other text more (flat_text is done whole) (analysed r not accepted right passes status_is text_is) = absurd (not is)
+    one-written status other text more (analysed r not accepted right passes status_is text_is) (flat_text is done whole) = absurd (not is)
+    one-written status other text more (analysed r not accepted right passes status_is text_is) (analysed s not' accepted' right' passes' status_is' text_is') =
+        let say = one-report m r s right right' in
+        (status_is ∙ (same-status r s say ∙ sym status_is'), text_is ∙ (same-parts r s say (asked_by emit).parts ∙ sym text_is'))
+
+    one-refusal : (b c : Broken) → Refuses emit m b → Refuses emit m c → b ≡ c
+    one-refusal b c (no_incidence not is) (no_incidence not' is') = some-is b c (sym is ∙ is')
+    one-refusal b c (no_incidence not is) (no_part s not' accepted right breaks) = absurd (some-none b (sym is ∙ accepted))
+    one-refusal b c (no_part r not accepted right breaks) (no_incidence not' is') = absurd (some-none c (sym is' ∙ accepted))
+    one-refusal b c (no_part r not accepted right breaks) (no_part s not' accepted' right' breaks') =
+        some-is b c (one-break r s (one-report m r s right right') (asked_by emit).phases (Some b) (Some c) breaks breaks')
+
+    never-both : (status : Status) (text : List ℕ) (b : Broken) → Writes emit m status text → Refuses emit m b → ⊥
+    never-both status text b (flat_text is done whole) (no_incidence not is') = not is
+    never-both status text b (flat_text is done whole) (no_part s not accepted right breaks) = not is
+    never-both status text b (analysed r not accepted right passes status_is text_is) (no_incidence not' is') = some-none b (sym is' ∙ accepted)
+    never-both status text b (analysed r not accepted right passes status_is text_is) (no_part s not' accepted' right' breaks') =
+        some-none b (sym (one-break r s (one-report m r s right right') (asked_by emit).phases None (Some b) passes breaks'))
+
+-- ---- what is told
+
+module _ (Gives : Outcome → Type 0) (once : (o p : Outcome) → Gives o → Gives p → o ≡ p) (line : Broken → List ℕ) (emit : Emit) where
+  one-model : (m n : FlatModel) → Gives (flat m) → Gives (flat n) → m ≡ n
+  one-model m n a b = let same : flat m ≡ flat n = once (flat m) (flat n) a b in cc
+
+  no-model-broken : (m : FlatModel) (b : Broken) → Gives (flat m) → Gives (broken b) → ⊥
+  no-model-broken m b x y = let same : flat m ≡ broken b = once (flat m) (broken b) x y in cc
+
+  one-rule : (b c : Broken) → Gives (broken b) → Gives (broken c) → b ≡ c
+  one-rule b c x y = let same : broken b ≡ broken c = once (broken b) (broken c) x y in cc
+
+  one-break-of : (b c : Broken) → Breaks Gives emit b → Breaks Gives emit c → b ≡ c
+  one-break-of b c (no_model x) (no_model y) = one-rule b c x y
+  one-break-of b c (no_model x) (no_text n y refuses) = absurd (no-model-broken n b y x)
+  one-break-of b c (no_text m x refuses) (no_model y) = absurd (no-model-broken m c x y)
+  one-break-of b c (no_text m x refuses) (no_text n y refuses') =
+      one-refusal m emit b c refuses (subst (λ (k : FlatModel). Refuses emit k c) (sym (one-model m n x y)) refuses')
+
+  written-and-broken : (status : Status) (text : List ℕ) (b : Broken) → WritesGiven Gives emit status text → Breaks Gives emit b → ⊥
+  written-and-broken status text b w (no_model y) = no-model-broken w.m b w.given y
+  written-and-broken status text b w (no_text n y refuses) =
+      never-both w.m emit status text b w.writes (subst (λ (k : FlatModel). Refuses emit k b) (sym (one-model w.m n w.given y)) refuses)
+
+  pub one-told : (status other : Status) (text more : List ℕ) → TellsOf Gives line emit status text → TellsOf Gives line emit other more → (status ≡ other) × (text ≡ more)
+  one-told status other text more (written w) (written v) =
+      one-written w.m emit status other text more w.writes (subst (λ (k : FlatModel). Writes emit k other more) (sym (one-model w.m v.m w.given v.given)) v.writes)
+  one-told status other text more (written w) (refused b breaks is text_is) = absurd (written-and-broken status text b w breaks)
+  one-told status other text more (refused b breaks is text_is) (written w) = absurd (written-and-broken other more b w breaks)
+  one-told status other text more (refused b breaks is text_is) (refused c breaks' is' text_is') =
+      (is ∙ sym is', text_is ∙ (ap line (one-break-of b c breaks breaks') ∙ sym text_is'))
