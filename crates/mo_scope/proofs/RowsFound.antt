@@ -204,6 +204,14 @@ parts_exist files k row at n declares is =
     every_at (PartBelow (number_of_classes (table_of files))) row.parts n (Element_of declares)
     (every_at (λ row. Every (PartBelow (number_of_classes (table_of files))) row.parts) (table_of files) k row (every_part files) at) is
 
+-- and so by the number of the class
+pub row_parts_exist : (files : List FileTree) (number : ℕ) (row : Row) → row_at (table_of files) number ≡ Some row → PartsExist (number_of_classes (table_of files)) row.parts
+row_parts_exist files number row at k declares is =
+    every_at (PartBelow (number_of_classes (table_of files))) row.parts k (Element_of declares)
+    (subst (IfAny (λ row. Every (PartBelow (number_of_classes (table_of files))) row.parts)) at
+    (any_find (λ row. Every (PartBelow (number_of_classes (table_of files))) row.parts) (λ row. nat_eq row.number number) (table_of files) (every_part files)))
+    is
+
 -- ---- at the top
 
 any_filter : {A : Type 0} (P : A → Type 0) (test : A → Bool) (xs : List A) → Every P xs → Every P (filter test xs)

@@ -1,0 +1,11 @@
+//! Tests of `Scopes` over its public calls: the rows of classes, how they are found, and frames.
+//!
+//! They stand apart from `mo_scope`, so that this is proved without them.
+#![tactic(auto)]
+
+#[cfg(test)]
+mod frames;
+#[cfg(test)]
+mod rows;
+#[cfg(test)]
+mod trees;
