@@ -1,12 +1,15 @@
 pub mod Entering
 pub mod Keys
+pub mod Lists
 mod Models
 pub mod Named
 pub mod Numbered
 pub mod Picking
 pub mod RowsFound
 pub mod RowsMade
-mod WorkedRows
+pub mod Sayings
+pub mod Scoped
 pub mod WalkSteps
+mod WorkedRows
 pub mod laws
 pub mod rows

@@ -21,10 +21,13 @@ use Rattle.mo_scope.specs.declared.row.Part.TheVariants.{Element as element_at, 
 use Rattle.mo_scope.specs.declared.row.Row.{Row as RowAt}
 use Rattle.mo_scope.specs.declared.row.Sort.{Sort as SortAt}
 use Rattle.mo_scope.specs.declared.row.Sort.TheVariants.{Class as class_at, Component as component_at}
+use Rattle.mo_scope.specs.declared.saying.Redeclaration.{Redeclaration as RedeclarationAt}
+use Rattle.mo_scope.specs.declared.saying.Saying.{Saying as SayingAt}
+use Rattle.mo_scope.specs.declared.saying.Saying.TheVariants.{Modifies as modifies_at, Redeclares as redeclares_at}
 use Rattle.mo_scope.specs.Rows.{Modifiers, Constraint, Declares, Sort, A_class, A_component, Clause, Part, Element_of, Base_of, Row, replacing_in, form_in}
 use Rattle.mo_scope.specs.Frames.{Frame, Given, Listed, Argued, Replacing, Listing, Origin, Elsewhere, Own_of, Constraint_of}
-use Rattle.mo_scope.specs.Parts.{Picked}
-use Rattle.mo_scope.specs.Worlds.{SourceEntry, MemberEntry, scope_in}
+use Rattle.mo_scope.specs.Parts.{Picked, Redeclaration, Saying, Modifies, Redeclares}
+use Rattle.mo_scope.specs.Worlds.{SourceEntry, MemberEntry, scope_in, source_in}
 
 -- ---- rows
 
@@ -100,6 +103,19 @@ source_seen source = record {
   frame = source.scope.frame.0;
   iterations = source.scope.iters;
 }
+
+-- a redeclaration, where frames have these numbers
+abbrev pub redeclaration_in : List Frame → RedeclarationAt → Redeclaration
+redeclaration_in frames redeclaration = record {
+  declares = declares_seen redeclaration.declares;
+  place = redeclaration.place;
+  keeps = redeclaration.keeps;
+  source = source_in frames (source_seen redeclaration.source);
+}
+
+abbrev pub saying_in : List Frame → SayingAt → Saying
+saying_in frames (modifies_at source) = Modifies (source_in frames (source_seen source))
+saying_in frames (redeclares_at redeclaration) = Redeclares (redeclaration_in frames redeclaration)
 
 -- a value that was picked, where frames have these numbers
 abbrev pub picked_in : List Frame → PickedAt → Picked

@@ -1,0 +1,351 @@
+//! What the sources of a frame say of a name: each argument that begins with it modifies the element or redeclares it.
+ghost use Rattle.std.specs.Option.{option_to_list};
+ghost use Rattle.std.specs.Prelude.{◌≡◌, ◌+◌, ◌<◌, ◌++◌, ◌∷◌, [], false, List as Seq, drop, flat_map, is_some, length, map, option_copied, unwrap_or, IfOk, IfSome, IsSome, OnOk};
+ghost use Rattle.std.specs.Str.{bytes_eq};
+ghost use Rattle.mo_scope.specs.Frames.{Frame, Argued};
+ghost use Rattle.mo_scope.specs.Parts.{Redeclares, begins_with, behind_name, declared_in, held, pending_behind, said, said_behind, said_by_all, said_by_element, said_by_elements, said_further, said_in_list};
+ghost use Rattle.mo_scope.specs.Rows.{replacing_in};
+ghost use Rattle.mo_scope.specs.Sights.{given_seen, saying_in, source_seen};
+ghost use Rattle.mo_scope.specs.Worlds.{frames_of, source_in, sources_in, table_in};
+
+use crate::copies::{copied, copied_scope, copied_with, extend};
+use crate::row::Declares;
+use crate::scopes::Scopes;
+use crate::source::{Given, Listing, Origin, Source};
+use mo_syntax::{Argument, Element, Give, Item, List, NoMemory, Place, Text, both, pushed};
+use std::alloc::Global;
+
+/// A redeclaration of an element.
+#[derive(Drop)]
+pub struct Redeclaration<'t> {
+    /// What declares the element anew.
+    pub declares: Declares<'t>,
+    /// Where it stands.
+    pub place: Place,
+    /// Whether the element stays replaceable.
+    pub keeps: bool,
+    /// The source that its modifiers are.
+    pub source: Source<'t>,
+}
+
+/// What a source says of a name.
+#[derive(Drop)]
+pub(crate) enum Saying<'t> {
+    Modifies(Source<'t>),
+    Redeclares(Redeclaration<'t>),
+}
+
+/// An element that is asked for: its name, and the index at which it is entered.
+#[derive(Clone, Copy)]
+pub(crate) struct Asked<'a> {
+    pub name: &'a Text,
+    pub index: &'a [u32],
+}
+
+/// Whether two names are the same.
+fn is_named(name: &Text, other: &Text) -> bool
+    ensures { result ≡ bytes_eq name.now other.now }
+{
+    name.as_str() == other.as_str()
+}
+
+/// The first of the names behind so many, if it is that name.
+fn named<'t>(names: &'t [Text], passed: usize, name: &Text) -> Option<&'t Text>
+    ensures is { is_some result ≡ begins_with name.now (drop passed names.now) }
+    ensures same { IfSome result (λ first. first.now ≡ name.now) }
+    ensures below { IsSome result → passed < length names.now }
+{
+    match names.get(passed) {
+        Some(first) => {
+            if is_named(first, name) {
+                Some(first)
+            } else {
+                None
+            }
+        }
+        None => None,
+    }
+}
+
+/// The list that stands behind the names of an argument, None where names are left or it redeclares.
+pub(crate) fn nested_list(argument: &Argument, passed: usize) -> Option<&[Argument]>
+    ensures { unwrap_or (option_copied result) [] ≡ (held (Argued argument.now passed)).list }
+{
+    if passed < argument.name.0.len() {
+        return None;
+    }
+    match &argument.give {
+        Give::Modify(mods, _) => Some(mods.0.as_slice()),
+        Give::Redeclare(_) => None,
+        Give::Replaceable(_) => None,
+    }
+}
+
+/// An element that replaces an inherited one.
+pub(crate) fn replacing(item: &Item) -> Option<&Element>
+    ensures { option_to_list (option_copied result) ≡ replacing_in item.now }
+{
+    match item {
+        Item::Member(element) => {
+            if element.flags.redeclare {
+                Some(element)
+            } else {
+                None
+            }
+        }
+        Item::Import(_) => None,
+        Item::Extends(_) => None,
+        Item::Equations(_, _) => None,
+        Item::Algorithm(_, _) => None,
+    }
+}
+
+/// The indices at which values behind a name are still to be taken: `each` drops those that were pending.
+fn pending_at(
+    alloc: Global,
+    each: bool,
+    pending: &[u32],
+    index: &[u32],
+) -> Result<List<u32>, NoMemory>
+    ensures { IfOk result (λ made. made ≡ pending_behind each pending.now index.now) }
+{
+    if each {
+        return copied(alloc, index);
+    }
+    let mut made = copied(alloc, pending)?;
+    extend(&mut made, index)?;
+    Ok(made)
+}
+
+/// What is written before a name: `each`, `final`, and the index of the element that is entered by it.
+#[derive(Clone, Copy)]
+struct Entering<'a> {
+    each: bool,
+    last: bool,
+    index: &'a [u32],
+}
+
+/// The source behind one more name.
+fn source_behind<'t>(
+    alloc: Global,
+    source: &Source<'t>,
+    name: &'t Text,
+    entering: Entering<'_>,
+    given: Given<'t>,
+) -> Result<Source<'t>, NoMemory>
+    ensures { IfOk result (λ made. (frames : Seq Frame) → source_in frames (source_seen made) ≡ behind_name (source_in frames (source_seen source.now)) name.now (pending_behind entering.entry.each source.now.pending entering.entry.index.now) entering.entry.last (given_seen given.entry)) }
+{
+    let (pending, passed) = both(
+        pending_at(
+            alloc,
+            entering.each,
+            source.pending.as_slice(),
+            entering.index,
+        ),
+        copied_with(alloc, source.listing.passed.as_slice(), name),
+    )?;
+    let scope = copied_scope(alloc, &source.scope)?;
+    Ok(Source {
+        given,
+        scope,
+        pending,
+        listing: Listing {
+            place: source.listing.place,
+            passed,
+        },
+        last: source.last || entering.last,
+        outside: source.outside,
+        origin: Origin::Elsewhere,
+    })
+}
+
+impl<'t> Scopes<'t> {
+    /// A redeclaration by an element of an argument.
+    fn redeclaration_by(
+        &self,
+        argument: &'t Argument,
+        element: &'t Element,
+        keeps: bool,
+        source: Source<'t>,
+    ) -> Saying<'t>
+        ensures { saying_in (frames_of self.now) result ≡ Redeclares (record { declares = declared_in (table_in self.now) element.now; place = argument.now.place; keeps = keeps; source = source_in (frames_of self.now) (source_seen source.entry) }) }
+    {
+        Saying::Redeclares(Redeclaration {
+            declares: self.declared(element),
+            place: argument.place,
+            keeps,
+            source,
+        })
+    }
+
+    /// What an argument says where so many of its names are passed: it redeclares, or its source is what is left of it.
+    fn said_behind(&self, argument: &'t Argument, passed: usize, source: Source<'t>) -> Saying<'t>
+        ensures { saying_in (frames_of self.now) result ≡ said_behind (table_in self.now) argument.now passed (source_in (frames_of self.now) (source_seen source.entry)) }
+    {
+        if passed < argument.name.0.len() {
+            return Saying::Modifies(source);
+        }
+        match &argument.give {
+            Give::Modify(_, _) => Saying::Modifies(source),
+            Give::Redeclare(element) => {
+                self.redeclaration_by(argument, element, element.flags.replaceable, source)
+            }
+            Give::Replaceable(element) => self.redeclaration_by(argument, element, true, source),
+        }
+    }
+
+    /// What an argument says that has passed one more name, with what is written before it.
+    fn said_with(
+        &self,
+        alloc: Global,
+        source: &Source<'t>,
+        argument: &'t Argument,
+        passed: usize,
+        name: &'t Text,
+        entering: Entering<'_>,
+    ) -> Result<Saying<'t>, NoMemory>
+        ensures { IfOk result (λ saying. saying_in (frames_of self.now) saying ≡ said_behind (table_in self.now) argument.now passed (behind_name (source_in (frames_of self.now) (source_seen source.now)) name.now (pending_behind entering.entry.each source.now.pending entering.entry.index.now) entering.entry.last (Argued argument.now passed))) }
+    {
+        let given = Given::Argued { argument, passed };
+        let behind = source_behind(alloc, source, name, entering, given)?;
+        Ok(self.said_behind(argument, passed, behind))
+    }
+
+    /// Adds what a modifier list says.
+    fn said_in_list(
+        &self,
+        alloc: Global,
+        source: &Source<'t>,
+        list: &'t [Argument],
+        asked: &Asked<'_>,
+        made: &mut List<Saying<'t>>,
+    ) -> Result<(), NoMemory>
+        ensures { OnOk result (map (saying_in (frames_of self.now)) made.new ≡ map (saying_in (frames_of self.now)) made.old ++ said_in_list (table_in self.now) (source_in (frames_of self.now) (source_seen source.now)) asked.now.name.now asked.now.index.now list.now) }
+    {
+        for argument in list {
+            if let Some(first) = named(argument.name.0.as_slice(), 0, asked.name) {
+                let entering = Entering {
+                    each: argument.each,
+                    last: argument.last,
+                    index: asked.index,
+                };
+                let said = self.said_with(alloc, source, argument, 1, first, entering);
+                pushed(made, said)?;
+            }
+        }
+        Ok(())
+    }
+
+    /// Adds what an argument says of which so many names were passed: what is left of it, or the list behind them.
+    fn said_in_argument(
+        &self,
+        alloc: Global,
+        source: &Source<'t>,
+        argument: &'t Argument,
+        passed: usize,
+        asked: &Asked<'_>,
+        made: &mut List<Saying<'t>>,
+    ) -> Result<(), NoMemory>
+        ensures { OnOk result (map (saying_in (frames_of self.now)) made.new ≡ map (saying_in (frames_of self.now)) made.old ++ (said_further (table_in self.now) (source_in (frames_of self.now) (source_seen source.now)) asked.now.name.now asked.now.index.now argument.now passed ++ said_in_list (table_in self.now) (source_in (frames_of self.now) (source_seen source.now)) asked.now.name.now asked.now.index.now (held (Argued argument.now passed)).list)) }
+    {
+        if let Some(first) = named(argument.name.0.as_slice(), passed, asked.name) {
+            let entering = Entering {
+                each: false,
+                last: false,
+                index: asked.index,
+            };
+            let said = self.said_with(alloc, source, argument, passed + 1, first, entering);
+            return pushed(made, said);
+        }
+        match nested_list(argument, passed) {
+            Some(list) => self.said_in_list(alloc, source, list, asked, made),
+            None => Ok(()),
+        }
+    }
+
+    /// Adds what an element with `redeclare` says.
+    fn said_by_element(
+        &self,
+        alloc: Global,
+        source: &Source<'t>,
+        element: &'t Element,
+        asked: &Asked<'_>,
+        made: &mut List<Saying<'t>>,
+    ) -> Result<(), NoMemory>
+        ensures { OnOk result (map (saying_in (frames_of self.now)) made.new ≡ map (saying_in (frames_of self.now)) made.old ++ said_by_element (table_in self.now) (source_in (frames_of self.now) (source_seen source.now)) asked.now.name.now asked.now.index.now (declared_in (table_in self.now) element.now)) }
+    {
+        let declares = self.declared(element);
+        if !is_named(declares.name, asked.name) {
+            return Ok(());
+        }
+        let entering = Entering {
+            each: false,
+            last: false,
+            index: asked.index,
+        };
+        let given = Given::Listed(declares.own);
+        let behind = source_behind(alloc, source, declares.name, entering, given)?;
+        made.push(Saying::Redeclares(Redeclaration {
+            declares,
+            place: declares.place,
+            keeps: declares.flags.replaceable,
+            source: behind,
+        }))
+    }
+
+    /// Adds what the elements with `redeclare` among the items of a class say.
+    fn said_by_elements(
+        &self,
+        alloc: Global,
+        source: &Source<'t>,
+        items: &'t [Item],
+        asked: &Asked<'_>,
+        made: &mut List<Saying<'t>>,
+    ) -> Result<(), NoMemory>
+        ensures { OnOk result (map (saying_in (frames_of self.now)) made.new ≡ map (saying_in (frames_of self.now)) made.old ++ said_by_elements (table_in self.now) (source_in (frames_of self.now) (source_seen source.now)) asked.now.name.now asked.now.index.now (flat_map replacing_in items.now)) }
+    {
+        for item in items {
+            if let Some(element) = replacing(item) {
+                self.said_by_element(alloc, source, element, asked, made)?;
+            }
+        }
+        Ok(())
+    }
+
+    /// Adds what a source says.
+    fn said(
+        &self,
+        alloc: Global,
+        source: &Source<'t>,
+        asked: &Asked<'_>,
+        made: &mut List<Saying<'t>>,
+    ) -> Result<(), NoMemory>
+        ensures { OnOk result (map (saying_in (frames_of self.now)) made.new ≡ map (saying_in (frames_of self.now)) made.old ++ said (table_in self.now) asked.now.name.now asked.now.index.now (source_in (frames_of self.now) (source_seen source.now))) }
+    {
+        match source.given {
+            Given::Listed(modifiers) => {
+                self.said_in_list(alloc, source, modifiers.list, asked, made)
+            }
+            Given::Argued { argument, passed } => {
+                self.said_in_argument(alloc, source, argument, passed, asked, made)
+            }
+            Given::Replacing(items) => self.said_by_elements(alloc, source, items, asked, made),
+        }
+    }
+
+    /// All that sources say of an element, in their order.
+    pub(crate) fn sayings(
+        &self,
+        alloc: Global,
+        sources: &[Source<'t>],
+        asked: &Asked<'_>,
+    ) -> Result<List<Saying<'t>>, NoMemory>
+        ensures { IfOk result (λ made. map (saying_in (frames_of self.now)) made ≡ said_by_all (table_in self.now) asked.now.name.now asked.now.index.now (sources_in (frames_of self.now) (map source_seen sources.now))) }
+    {
+        let mut made = List::new(alloc);
+        for source in sources {
+            self.said(alloc, source, asked, &mut made)?;
+        }
+        Ok(made)
+    }
+}
