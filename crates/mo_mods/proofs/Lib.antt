@@ -1,1 +1,4 @@
+pub mod Entering
+pub mod Finding
 mod Rows
+pub mod Stepped

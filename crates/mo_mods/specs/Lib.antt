@@ -1,2 +1,4 @@
 pub mod Marks
 pub mod Merged
+pub mod Sights
+pub mod Steps

@@ -1,0 +1,69 @@
+//! Looking up what a table gives.
+ghost use Rattle.std.specs.Prelude.{◌≡◌, [], List as Seq, drop, option_copied, option_map};
+ghost use Rattle.std.specs.Str.{bytes_eq};
+ghost use Rattle.mo_scope.specs.Frames.{Frame};
+ghost use Rattle.mo_scope.specs.Sights.{picked_in};
+ghost use Rattle.mo_mods.specs.Merged.{at_path, binding, table_for, tables_below};
+ghost use Rattle.mo_mods.specs.Sights.{merged_in, merged_or};
+
+use crate::env::MergedEnv;
+use mo_scope::Picked;
+use mo_syntax::Text;
+
+/// Whether two names are the same.
+fn is_named(name: &Text, other: &Text) -> bool
+    ensures { result ≡ bytes_eq name.now other.now }
+{
+    name.as_str() == other.as_str()
+}
+
+impl<'t> MergedEnv<'t> {
+    /// The table for the paths that begin with a name, None where nothing is given for them.
+    pub fn table_for(&self, name: &Text) -> Option<&MergedEnv<'t>>
+        ensures { (frames : Seq Frame) → merged_or frames (option_copied result) ≡ table_for name.now (tables_below (merged_in frames self.now)) }
+    {
+        for one in self.below.as_slice() {
+            if is_named(one.name, name) {
+                return Some(&one.env);
+            }
+        }
+        None
+    }
+
+    /// The value for a path, with its scope and its pending indices. It takes no memory.
+    pub fn binding(&self, path: &[Text]) -> Option<Picked<'_>>
+        ensures { (frames : Seq Frame) → option_map (picked_in frames) result ≡ binding (merged_in frames self.now) path.now }
+    {
+        match self.at_path(path, 0) {
+            Some(env) => env.value_here(),
+            None => None,
+        }
+    }
+
+    /// The table for the names of a path behind so many, None where nothing is given for them.
+    fn at_path(&self, path: &[Text], passed: usize) -> Option<&MergedEnv<'t>>
+        ensures { (frames : Seq Frame) → merged_or frames (option_copied result) ≡ at_path (merged_in frames self.now) (drop passed path.now) }
+    {
+        if passed >= path.len() {
+            return Some(self);
+        }
+        match self.table_for(&path[passed]) {
+            Some(next) => next.at_path(path, passed + 1),
+            None => None,
+        }
+    }
+
+    /// The value for what the table is of.
+    fn value_here(&self) -> Option<Picked<'_>>
+        ensures { (frames : Seq Frame) → option_map (picked_in frames) result ≡ binding (merged_in frames self.now) [] }
+    {
+        match &self.value {
+            Some(value) => Some(Picked {
+                value: value.value,
+                scope: &value.scope,
+                pending: value.pending.as_slice(),
+            }),
+            None => None,
+        }
+    }
+}
