@@ -8,7 +8,7 @@ use Rattle.mo_mods.specs.declared.env.MergedEnv.{MergedEnv, fold_out-MergedEnv, 
 use Rattle.mo_mods.specs.Merged.{Merged, Below_then, nothing_merged, tables_below, table_for, at_path}
 use Rattle.mo_mods.specs.Sights.{below_in, below_seen, merged_in, merged_node}
 
-below_map : (frames : List Frame) (xs : List (BelowOf MergedEnv)) → below_in (map (λ one. record { name = one.name; env = merged_in frames one.env }) xs) ≡ below_seen frames xs
+pub below_map : (frames : List Frame) (xs : List (BelowOf MergedEnv)) → below_in (map (λ one. record { name = one.name; env = merged_in frames one.env }) xs) ≡ below_seen frames xs
 below_map frames [] = refl
 below_map frames (one ∷ others) = ap (Below_then one.name.now (merged_in frames one.env)) (below_map frames others)
 

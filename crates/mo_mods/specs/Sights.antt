@@ -1,5 +1,5 @@
 -- What the tables of the code are as data, where frames have numbers.
-use Rattle.std.specs.Prelude.{List, [], ◌∷◌, Option, Some, None, option_map}
+use Rattle.std.specs.Prelude.{ℕ, List, [], ◌∷◌, Option, Some, None, option_map}
 use Rattle.mo_scope.specs.Frames.{Frame}
 use Rattle.mo_scope.specs.Sights.{declares_seen}
 use Rattle.mo_scope.specs.Worlds.{scope_in}
@@ -8,6 +8,7 @@ use Rattle.mo_mods.specs.declared.env.MergedEnv.{MergedEnv, MergedEnv-F, fold-Me
 use Rattle.mo_mods.specs.declared.env.MergedValue.{MergedValue}
 use Rattle.mo_mods.specs.declared.env.RedeclaredAt.{RedeclaredAt}
 use Rattle.mo_mods.specs.Merged.{Merged, Table_of, Below, Nothing_below, Below_then, Merged_value, Redeclared, nothing_merged}
+use Rattle.mo_mods.specs.Steps.{entered_table}
 
 abbrev pub value_in : List Frame → MergedValue → Merged_value
 value_in frames value = record {
@@ -40,3 +41,10 @@ merged_or frames (Some env) = merged_in frames env
 abbrev pub below_seen : List Frame → List (BelowOf MergedEnv) → Below
 below_seen frames [] = Nothing_below
 below_seen frames (one ∷ others) = Below_then one.name.now (merged_in frames one.env) (below_seen frames others)
+
+-- a table with its name, as it is and entered at an index
+abbrev pub named_in : List Frame → BelowOf MergedEnv → List ℕ × Merged
+named_in frames one = (one.name.now, merged_in frames one.env)
+
+abbrev pub entered_named : List Frame → List ℕ → BelowOf MergedEnv → List ℕ × Merged
+entered_named frames index one = (one.name.now, entered_table index (merged_in frames one.env))

@@ -6,8 +6,8 @@ use crate::source::{Listing, ScopeAt, Source};
 use mo_syntax::{List, NoMemory, Text, both, pushed};
 use std::alloc::Global;
 
-/// Puts copies of plain values at the end.
-pub(crate) fn extend<T: Copy + Drop>(made: &mut List<T>, items: &[T]) -> Result<(), NoMemory>
+/// Puts copies of plain values at the end. `NoMemory` is the only other answer.
+pub fn extend<T: Copy + Drop>(made: &mut List<T>, items: &[T]) -> Result<(), NoMemory>
     ensures { OnOk result (made.new ≡ made.old ++ items.now) }
 {
     for item in items {
@@ -16,8 +16,8 @@ pub(crate) fn extend<T: Copy + Drop>(made: &mut List<T>, items: &[T]) -> Result<
     Ok(())
 }
 
-/// A list of plain values.
-pub(crate) fn copied<T: Copy + Drop>(alloc: Global, items: &[T]) -> Result<List<T>, NoMemory>
+/// A list of plain values. `NoMemory` is the only other answer.
+pub fn copied<T: Copy + Drop>(alloc: Global, items: &[T]) -> Result<List<T>, NoMemory>
     ensures { IfOk result (λ made. made ≡ items.now) }
 {
     let mut made = List::new(alloc);
@@ -56,8 +56,8 @@ fn copied_variables(alloc: Global, variables: &[(Text, i64)]) -> Result<List<(Te
     Ok(made)
 }
 
-/// A copy of a scope.
-pub(crate) fn copied_scope(alloc: Global, scope: &ScopeAt) -> Result<ScopeAt, NoMemory>
+/// A copy of a scope. `NoMemory` is the only other answer.
+pub fn copied_scope(alloc: Global, scope: &ScopeAt) -> Result<ScopeAt, NoMemory>
     ensures { IfOk result (λ made. made ≡ scope.now) }
 {
     let iters = copied_variables(alloc, scope.iters.as_slice())?;

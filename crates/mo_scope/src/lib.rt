@@ -33,6 +33,7 @@ mod tops;
 mod walk;
 mod written;
 
+pub use copies::{copied, copied_scope, extend};
 pub use pick::pick_here;
 pub use row::{Clause, Constraint, Declares, Home, Member, Part, Row, Sort};
 pub use saying::Redeclaration;
