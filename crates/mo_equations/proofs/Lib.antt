@@ -1,5 +1,7 @@
 mod Below
+mod EndLemmas
 mod Forms
+mod Keeping
 mod Numbers
 mod Scalars
 mod rows
