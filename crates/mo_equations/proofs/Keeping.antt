@@ -33,7 +33,7 @@ use Rattle.mo_equations.proofs.EndLemmas.{comes}
 pub record Keeps {A : Type 0} (Q : A → Type 0) (t : Turning A) : Type 0 where
   pub holds : (turns : ℕ) (a : A) (then_turns : ℕ) → t turns ≡ Ok (a, then_turns) → Q a
 
-abbrev good : {A : Type 0} → A → Outcome A
+abbrev pub good : {A : Type 0} → A → Outcome A
 good a = Ok a
 
 abbrev bad : (A : Type 0) → Broken → Outcome A
@@ -46,7 +46,7 @@ err_is_ok {A} broken a e = absurd (subst is_err e tt)
     is_err (Ok x) = ⊥
     is_err (Err x) = Unit {0}
 
-ok_one : {A : Type 0} (a b : A) → good a ≡ good b → a ≡ b
+pub ok_one : {A : Type 0} (a b : A) → good a ≡ good b → a ≡ b
 ok_one {A} a b e = ap value_in e
   where
     value_in : Outcome A → A

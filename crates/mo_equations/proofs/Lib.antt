@@ -4,4 +4,5 @@ mod Forms
 mod Keeping
 mod Numbers
 mod Scalars
+mod SoundLemmas
 mod rows
