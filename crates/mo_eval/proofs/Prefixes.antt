@@ -1,10 +1,13 @@
 -- What is read of virtual variables, and what that says of those before one of them.
-use Rattle.std.proofs.Common.{◌≡◌, ℕ, zero, suc, ◌-◌, ◌<◌, ◌≤◌, List, [], ◌∷◌, ◌++◌, map, take, Option, Some, None, Ok, refl, ap, sym, ◌∙◌, append_assoc, ⊎_elim, arith}
+use Rattle.std.proofs.Common.{◌≡◌, ℕ, zero, suc, ◌-◌, ◌<◌, ◌≤◌, List, [], ◌∷◌, ◌++◌, map, take, length, Option, Some, None, Ok, refl, ap, sym, ◌∙◌, append_assoc, ⊎_elim, arith}
 use Rattle.std.specs.Prelude.{fold, slice_get}
 use Rattle.std.specs.Option.{option_map}
+use Rattle.std.proofs.Math.ListN.{set, replicate}
+use Rattle.std.proofs.lemmas.List.{length-replicate}
+use Rattle.std.proofs.lemmas.Grind.{common_steps}
 use Rattle.std.proofs.lemmas.Bool.{cases_lt}
 use Rattle.std.proofs.lemmas.List.{append-nil}
-use Rattle.std.proofs.lemmas.Option.{slice_get-map}
+use Rattle.std.proofs.lemmas.Option.{slice_get_past, slice_get-map}
 use Rattle.mo_typing.specs.Outcome.{Outcome}
 use Rattle.mo_typing.specs.Indices.{or_else}
 use Rattle.mo_eval.specs.Scalars.{Known}
@@ -92,3 +95,41 @@ before_read reads known k are = record { each = λ n. ⊎_elim (inside n) (outsi
 -- one that is not read before another one
 pub unread_before : (reads : Reads) (k n : ℕ) → IsUnread (take k reads) n → (n - 1 < k) × IsUnread reads n
 unread_before reads k n is = ⊎_elim (λ (small : n - 1 < k). (small, sym (slice_take reads k (n - 1) small) ∙ is)) (λ (all : k ≤ n - 1). absurd (let e : ◌≡◌ {A = Option (Option (Outcome Known))} None (Some None) = sym (take_past reads k (n - 1) all) ∙ is in cc)) (cases_lt (n - 1) k)
+
+-- ---- what is put down
+
+set_same : {A : Type 0} (xs : List A) (i : ℕ) (v : A) → i < length xs → slice_get (set xs i v) i ≡ Some v
+set_same [] i v small = absurd (grind (arith, common_steps))
+set_same (x ∷ xs) zero v small = refl
+set_same (x ∷ xs) (suc i) v small = set_same xs i v (omega arith)
+
+set_other : {A : Type 0} (xs : List A) (i j : ℕ) (v : A) → (i ≡ j → ⊥) → slice_get (set xs i v) j ≡ slice_get xs j
+set_other [] i j v apart = refl
+set_other (x ∷ xs) zero zero v apart = absurd (apart refl)
+set_other (x ∷ xs) zero (suc j) v apart = refl
+set_other (x ∷ xs) (suc i) zero v apart = refl
+set_other (x ∷ xs) (suc i) (suc j) v apart = set_other xs i j v (λ e. apart (ap suc e))
+
+pub marked : (reads : Reads) (known : List (Outcome Known)) (k : ℕ) (outcome : Outcome Known) → AreRead reads (numbered known) → k < length reads → slice_get known k ≡ Some outcome →
+    AreRead (set reads k (Some outcome)) (numbered known)
+marked reads known k outcome are small has = record { each = λ n. ⊎_elim (λ (low : n - 1 < k). other n (λ e. absurd (omega arith))) (λ (high : k ≤ n - 1). ⊎_elim (λ (above : k < n - 1). other n (λ e. absurd (omega arith))) (λ (below : n - 1 ≤ k). same n (omega arith)) (cases_lt k (n - 1))) (cases_lt (n - 1) k) }
+  where
+    other : (n : ℕ) → (k ≡ n - 1 → ⊥) → IsRead (slice_get (set reads k (Some outcome)) (n - 1)) (numbered known n)
+    other n apart = rw (set_other reads k (n - 1) (Some outcome) apart) (are.each n)
+
+    same : (n : ℕ) → n - 1 ≡ k → IsRead (slice_get (set reads k (Some outcome)) (n - 1)) (numbered known n)
+    same n e = rw (e, set_same reads k (Some outcome) small, has) refl
+
+pub none_read : (known : List (Outcome Known)) (count : ℕ) → length known ≡ count → AreRead (replicate count None) (numbered known)
+none_read known count counted = record { each = λ n. ⊎_elim (inside n) (outside n) (cases_lt (n - 1) count) }
+  where
+    replicated : (m i : ℕ) → i < m → ◌≡◌ {A = Option (Option (Outcome Known))} (slice_get (replicate m None) i) (Some None)
+    replicated zero i small = absurd (omega arith)
+    replicated (suc m) zero small = refl
+    replicated (suc m) (suc i) small = replicated m i (omega arith)
+
+    inside : (n : ℕ) → n - 1 < count → IsRead (slice_get (replicate count None) (n - 1)) (numbered known n)
+    inside n small = rw (replicated count (n - 1) small) tt
+
+    outside : (n : ℕ) → count ≤ n - 1 → IsRead (slice_get (replicate count None) (n - 1)) (numbered known n)
+    outside n all = rw (slice_get_past known (n - 1) (omega arith), slice_get_past (replicate {A = Option (Outcome Known)} count None) (n - 1) (rw length-replicate all)) refl

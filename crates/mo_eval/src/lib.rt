@@ -7,7 +7,7 @@
 //!   not known ([`Halt`]).
 //! - [`Resolved`], [`Virtual`] and [`Element`]: a resolved expression, and what its variables stand for.
 //! - [`next`]: what comes next ([`Step`]) where an element of a resolved expression is wanted and its variables are read one after
-//!   another, only where they are needed.
+//!   another, only where they are needed; [`unread`] and [`mark`] keep what is read of them.
 //!
 //! An expression is resolved in a scope, which puts virtual variables in the place of its names; its kind, its dimensions and its
 //! value are then those of the resolved expression. The definitions stand in specs/.
@@ -30,7 +30,7 @@ mod virtuals;
 mod walk;
 
 pub use halt::{Halt, Told};
-pub use reading::{Step, next};
+pub use reading::{Step, mark, next, unread};
 pub use value::{Reckoned, Scalar, Value};
 pub use virtuals::{Element, Resolved, Virtual};
 pub use walk::known;

@@ -1,5 +1,5 @@
 //! How the variables of a resolved expression are read one after another, only where they are needed.
-ghost use Rattle.std.specs.Prelude.{◌≡◌, [], ℕ, List, MatchOption};
+ghost use Rattle.std.specs.Prelude.{◌≡◌, ◌-◌, [], ℕ, List, MatchOption, IfOk, length, slice_get};
 ghost use Rattle.mo_scope.specs.Frames.{Frame};
 ghost use Rattle.mo_typing.specs.Outcome.{Outcome, and_then};
 ghost use Rattle.mo_eval.specs.Scalars.{Known, division};
@@ -16,7 +16,7 @@ use crate::value::Scalar;
 use crate::virtuals::Virtual;
 use crate::walk::known;
 use mo_flat::ArrayExpr;
-use mo_syntax::{Broken, Place, Stop};
+use mo_syntax::{Broken, NoMemory, Place, Stop};
 use std::alloc::Global;
 
 /// What comes next of a walk.
@@ -102,4 +102,23 @@ pub fn next<'t>(
         Err(Halt::NoMemory) => Err(Stop::NoMemory),
         Err(Halt::Unread(n)) => reading(alloc, n, virtuals, reads),
     }
+}
+
+/// What is read of so many variables before any of them is. `NoMemory` is the only other answer.
+pub fn unread(alloc: Global, count: usize) -> Result<Vec<Told>, NoMemory>
+    ensures { IfOk result (λ reads. (known : List (Outcome Known)) → length known ≡ count → AreRead reads.items (numbered known)) }
+{
+    let mut made = Vec::new(alloc);
+    for _k in 0..count {
+        made.push(None)?;
+    }
+    Ok(made)
+}
+
+/// Puts down what the variable of that number has, which was not read.
+pub fn mark(reads: &mut Vec<Told>, n: u32, outcome: Result<Option<Scalar>, Broken>)
+    requires { IsUnread reads.old.items n }
+    ensures { (known : List (Outcome Known)) → AreRead reads.old.items (numbered known) → slice_get known (n - 1) ≡ Some outcome → AreRead reads.new.items (numbered known) }
+{
+    reads[n.saturating_sub(1) as usize] = Some(outcome);
 }
