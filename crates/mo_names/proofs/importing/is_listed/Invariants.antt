@@ -1,0 +1,8 @@
+-- Whether the name is among those that are left is whether it is among all.
+use Rattle.std.proofs.Common.{◌≡◌, drop}
+use Rattle.std.specs.List.{list_any}
+use Rattle.std.specs.Str.{bytes_eq}
+use Rattle.mo_names.proofs.importing.is_listed.Given as goal
+
+abbrev pub invariant-loop-other : goal.invariant-loop-other
+invariant-loop-other l = list_any (λ other. bytes_eq other l.name) (drop l.other-index l.names) ≡ list_any (λ other. bytes_eq other l.name) l.names

@@ -1,0 +1,50 @@
+//! What names find.
+use mo_scope::Member;
+use mo_syntax::{ClassId, FrameId, Place};
+
+/// What a name finds.
+#[derive(Clone, Copy)]
+pub enum Found<'t> {
+    /// A component, with the frame among whose elements it was found.
+    Component(FrameId, Member<'t>),
+    /// A class as the frame that it is entered as, and whether its element is replaceable.
+    Class(FrameId, bool),
+    /// A literal of an enumeration, by its place among the literals, from 0.
+    Literal(ClassId, u32),
+    /// An iteration variable with its value.
+    Iteration(i64),
+    /// A predefined function, by its code.
+    Function(u16),
+    Time,
+}
+
+/// What a name reaches among the elements of a frame.
+#[derive(Clone, Copy)]
+pub(crate) enum Reached<'t> {
+    Element(Member<'t>),
+    Other(Found<'t>),
+    Absent,
+}
+
+/// What a name finds, and whether it is an element of the frame that the text stands in.
+#[derive(Clone, Copy)]
+pub(crate) struct Met<'t> {
+    pub found: Found<'t>,
+    pub near: bool,
+}
+
+/// A class that a name finds, and whether its element is replaceable.
+#[derive(Clone, Copy)]
+pub(crate) struct Classed {
+    pub frame: FrameId,
+    pub replaceable: bool,
+}
+
+/// How the elements of frames are asked: how many classes may still have their bases found, the classes whose bases are being
+/// found, and the place that asks.
+#[derive(Clone, Copy)]
+pub(crate) struct Ask<'a> {
+    pub left: usize,
+    pub busy: &'a [u32],
+    pub place: Place,
+}

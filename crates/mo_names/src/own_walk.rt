@@ -1,0 +1,43 @@
+//! Elements that a class declares itself, among those of its frame.
+ghost use Rattle.std.specs.Prelude.{◌≡◌, ◌<◌, IfOk};
+ghost use Rattle.mo_scope.specs.Lookup.{with_member as joined_member};
+ghost use Rattle.mo_scope.specs.Outcome.{Gives};
+ghost use Rattle.mo_scope.specs.Rows.{class_number, number_of_classes};
+ghost use Rattle.mo_scope.specs.Sights.{declares_seen};
+ghost use Rattle.mo_scope.specs.Worlds.{IsFrame, frame_at, frames_of, table_in};
+ghost use Rattle.mo_names.specs.Sights.{IsWalk, walk_seen};
+ghost use Rattle.mo_names.specs.Steps.{own_inherited};
+
+use crate::join::with_member;
+use crate::walk::{Inherited, Walk};
+use mo_scope::{Declares, Member, Scopes};
+use mo_syntax::{FrameId, List, Stop};
+use std::alloc::Global;
+
+/// An element of its own that the class of a frame declares, put behind those before.
+pub(crate) fn own_walked<'t>(
+    alloc: Global,
+    s: &Scopes<'t>,
+    frame: FrameId,
+    item: u32,
+    declares: &Declares<'t>,
+    so_far: &mut Walk<'t>,
+) -> Result<(), Stop>
+    requires frame { IsFrame s.now frame.0 }
+    requires class { class_number (declares_seen declares.now) < number_of_classes (table_in s.now) }
+    requires so_far { IsWalk s.now so_far.old }
+    ensures value { Gives (λ _. walk_seen (frames_of s.now) so_far.new) result (joined_member (own_inherited (frame_at s.now frame.0) item (declares_seen declares.now)) (walk_seen (frames_of s.now) so_far.old)) }
+    ensures stand { IfOk result (λ _. IsWalk s.now so_far.new) }
+{
+    let own = Inherited {
+        member: Member {
+            name: declares.name,
+            home: frame,
+            item,
+            hidden: declares.flags.hidden,
+            declares: *declares,
+        },
+        through: List::new(alloc),
+    };
+    with_member(s, own, so_far)
+}

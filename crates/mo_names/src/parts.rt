@@ -1,0 +1,32 @@
+//! The parts of classes, one after another.
+ghost use Rattle.std.specs.Prelude.{◌≡◌, ◌<◌, Some, length, slice_get};
+ghost use Rattle.mo_scope.specs.Rows.{number_of_classes, row_at};
+ghost use Rattle.mo_scope.specs.Sights.{part_seen};
+ghost use Rattle.mo_scope.specs.Worlds.{table_in};
+ghost use Rattle.mo_names.specs.Bases.{PartExists};
+ghost use Rattle.mo_names.specs.Parts.{parts_of};
+
+use mo_scope::{Part, Scopes};
+use mo_syntax::ClassId;
+
+/// How many parts a class has, none where it is predefined.
+pub(crate) fn part_count(s: &Scopes, class: ClassId) -> usize
+    ensures { result ≡ length (parts_of (row_at (table_in s.now) class.0)) }
+{
+    match s.row(class) {
+        Some(row) => row.parts.len(),
+        None => 0,
+    }
+}
+
+/// The part of a class with so many before it.
+pub(crate) fn part_at<'t>(s: &Scopes<'t>, class: ClassId, at: usize) -> Part<'t>
+    requires { at < length (parts_of (row_at (table_in s.now) class.0)) }
+    ensures is { slice_get (parts_of (row_at (table_in s.now) class.0)) at ≡ Some (part_seen result) }
+    ensures exists { PartExists (number_of_classes (table_in s.now)) (part_seen result) }
+{
+    match s.row(class) {
+        Some(row) => row.parts.as_slice()[at],
+        None => unreachable!(),
+    }
+}

@@ -1,0 +1,283 @@
+//! What is found among elements that are known.
+ghost use Rattle.std.specs.Prelude.{◌≡◌, ◌∷◌, ◌++◌, List as Seq, map, option_copied, option_map, IfOk, IfSome, Some, None};
+ghost use Rattle.std.specs.List.{list_all, list_any};
+ghost use Rattle.std.specs.Str.{bytes_eq};
+ghost use Rattle.mo_scope.specs.Frames.{Frame};
+ghost use Rattle.mo_scope.specs.Lookup.{and_also as joined_found, at_top as found_at_top, class_wanted as wanted_class, classed as wanted_classed, contains, counts_in_package, first_at_top as first_found, is_closed as is_closed_frame, iteration as iteration_value, members_in, named, or_absent, predefined as found_predefined, reached_in as reached_among, reached_own as own_reached};
+ghost use Rattle.mo_scope.specs.Outcome.{Gives};
+ghost use Rattle.mo_scope.specs.Places.{Every};
+ghost use Rattle.mo_scope.specs.Sights.{declares_seen};
+ghost use Rattle.mo_scope.specs.Worlds.{Grows, IsFrame, frame_at, frames_of, table_in};
+ghost use Rattle.mo_names.specs.Sights.{IsFound, IsInherited, IsMember, IsReached, IsWalk, classed_seen, found_in, inherited_seen, member_of, met_seen, reached_seen, walk_seen};
+ghost use Rattle.mo_names.specs.Parts.{is_open_declares};
+ghost use Rattle.mo_names.specs.Steps.{element_behind, element_met as element_found, open_element as open_found};
+
+use crate::class_element::met;
+use crate::found::{Classed, Found, Met, Reached};
+use crate::literals::literal;
+use crate::own::{is_class_declared, is_open, own_named};
+use crate::same::is_same;
+use crate::stops::stop;
+use crate::top::{at_top, predefined};
+use crate::walk::{Inherited, Walk};
+use mo_scope::{Member, Scopes};
+use mo_syntax::{ClassId, FrameId, NoMemory, Place, Stop, Text};
+use std::alloc::Global;
+
+/// Whether the bases of a class are being found.
+pub(crate) fn is_busy(busy: &[u32], class: ClassId) -> bool
+    ensures { result ≡ contains busy.now class.0 }
+{
+    busy.iter().any(|other| *other == class.0)
+}
+
+/// The first element of that name.
+fn member_named<'t>(s: &Scopes<'t>, members: &[Inherited<'t>], name: &Text) -> Option<Member<'t>>
+    requires { Every (IsInherited s.now) members.now }
+    ensures is { option_map (member_of (frames_of s.now)) result ≡ named name.now (map (λ inherited. inherited.member) (map (inherited_seen (frames_of s.now)) members.now)) }
+    ensures exists { IfSome result (IsMember s.now) }
+{
+    for inherited in members {
+        if inherited.member.name.equals(name) {
+            return Some(inherited.member);
+        }
+    }
+    None
+}
+
+/// What a name reaches among the elements of a frame.
+pub(crate) fn reached_in<'t>(
+    s: &Scopes<'t>,
+    walk: &Walk<'t>,
+    name: &Text,
+) -> Result<Reached<'t>, NoMemory>
+    requires { IsWalk s.now walk.now }
+    ensures is { IfOk result (λ reached. reached_seen (frames_of s.now) reached ≡ reached_among (table_in s.now) (walk_seen (frames_of s.now) walk.now) name.now) }
+    ensures stand { IfOk result (IsReached s.now) }
+{
+    if let Some(member) = member_named(s, walk.members.as_slice(), name) {
+        return Ok(Reached::Element(member));
+    }
+    match literal(s, walk.leaf, name)? {
+        Some(found) => Ok(Reached::Other(found)),
+        None => Ok(Reached::Absent),
+    }
+}
+
+/// What a name reaches among the own elements of a frame.
+pub(crate) fn reached_own<'t>(
+    s: &Scopes<'t>,
+    frame: FrameId,
+    name: &Text,
+) -> Result<Reached<'t>, NoMemory>
+    requires { IsFrame s.now frame.0 }
+    ensures is { IfOk result (λ reached. Ok (reached_seen (frames_of s.now) reached) ≡ own_reached (table_in s.now) (frame_at s.now frame.0) name.now) }
+    ensures stand { IfOk result (IsReached s.now) }
+{
+    match own_named(s, frame, name)? {
+        Some(member) => Ok(Reached::Element(member)),
+        None => Ok(Reached::Absent),
+    }
+}
+
+/// Whether all these elements may stand in a package.
+pub(crate) fn are_all_open(members: &[Inherited]) -> bool
+    ensures { (frames : Seq Frame) → result ≡ list_all counts_in_package (map (λ inherited. inherited.member) (map (inherited_seen frames) members.now)) }
+{
+    for inherited in members {
+        if !is_open(&inherited.member.declares) {
+            return false;
+        }
+    }
+    true
+}
+
+/// A public element, entered.
+fn open_element<'t>(
+    alloc: Global,
+    s: &mut Scopes<'t>,
+    place: Place,
+    frame: FrameId,
+    member: &Member<'t>,
+) -> Result<Found<'t>, Stop>
+    requires frame { IsFrame s.old frame.0 }
+    requires member { IsMember s.old member.now }
+    ensures grows { Grows s.old s.new }
+    ensures value { Gives (found_in (frames_of s.new)) result (open_found (table_in s.old) place (frame_at s.old frame.0) (member_of (frames_of s.old) member.now)) }
+    ensures stand { IfOk result (IsFound s.new) }
+{
+    if member.hidden {
+        return Err(stop(17, place));
+    }
+    met(alloc, s, frame, member)
+}
+
+/// An element behind a class, where it counts.
+pub(crate) fn behind_element<'t>(
+    alloc: Global,
+    s: &mut Scopes<'t>,
+    place: Place,
+    component: Option<Place>,
+    frame: FrameId,
+    member: &Member<'t>,
+) -> Result<Found<'t>, Stop>
+    requires frame { IsFrame s.old frame.0 }
+    requires member { IsMember s.old member.now }
+    ensures grows { Grows s.old s.new }
+    ensures value { Gives (found_in (frames_of s.new)) result (element_behind (table_in s.old) place component (frame_at s.old frame.0) (member_of (frames_of s.old) member.now)) }
+    ensures stand { IfOk result (IsFound s.new) }
+{
+    match component {
+        Some(wrong) => {
+            if !is_class_declared(&member.declares) {
+                return Err(stop(13, wrong));
+            }
+            open_element(alloc, s, place, frame, member)
+        }
+        None => open_element(alloc, s, place, frame, member),
+    }
+}
+
+/// An element that is reached, entered.
+pub(crate) fn element_met<'t>(
+    alloc: Global,
+    s: &mut Scopes<'t>,
+    frame: FrameId,
+    reached: &Reached<'t>,
+) -> Result<Option<Found<'t>>, Stop>
+    requires frame { IsFrame s.old frame.0 }
+    requires reached { IsReached s.old reached.now }
+    ensures grows { Grows s.old s.new }
+    ensures value { Gives (option_map (found_in (frames_of s.new))) result (element_found (table_in s.old) (frame_at s.old frame.0) (reached_seen (frames_of s.old) reached.now)) }
+    ensures stand { IfOk result (λ found. IfSome found (IsFound s.new)) }
+{
+    match reached {
+        Reached::Element(member) => Ok(Some(met(alloc, s, frame, member)?)),
+        Reached::Other(_) => Ok(None),
+        Reached::Absent => Ok(None),
+    }
+}
+
+/// The frame of the class that was found.
+pub(crate) fn class_wanted(s: &Scopes, place: Place, found: &Found) -> Result<FrameId, Stop>
+    requires { IsFound s.now found.now }
+    ensures value { Gives (λ frame. frame_at s.now frame.0) result (wanted_class place (found_in (frames_of s.now) found.now)) }
+    ensures stand { IfOk result (λ frame. IsFrame s.now frame.0) }
+{
+    match found {
+        Found::Class(frame, _) => Ok(*frame),
+        Found::Component(_, _)
+        | Found::Literal(_, _)
+        | Found::Iteration(_)
+        | Found::Function(_)
+        | Found::Time => Err(stop(13, place)),
+    }
+}
+
+/// The class that was found, and whether its element is replaceable.
+pub(crate) fn classed(s: &Scopes, place: Place, found: &Found) -> Result<Classed, Stop>
+    requires { IsFound s.now found.now }
+    ensures value { Gives (classed_seen (frames_of s.now)) result (wanted_classed place (found_in (frames_of s.now) found.now)) }
+    ensures stand { IfOk result (λ class. IsFrame s.now class.frame.0) }
+{
+    match found {
+        Found::Class(frame, replaceable) => Ok(Classed {
+            frame: *frame,
+            replaceable: *replaceable,
+        }),
+        Found::Component(_, _)
+        | Found::Literal(_, _)
+        | Found::Iteration(_)
+        | Found::Function(_)
+        | Found::Time => Err(stop(13, place)),
+    }
+}
+
+/// What a name finds at the top.
+pub(crate) fn first_at_top<'t>(
+    alloc: Global,
+    s: &mut Scopes<'t>,
+    place: Place,
+    name: &Text,
+) -> Result<Found<'t>, Stop>
+    ensures grows { Grows s.old s.new }
+    ensures value { Gives (found_in (frames_of s.new)) result (first_found (table_in s.old) place name.now) }
+    ensures stand { IfOk result (IsFound s.new) }
+{
+    match at_top(alloc, s, name)? {
+        Some(found) => Ok(found),
+        None => Err(stop(12, place)),
+    }
+}
+
+/// What a name finds behind an encapsulated class.
+pub(crate) fn first_predefined<'t>(
+    alloc: Global,
+    s: &mut Scopes<'t>,
+    place: Place,
+    name: &Text,
+) -> Result<Found<'t>, Stop>
+    ensures grows { Grows s.old s.new }
+    ensures value { Gives (found_in (frames_of s.new)) result (or_absent place (found_predefined name.now)) }
+    ensures stand { IfOk result (IsFound s.new) }
+{
+    match predefined(alloc, s, name)? {
+        Some(found) => Ok(found),
+        None => Err(stop(12, place)),
+    }
+}
+
+/// Two elements found for one name.
+pub(crate) fn and_also<'t>(
+    s: &Scopes<'t>,
+    ask: Place,
+    so_far: &Option<Found<'t>>,
+    found: &Option<Found<'t>>,
+) -> Result<Option<Found<'t>>, Stop>
+    requires so_far { IfSome so_far.now (IsFound s.now) }
+    requires found { IfSome found.now (IsFound s.now) }
+    ensures value { Gives (option_map (found_in (frames_of s.now))) result (joined_found ask (option_map (found_in (frames_of s.now)) so_far.now) (option_map (found_in (frames_of s.now)) found.now)) }
+    ensures stand { IfOk result (λ found. IfSome found (IsFound s.now)) }
+{
+    match (so_far, found) {
+        (None, _) => Ok(*found),
+        (Some(_), None) => Ok(*so_far),
+        (Some(first), Some(other)) => {
+            if is_same(s, first, other) {
+                Ok(*so_far)
+            } else {
+                Err(stop(14, ask))
+            }
+        }
+    }
+}
+
+/// The value of the innermost iteration variable of that name.
+fn iteration_at<'a>(iterations: &'a [(Text, i64)], name: &Text) -> Option<&'a i64>
+    ensures { option_copied result ≡ iteration_value iterations.now name.now }
+{
+    for variable in iterations {
+        if variable.0.equals(name) {
+            return Some(&variable.1);
+        }
+    }
+    None
+}
+
+/// The value of the innermost iteration variable of that name.
+pub(crate) fn iteration(iterations: &[(Text, i64)], name: &Text) -> Option<i64>
+    ensures { result ≡ iteration_value iterations.now name.now }
+{
+    iteration_at(iterations, name).copied()
+}
+
+/// Whether the class of a frame is encapsulated.
+pub(crate) fn is_closed(s: &Scopes, frame: FrameId) -> bool
+    requires { IsFrame s.now frame.0 }
+    ensures { result ≡ is_closed_frame (table_in s.now) (frame_at s.now frame.0) }
+{
+    match s.row(s.class_of(frame)) {
+        Some(row) => row.class.flags.encapsulated,
+        None => false,
+    }
+}

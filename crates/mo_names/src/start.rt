@@ -1,0 +1,257 @@
+//! Where the elements of a frame begin, and how bases are entered.
+ghost use Rattle.std.specs.Prelude.{◌≡◌, ◌∷◌, ◌++◌, [], Some, map, option_map, IfOk};
+ghost use Rattle.mo_scope.specs.Entries.{names_of as path_names, number_of};
+ghost use Rattle.mo_scope.specs.Frames.{In, at_of, class_of, gathered, outer_of, owner_of_base};
+ghost use Rattle.mo_scope.specs.Lookup.{last_place as place_of_last, leaf_checked as checked_leaf};
+ghost use Rattle.mo_scope.specs.Outcome.{Gives};
+ghost use Rattle.mo_scope.specs.Rows.{form_in, is_left_out as is_row_left_out, is_other_form, is_record, row_at};
+ghost use Rattle.mo_scope.specs.Sights.{clause_seen, row_seen, source_seen};
+ghost use Rattle.mo_scope.specs.Worlds.{AreFrames, Grows, IsFrame, IsFrameOrNone, frame_at, frame_or_top, frames_of, sources_in, table_in};
+ghost use Rattle.mo_syntax.specs.declared.class.Body.{out-Body};
+ghost use Rattle.mo_names.specs.Sights.{IsWalk, walk_seen};
+ghost use Rattle.mo_names.specs.Parts.{is_enumeration_form};
+ghost use Rattle.mo_names.specs.Steps.{entered_base, started as walk_started};
+
+use crate::stops::stop;
+use crate::walk::Walk;
+use mo_scope::{Clause, Row, Scopes, Source};
+use mo_syntax::{Body, ClassKind, FrameId, InstancePath, List, NoMemory, Part, Place, Stop, Text};
+use std::alloc::Global;
+
+/// Whether a class is of a form that is left out.
+fn is_other(body: &Body) -> bool
+    ensures { result ≡ is_other_form (form_in (out-Body body.now)) }
+{
+    match body {
+        Body::Long {
+            extending: None,
+            items: _,
+            external: _,
+        } => false,
+        Body::Long {
+            extending: Some(_),
+            items: _,
+            external: _,
+        } => true,
+        Body::Short {
+            causal: _,
+            base: _,
+            subs: _,
+            mods: _,
+        } => false,
+        Body::Enumeration(None) => false,
+        Body::Enumeration(Some(_)) => false,
+        Body::Der(_, _) => true,
+    }
+}
+
+fn is_record_kind(kind: ClassKind) -> bool
+    ensures { result ≡ is_record kind }
+{
+    match kind {
+        ClassKind::Recd => true,
+        ClassKind::Plain
+        | ClassKind::Model
+        | ClassKind::Block
+        | ClassKind::Connector
+        | ClassKind::TypeDef
+        | ClassKind::Package
+        | ClassKind::Function
+        | ClassKind::Operator => false,
+    }
+}
+
+/// Whether a class is left out: an expandable connector, an operator record, `class extends` and a `der` class are.
+fn is_left_out(row: &Row) -> bool
+    ensures { result ≡ is_row_left_out (row_seen row.now) }
+{
+    if row.class.flags.expandable {
+        return true;
+    }
+    if row.class.flags.operator && is_record_kind(row.class.kind) {
+        return true;
+    }
+    is_other(&row.class.body)
+}
+
+/// Whether a class is an enumeration.
+fn is_enumeration(body: &Body) -> bool
+    ensures { result ≡ is_enumeration_form (form_in (out-Body body.now)) }
+{
+    match body {
+        Body::Enumeration(_) => true,
+        Body::Long {
+            extending: _,
+            items: _,
+            external: _,
+        } => false,
+        Body::Short {
+            causal: _,
+            base: _,
+            subs: _,
+            mods: _,
+        } => false,
+        Body::Der(_, _) => false,
+    }
+}
+
+/// No elements and no bases.
+fn nothing<'t>(alloc: Global, leaf: Option<FrameId>) -> Walk<'t>
+    ensures { result ≡ record { members = []; bases = []; sections = []; leaf = leaf } }
+{
+    Walk {
+        members: List::new(alloc),
+        bases: List::new(alloc),
+        sections: List::new(alloc),
+        leaf,
+    }
+}
+
+/// What the elements of a frame begin with.
+pub(crate) fn started<'t>(alloc: Global, s: &Scopes<'t>, frame: FrameId) -> Result<Walk<'t>, Stop>
+    requires { IsFrame s.now frame.0 }
+    ensures value { Gives (walk_seen (frames_of s.now)) result (walk_started (frame_at s.now frame.0) (row_at (table_in s.now) (class_of (frame_at s.now frame.0)))) }
+    ensures stand { IfOk result (IsWalk s.now) }
+{
+    match s.row(s.class_of(frame)) {
+        None => Ok(nothing(alloc, Some(frame))),
+        Some(row) => {
+            if is_left_out(row) {
+                return Err(stop(34, row.class.place));
+            }
+            if is_enumeration(&row.class.body) {
+                return Ok(nothing(alloc, Some(frame)));
+            }
+            Ok(nothing(alloc, None))
+        }
+    }
+}
+
+/// Asks that a frame that ends at a leaf type has no elements.
+fn elements_checked(s: &Scopes, _leaf: FrameId, walk: &Walk) -> Result<(), Stop>
+    requires { walk.now.leaf ≡ Some _leaf }
+    ensures { Gives (λ _. walk_seen (frames_of s.now) walk.now) result (checked_leaf (walk_seen (frames_of s.now) walk.now)) }
+{
+    match walk.members.get(0) {
+        Some(first) => Err(stop(13, first.member.declares.place)),
+        None => Ok(()),
+    }
+}
+
+/// Asks that no leaf type has elements.
+pub(crate) fn leaf_checked(s: &Scopes, walk: &Walk) -> Result<(), Stop>
+    ensures { Gives (λ _. walk_seen (frames_of s.now) walk.now) result (checked_leaf (walk_seen (frames_of s.now) walk.now)) }
+{
+    match walk.leaf {
+        Some(leaf) => elements_checked(s, leaf, walk),
+        None => Ok(()),
+    }
+}
+
+/// A copy of the names of an instance path.
+fn names_copied(
+    alloc: Global,
+    names: &[(Text, List<u32>)],
+) -> Result<List<(Text, List<u32>)>, NoMemory>
+    ensures { IfOk result (λ made. made ≡ names.now) }
+{
+    let mut made = List::new(alloc);
+    for (name, index) in names {
+        made.push(name_copied(alloc, name, index.as_slice())?)?;
+    }
+    Ok(made)
+}
+
+fn name_copied(alloc: Global, name: &Text, index: &[u32]) -> Result<(Text, List<u32>), NoMemory>
+    ensures { IfOk result (λ made. (made.0 ≡ name.now) × (made.1 ≡ index.now)) }
+{
+    let index = index.to_vec(alloc)?;
+    Ok((name.copy(alloc)?, List::from_vec(index)))
+}
+
+/// A copy of the path of a frame.
+fn path_copied(alloc: Global, path: Option<&InstancePath>) -> Result<Option<InstancePath>, NoMemory>
+    ensures { IfOk result (λ made. option_map path_names made ≡ option_map (λ path. path.now.0) path.entry) }
+{
+    match path {
+        Some(path) => Ok(Some(InstancePath(names_copied(alloc, path.0.as_slice())?))),
+        None => Ok(None),
+    }
+}
+
+/// The frame that owns what is a base of a frame: that frame, if it has a path or an owner.
+fn owner_of(s: &Scopes, frame: FrameId) -> Option<FrameId>
+    requires { IsFrame s.now frame.0 }
+    ensures is { frame_or_top (frames_of s.now) (option_map number_of result) ≡ owner_of_base (frame_at s.now frame.0) }
+    ensures exists { IsFrameOrNone s.now (option_map number_of result) }
+{
+    if s.path(frame).is_some() {
+        return Some(frame);
+    }
+    if s.owner(frame).is_some() {
+        return Some(frame);
+    }
+    None
+}
+
+/// The base frame of a frame, with these sources, whose class was found as that frame.
+fn base_with<'t>(
+    alloc: Global,
+    s: &mut Scopes<'t>,
+    frame: FrameId,
+    sources: List<Source<'t>>,
+    class: FrameId,
+) -> Result<FrameId, NoMemory>
+    requires frame { IsFrame s.old frame.0 }
+    requires class { IsFrame s.old class.0 }
+    requires sources { AreFrames s.old (map source_seen sources) }
+    ensures grows { Grows s.old s.new }
+    ensures value { IfOk result (λ base. frame_at s.new base.0 ≡ In (class_of (frame_at s.old class.0)) (gathered (sources_in (frames_of s.old) (map source_seen sources.entry))) (outer_of (frame_at s.old class.0)) (at_of (frame_at s.old frame.0)) (owner_of_base (frame_at s.old frame.0))) }
+    ensures stand { IfOk result (λ base. IsFrame s.new base.0) }
+{
+    let at = path_copied(alloc, s.path(frame))?;
+    let number = s.class_of(class);
+    let outer = s.outer(class);
+    let owner = owner_of(s, frame);
+    s.enter(alloc, number, sources, outer, at, owner)
+}
+
+/// The base frame of an extends clause of a frame, whose class was found as that frame; a predefined type has no clause.
+pub(crate) fn base_entered<'t>(
+    alloc: Global,
+    s: &mut Scopes<'t>,
+    frame: FrameId,
+    clause: &Clause<'t>,
+    class: FrameId,
+) -> Result<FrameId, NoMemory>
+    requires frame { IsFrame s.old frame.0 }
+    requires class { IsFrame s.old class.0 }
+    ensures grows { Grows s.old s.new }
+    ensures value { IfOk result (λ base. frame_at s.new base.0 ≡ entered_base (frame_at s.old frame.0) (row_at (table_in s.old) (class_of (frame_at s.old frame.0))) (clause_seen clause.now) (frame_at s.old class.0)) }
+    ensures stand { IfOk result (λ base. IsFrame s.new base.0) }
+{
+    let sources = match s.row(s.class_of(frame)) {
+        Some(row) => s.base_sources(alloc, frame, row, clause, class)?,
+        None => return Ok(frame),
+    };
+    base_with(alloc, s, frame, sources, class)
+}
+
+/// The place of the last of some identifiers.
+pub(crate) fn last_place(parts: &[Part]) -> Place
+    ensures { result ≡ place_of_last parts.now }
+{
+    match parts {
+        [.., last] => last.place,
+        [] => Place { file: 0, byte: 0 },
+    }
+}
+
+/// The classes whose bases are being found, with one more.
+pub(crate) fn busy_with(alloc: Global, busy: &[u32], class: u32) -> Result<List<u32>, NoMemory>
+    ensures { IfOk result (λ more. more ≡ busy.now ++ class ∷ []) }
+{
+    let mut more = List::from_vec(busy.to_vec(alloc)?);
+    more.push(class)?;
+    Ok(more)
+}
