@@ -5,6 +5,7 @@
 //! - [`Reckoned`]: what an operation gives.
 //! - [`known`]: what is known of a resolved expression at an index, where [`Told`] says what is read of its variables; or why that is
 //!   not known ([`Halt`]).
+//! - [`Context`]: what an expression is resolved for.
 //! - [`Resolved`], [`Virtual`] and [`Element`]: a resolved expression, and what its variables stand for.
 //! - [`next`]: what comes next ([`Step`]) where an element of a resolved expression is wanted and its variables are read one after
 //!   another, only where they are needed; [`unread`] and [`mark`] keep what is read of them.
@@ -29,6 +30,7 @@ mod value;
 mod virtuals;
 mod walk;
 
+pub use context::Context;
 pub use halt::{Halt, Told};
 pub use reading::{Step, mark, next, unread};
 pub use value::{Reckoned, Scalar, Value};

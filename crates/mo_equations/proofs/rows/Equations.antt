@@ -25,7 +25,8 @@ use Rattle.mo_eval.specs.declared.value.Scalar.TheVariants as scalar
 use Rattle.mo_eval.specs.Scalars.{Known}
 use Rattle.mo_eval.specs.Virtuals.{Element, Making, Virtual, resolved_by}
 use Rattle.mo_eval.specs.Components.{reader}
-use Rattle.mo_eval.specs.Contexts.{Context, for_flat, for_value, layered, only_scalar, only_truth, only_whole, read_in, truth_of}
+use Rattle.mo_eval.specs.declared.context.Context.{Context}
+use Rattle.mo_eval.specs.Contexts.{for_flat, for_value, layered, only_scalar, only_truth, only_whole, read_in, truth_of}
 use Rattle.mo_eval.specs.Resolving.{made, read_end}
 use Rattle.mo_eval.specs.Values.{reading}
 use Rattle.mo_equations.specs.Leaves.{Tree}
