@@ -9,6 +9,7 @@ use Rattle.std.proofs.lemmas.Grind.{common_steps}
 use Rattle.mo_scope.specs.Frames.{Frame, Top, In, Source, gathered, listed, sources_of, is_top}
 use Rattle.mo_scope.specs.Rows.{number_of_classes, table_of}
 use Rattle.mo_scope.specs.Names.{elements_of}
+use Rattle.mo_syntax.specs.SoundTree.{IsSoundTree}
 use Rattle.mo_scope.specs.Worlds.{SourceEntry, FrameEntry, MemberEntry, World, Grows, AreFrames, IsFrameOrNone, IsEntry, IsSound, IsTable, kept_table, table_in, frame_in, frame_or_top, source_in, sources_in, member_in, frame_of_entry, frames_from, frames_of, frame_at}
 
 -- frames that are alike below a number
@@ -150,6 +151,7 @@ sound_grown old new e sound files entries tables is =
     let grows : Grows old new = record { files = files; more = e ∷ []; entries = entries } in
     let classes : number_of_classes (table_in new) ≡ number_of_classes (table_in old) = ap (λ fs. number_of_classes (table_of fs)) files in
     record {
+      tree = subst IsSoundTree (sym files) sound.tree;
       entries = λ n x at.
           elim (at_append old.entries e n x (ap (λ xs. slice_get xs n) (sym entries) ∙ at)) [
             | inl same ↦ subst (λ c. IsEntry c n x) (sym classes) (sound.entries n x same)
@@ -273,6 +275,7 @@ with_table w n ms = record { files = w.files; entries = w.entries; tables = set 
 pub sound_kept : (w : World) (n : ℕ) (ms : List MemberEntry) → IsSound w → IsTable w n ms → IsSound (with_table w n ms)
 unfolding frames_of
 sound_kept w n ms sound is = record {
+  tree = sound.tree;
   entries = sound.entries;
   counted = length-set w.tables n (Some ms) ∙ sound.counted;
   kept = λ k other at.

@@ -1,6 +1,7 @@
 -- Numbered frames: what `Scopes` holds, and the frames that its numbers stand for.
 use Rattle.std.specs.Prelude.{◌≡◌, ℕ, ◌<◌, Bool, List, [], ◌∷◌, ◌++◌, length, map, Option, Some, None, Ok, get_or, slice_get}
 use Rattle.mo_syntax.specs.declared.class.FileTree.{FileTree}
+use Rattle.mo_syntax.specs.SoundTree.{IsSoundTree}
 use Rattle.mo_scope.specs.Rows.{Declares, Part, Element_of, class_number, Table, table_of, number_of_classes}
 use Rattle.mo_scope.specs.Frames.{Piece, Frame, Top, In, Indexed, Iterations, Scope, Source, Member, gathered}
 use Rattle.mo_scope.specs.Names.{elements_of}
@@ -127,6 +128,7 @@ pub record IsTable (world : World) (n : ℕ) (members : List MemberEntry) : Type
   pub homes : AreHomes world members
 
 pub record IsSound (world : World) : Type 0 where
+  pub tree : IsSoundTree world.files
   pub entries : (n : ℕ) (entry : FrameEntry) → slice_get world.entries n ≡ Some entry → IsEntry (number_of_classes (table_in world)) n entry
   pub counted : length world.tables ≡ length world.entries
   pub kept : (n : ℕ) (members : List MemberEntry) → kept_table world n ≡ Some members → IsTable world n members

@@ -1,6 +1,7 @@
 //! Frames by number, and the tables of their elements.
 ghost use Rattle.std.specs.Prelude.{◌≡◌, List as Seq, ◌+◌, ◌<◌, [], ◌∷◌, ◌++◌, length, map, Some, None, option_map, slice_get, IfOk, IfSome, IsSome, ℕ, OnOk, OnErr, IsTrue, IsNone, ◌↔◌, set, option_copied, find};
 ghost use Rattle.std.specs.Str.{bytes_eq};
+ghost use Rattle.mo_syntax.specs.SoundTree.{IsSoundTree};
 ghost use Rattle.mo_scope.specs.Bare.{bare_entry};
 ghost use Rattle.mo_scope.specs.Frames.{Frame, class_of, sources_of, outer_of, at_of, owner_of, is_top, In, gathered, looked_up};
 ghost use Rattle.mo_scope.specs.Rows.{number_of_classes, row_at, number_at, number_of_element, class_number, top_classes};
@@ -52,8 +53,9 @@ impl<'t> Model for Scopes<'t> {
 }
 
 impl<'t> Scopes<'t> {
-    /// No frames, of that class tree.
+    /// No frames, of that class tree, which is sound.
     pub fn new(alloc: Global, tree: &'t ClassTree) -> Result<Scopes<'t>, NoMemory>
+        requires sound { IsSoundTree tree.now.files }
         ensures files { IfOk result (λ scopes. scopes.files ≡ tree.now.files) }
         ensures entries { IfOk result (λ scopes. scopes.entries ≡ []) }
     {
@@ -67,7 +69,8 @@ impl<'t> Scopes<'t> {
 
     /// The class tree that the frames are of.
     pub fn tree(&self) -> &'t ClassTree
-        ensures { result.now.files ≡ self.now.files }
+        ensures is { result.now.files ≡ self.now.files }
+        ensures sound { IsSoundTree result.now.files }
     {
         self.tree
     }
@@ -81,6 +84,13 @@ impl<'t> Scopes<'t> {
             return None;
         }
         self.classes.rows.get((class.0 - 6) as usize)
+    }
+
+    /// How many classes there are besides the predefined types.
+    pub fn class_count(&self) -> usize
+        ensures { number_of_classes (table_in self.now) ≡ 6 + result }
+    {
+        self.classes.rows.len()
     }
 
     /// The class at the top with that name, None where no class there has it.
