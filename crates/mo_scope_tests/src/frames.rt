@@ -1,12 +1,14 @@
 //! Frames that are entered, and tables of elements.
 ghost use Rattle.std.specs.Prelude.{◌<◌, option_map, IfOk};
+ghost use Rattle.mo_syntax.specs.SoundTree.{IsSoundTree};
 ghost use Rattle.mo_scope.specs.Entries.{number_of};
 ghost use Rattle.mo_scope.specs.Rows.{number_of_classes};
 ghost use Rattle.mo_scope.specs.Worlds.{IsFrame, IsFrameOrNone, table_in};
 
-use crate::trees::{text, tree};
+use crate::trees::{FILES, text};
+use mo_samples::tree;
 use mo_scope::{Declares, Member, MemberTable, Part, Row, Scopes};
-use mo_syntax::{ClassId, ClassTree, FrameId, List, NoMemory, Place, Text};
+use mo_syntax::{ClassId, ClassTree, FrameId, List, NoMemory, Place, Stop, Text};
 use std::alloc::Global;
 use std::process::Abort;
 
@@ -46,7 +48,7 @@ fn enters(
 {
     let outer = enter(alloc, scopes, class, None)?;
     reads(rt, scopes, outer, class);
-    let model = ClassId(scopes.number_at(Place { file: 1, byte: 20 }));
+    let model = ClassId(scopes.number_at(Place { file: 1, byte: 16 }));
     assert!(rt; scopes.entered(model, Some(outer)).is_none());
     let inner = enter(alloc, scopes, model, Some(outer))?;
     assert!(rt; scopes.entered(class, None) == Some(outer));
@@ -71,22 +73,20 @@ fn has_frames(
     }
 }
 
-fn frames_of(
-    rt: &impl Abort,
-    alloc: Global,
-    files: &ClassTree,
-    name: &Text,
-) -> Result<(), NoMemory> {
+fn frames_of(rt: &impl Abort, alloc: Global, files: &ClassTree, name: &Text) -> Result<(), NoMemory>
+    requires { IsSoundTree files.now.files }
+{
     let mut scopes = Scopes::new(alloc, files)?;
     has_frames(rt, alloc, &mut scopes, name)
 }
 
 #[test]
-fn frames_that_look_classes_up(rt: HostRuntime) -> Result<(), NoMemory> {
+fn frames_that_look_classes_up(rt: HostRuntime) -> Result<(), Stop> {
     let alloc = rt.alloc();
     let name = text(alloc, "P")?;
-    let files = tree(alloc)?;
-    frames_of(&rt, alloc, &files, &name)
+    let files = tree(alloc, &FILES)?;
+    frames_of(&rt, alloc, &files, &name)?;
+    Ok(())
 }
 
 // The component that a class declares first.
@@ -158,16 +158,19 @@ fn elements_of(
     files: &ClassTree,
     name: &Text,
     other: &Text,
-) -> Result<(), NoMemory> {
+) -> Result<(), NoMemory>
+    requires { IsSoundTree files.now.files }
+{
     let scopes = Scopes::new(alloc, files)?;
     has_elements(rt, alloc, &scopes, name, other)
 }
 
 #[test]
-fn elements_by_name(rt: HostRuntime) -> Result<(), NoMemory> {
+fn elements_by_name(rt: HostRuntime) -> Result<(), Stop> {
     let alloc = rt.alloc();
     let name = text(alloc, "x")?;
     let other = text(alloc, "y")?;
-    let files = tree(alloc)?;
-    elements_of(&rt, alloc, &files, &name, &other)
+    let files = tree(alloc, &FILES)?;
+    elements_of(&rt, alloc, &files, &name, &other)?;
+    Ok(())
 }

@@ -1,7 +1,10 @@
 //! Rows of classes, and how they are found.
-use crate::trees::{text, tree};
+ghost use Rattle.mo_syntax.specs.SoundTree.{IsSoundTree};
+
+use crate::trees::{FILES, text};
+use mo_samples::tree;
 use mo_scope::{Home, Part, Row, Scopes, Sort};
-use mo_syntax::{ClassId, ClassTree, Item, NoMemory, Place, Text};
+use mo_syntax::{ClassId, ClassTree, Item, NoMemory, Place, Stop, Text};
 use std::alloc::Global;
 use std::process::Abort;
 
@@ -88,8 +91,8 @@ fn redeclared(rt: &impl Abort, scopes: &Scopes, items: &[Item]) {
 }
 
 fn has_others(rt: &impl Abort, scopes: &Scopes) {
-    assert_eq!(rt; scopes.number_at(Place { file: 1, byte: 40 }), 8);
-    assert_eq!(rt; scopes.number_at(Place { file: 2, byte: 9 }), 11);
+    assert_eq!(rt; scopes.number_at(Place { file: 1, byte: 32 }), 8);
+    assert_eq!(rt; scopes.number_at(Place { file: 2, byte: 16 }), 11);
     assert_eq!(rt; scopes.number_at(Place { file: 1, byte: 9 }), 0);
     match scopes.row(ClassId(6)) {
         Some(row) => {
@@ -112,7 +115,9 @@ fn has_classes(
     files: &ClassTree,
     top: &Text,
     inner: &Text,
-) -> Result<(), NoMemory> {
+) -> Result<(), NoMemory>
+    requires { IsSoundTree files.now.files }
+{
     let scopes = Scopes::new(alloc, files)?;
     has_tops(rt, &scopes, top, inner);
     has_others(rt, &scopes);
@@ -120,10 +125,11 @@ fn has_classes(
 }
 
 #[test]
-fn each_class_has_its_row(rt: HostRuntime) -> Result<(), NoMemory> {
+fn each_class_has_its_row(rt: HostRuntime) -> Result<(), Stop> {
     let alloc = rt.alloc();
     let top = text(alloc, "P")?;
     let inner = text(alloc, "C")?;
-    let files = tree(alloc)?;
-    has_classes(&rt, alloc, &files, &top, &inner)
+    let files = tree(alloc, &FILES)?;
+    has_classes(&rt, alloc, &files, &top, &inner)?;
+    Ok(())
 }
