@@ -2,7 +2,6 @@
 use Rattle.std.specs.Prelude.{◌≡◌, ◌≢◌, ℕ, ◌+◌, ◌-◌, ◌<◌, ◌≤◌, ◌⊎◌, Bool, true, List, length}
 use Rattle.std.proofs.Common.{get_or, set, suc}
 use Rattle.mo_incidence.specs.Signature.{Signature, equations, row_len, unknown_at, order_at}
-use Rattle.mo_incidence.specs.Assignment.{Assigns}
 
 -- which equation may have which unknown: by each entry, or with `tight` only where c and d have equality
 pub record Bipartite : Type 0 where
@@ -99,26 +98,7 @@ pub record IsAssignedTo (b : Bipartite) (pairs owner queue parent mark : List �
 pub record IsClosedBehind (b : Bipartite) (owner mark queue : List ℕ) (upto : ℕ) : Type 0 where
   pub searched : (t : ℕ) → 0 < t → t < upto → IsSearched b owner mark (get_or queue t 0) (row_len b.signature (get_or queue t 0))
 
--- the places that the queue gained were reached from place `head`
-pub record AreReachedFrom (parent parent' : List ℕ) (head tail tail' : ℕ) : Type 0 where
-  pub before : (t : ℕ) → t < tail → get_or parent' t 0 ≡ get_or parent t 0
-  pub after : (t : ℕ) → tail ≤ t → t < tail' → get_or parent' t 0 ≡ head
-
--- the places that the queue gained were reached from other places than the first
-pub record AreReachedBehind (parent parent' : List ℕ) (tail tail' : ℕ) : Type 0 where
-  pub before : (t : ℕ) → t < tail → get_or parent' t 0 ≡ get_or parent t 0
-  pub after : (t : ℕ) → tail ≤ t → t < tail' → 0 < get_or parent' t 0
-
 -- the equation at place `base` of the queue gets unknown j: the free one itself, or that of an equation that was reached from it
 abbrev pub IsHandedTo : (pairs queue parent : List ℕ) → (base tail place free j : ℕ) → Type 0
 IsHandedTo pairs queue parent base tail place free j = ((place ≡ base) × (j ≡ free))
     ⊎ ((t : ℕ) × (base < t) × (t < tail) × (get_or parent t 0 ≡ base) × (j ≡ get_or pairs (get_or queue t 0) 0))
-
--- no assignment of the equations with an unknown and of the one at place i gives this one an unknown below j
-pub record IsLowest (b : Bipartite) (pairs : List ℕ) (i j : ℕ) : Type 0 where
-  pub low : (q : ℕ → ℕ) → Assigns (Uses b) (equations b.signature) q → ((x : ℕ) → x < equations b.signature → get_or pairs x 0 ≢ 0 → q x ≢ 0) → q i ≢ 0 → j ≤ q i
-
--- the equation at the head of the queue can't have an unknown below j, and the unknowns of those reached from it are not above
-pub record IsBound (b : Bipartite) (pairs queue parent : List ℕ) (tail i j : ℕ) : Type 0 where
-  pub lowest : IsLowest b pairs i j
-  pub children : (t : ℕ) → 0 < t → t < tail → get_or parent t 0 ≡ 0 → get_or pairs (get_or queue t 0) 0 ≤ j

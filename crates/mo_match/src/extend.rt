@@ -9,9 +9,11 @@ use mo_ports::Steps;
 
 /// An equation at a place of the queue may have an unknown that no equation has.
 #[derive(Clone, Copy)]
-pub(crate) struct Free {
-    pub(crate) place: usize,
-    pub(crate) unknown: u32,
+pub struct Free {
+    /// The place of the queue.
+    pub place: usize,
+    /// The unknown's number.
+    pub unknown: u32,
 }
 
 /// Where a search ended.
@@ -22,7 +24,7 @@ pub(crate) struct Outcome {
 }
 
 /// Takes the marks of the equations from place `base` of the queue back.
-pub(crate) fn unmark(queue: &[u32], mark: &mut [u32], base: usize, tail: usize)
+pub fn unmark(queue: &[u32], mark: &mut [u32], base: usize, tail: usize)
     requires order { base ≤ tail }
     requires room { tail ≤ length queue.now }
     requires in_range { (t : ℕ) → t < tail → slice_index queue.now t < length mark.old }
@@ -86,7 +88,7 @@ impl<'a, L> Graph<'a, L> {
 
     /// Gives the equation at a place of the queue a free unknown, its old one to the equation from which it was reached, and so on
     /// back to the root.
-    pub(crate) fn hand_on(
+    pub fn hand_on(
         &self,
         pairs: &mut [u32],
         owner: &mut [u32],

@@ -13,12 +13,12 @@ mod extend;
 mod graph;
 mod largest;
 mod lists;
-mod lowest;
 mod search;
 mod spread;
 mod threads;
 mod work;
 
+pub use extend::{Free, unmark};
 pub use graph::Graph;
 pub use largest::{assign, clear};
 pub use lists::put;

@@ -1,8 +1,8 @@
 //! The search for an unknown that an equation can still have: breadth first along the bipartite graph, with a queue and no recursion.
 ghost use Rattle.std.specs.Prelude.{◌≡◌, ◌≢◌, ℕ, ◌+◌, ◌-◌, ◌<◌, ◌≤◌, ◌↔◌, length, slice_index, IsTrue, IfSome, IfNone};
 ghost use Rattle.std.proofs.Common.{suc};
-ghost use Rattle.mo_incidence.specs.Signature.{equations, row_len, unknown_at, entries, IsSound};
-ghost use Rattle.mo_match.specs.Searching.{Uses, IsPassed, IsSearched, ClosedTo, Grows, IsFree, Reaches, Matches, HoldsTree, AreReachedFrom};
+ghost use Rattle.mo_incidence.specs.Signature.{equations, row_len, entries, IsSound};
+ghost use Rattle.mo_match.specs.Searching.{Uses, IsPassed, IsSearched, ClosedTo, Grows, IsFree, Reaches, Matches, HoldsTree};
 
 use crate::graph::Graph;
 use mo_ports::Steps;
@@ -34,7 +34,7 @@ fn reach(
 impl<'a, L> Graph<'a, L> {
     /// Looks at one entry of the equation at the head of the queue: gives the queue's new end, and the entry's unknown if no
     /// equation has it.
-    pub(crate) fn visit(
+    fn visit(
         &self,
         pairs: &[u32],
         owner: &[u32],
@@ -56,9 +56,6 @@ impl<'a, L> Graph<'a, L> {
         ensures grows { Grows queue.old mark.old queue.new mark.new tail result.0 }
         ensures free { IfSome result.1 (IsFree self.now owner.now (slice_index queue.old head)) }
         ensures passed { IfNone result.1 (IsPassed self.now owner.now mark.new (slice_index queue.old head) k) }
-        ensures unknown { IfSome result.1 (λ j. j ≡ unknown_at self.now.signature (slice_index queue.old head) k) }
-        ensures reached { AreReachedFrom parent.old parent.new head tail result.0 }
-        ensures child { (t : ℕ) → tail ≤ t → t < result.0 → slice_index pairs.now (slice_index queue.new t) ≡ unknown_at self.now.signature (slice_index queue.old head) k }
         ensures cost { steps.new ≡ steps.old + 1 }
     {
         let row = queue[head] + 1;
@@ -94,7 +91,6 @@ impl<'a, L> Graph<'a, L> {
         ensures grows { Grows queue.old mark.old queue.new mark.new end result.0 }
         ensures free { IfSome result.1 (IsFree self.now owner.now (slice_index queue.old head)) }
         ensures searched { IfNone result.1 (IsSearched self.now owner.now mark.new (slice_index queue.old head) (row_len self.now.signature (slice_index queue.old head))) }
-        ensures reached { AreReachedFrom parent.old parent.new head end result.0 }
         ensures cost { steps.new ≤ steps.old + row_len self.now.signature (slice_index queue.old head) }
     {
         let row = queue[head] + 1;

@@ -1,15 +1,14 @@
--- One equation more is fixed at the least unknown that it can have.
-use Rattle.std.proofs.Common.{◌≡◌, ◌≢◌, ℕ, zero, suc, ◌+◌, ◌-◌, ◌*◌, ◌<◌, ◌≤◌, inl, inr, Bool, true, false, if◌then◌else◌, List, length, get_or, set, refl, sym, ap, ◌∙◌, arith, length-set, get_or-set_other, get_or-set_same, nat_lt}
-use Rattle.std.proofs.lemmas.Bool.{cases_lt}
-use Rattle.std.proofs.lemmas.Bool.Decides.{eqb_tells, nat_tests}
-use Rattle.mo_incidence.specs.Signature.{Signature, equations, row_len, unknown_at, order_at, IsSound}
+-- One equation more is fixed.
+use Rattle.std.proofs.Common.{◌≡◌, ◌≢◌, ℕ, suc, ◌+◌, ◌-◌, ◌*◌, ◌<◌, ◌≤◌, ◌==◌, ◌⊎◌, inl, inr, if◌then◌else◌, List, length, get_or, set, refl, sym, ◌∙◌, arith, length-set, get_or-set_other, get_or-set_same}
+use Rattle.std.proofs.lemmas.Bool.Decides.{eqb_tells}
+use Rattle.mo_incidence.specs.Signature.{Signature, equations, IsSound}
 use Rattle.mo_incidence.specs.Assignment.{Assigns, CoversAll}
 use Rattle.mo_incidence.specs.Offsets.{IsTight, by_place, by_number}
 use Rattle.mo_incidence.specs.Transversal.{IsLeastSequence}
 use Rattle.mo_incidence.proofs.Owning.{tight-known}
-use Rattle.mo_match.specs.Searching.{Uses, tight_of, IsMatching, IsTree, IsFree, IsLowest}
+use Rattle.mo_match.specs.Searching.{Uses, tight_of, IsMatching, IsTree, IsFree}
 use Rattle.mo_match.proofs.Covering.{matching-apart}
-use Rattle.mo_pantelides.specs.Fixing.{taken, AreOpen, IsFixedTo}
+use Rattle.mo_pantelides.specs.Fixing.{AreOpen, IsRival, IsFixedTo}
 use Rattle.mo_pantelides.proofs.Tight.{used-entry, entry-used, uses-tight, tight-uses}
 
 -- ---- an equation without its unknown
@@ -64,14 +63,14 @@ module _ (E : ℕ → ℕ → Type 0) (m n : ℕ) (p owner : List ℕ) (match : 
 
 -- ---- an unknown that is taken
 
+pub uses-left : (g : Signature) (c left : List ℕ) (v : ℕ) → 0 < v → (x j : ℕ) → 0 < j → j ≢ v → Uses (tight_of g c left) x j → Uses (tight_of g c (set left (v - 1) 4294967295)) x j
+uses-left g c left v above x j some ne used =
+    let entry = used-entry g c left x j used in
+    let other : j - 1 ≢ v - 1 = omega (arith, ne) in
+    entry-used g c (set left (v - 1) 4294967295) x j entry.0 entry.1 entry.2 (get_or-set_other left (v - 1) (j - 1) 4294967295 0 other ∙ entry.3)
+
 module _ (g : Signature) (c left p owner : List ℕ) (match : IsMatching (Uses (tight_of g c left)) (equations g) g.unknowns p owner) (sound : IsSound g) (v : ℕ) (above : 0 < v)
     (free : get_or owner v 0 ≡ 0) where
-  uses-left : (x j : ℕ) → 0 < j → j ≢ v → Uses (tight_of g c left) x j → Uses (tight_of g c (set left (v - 1) 4294967295)) x j
-  uses-left x j some ne used =
-      let entry = used-entry g c left x j used in
-      let other : j - 1 ≢ v - 1 = omega (arith, ne) in
-      entry-used g c (set left (v - 1) 4294967295) x j entry.0 entry.1 entry.2 (get_or-set_other left (v - 1) (j - 1) 4294967295 0 other ∙ entry.3)
-
   pub matching-taken : IsMatching (Uses (tight_of g c (set left (v - 1) 4294967295))) (equations g) g.unknowns p owner
   matching-taken = record {
     equations_all = match.equations_all;
@@ -81,7 +80,7 @@ module _ (g : Signature) (c left p owner : List ℕ) (match : IsMatching (Uses (
         let entry = used-entry g c left x (get_or p x 0) was in
         let known = rw entry.2 at (sound.known x entry.0 xm entry.1) in
         let ne : get_or p x 0 ≢ v = λ e. let held = (match.owned x xm has).1 in (let bad : get_or owner v 0 ≡ suc x = rw e at held in omega (arith, free, bad)) in
-        uses-left x (get_or p x 0) known.0 ne was;
+        uses-left g c left v above x (get_or p x 0) known.0 ne was;
     owned = match.owned;
     owns = match.owns;
   }
@@ -100,167 +99,282 @@ tree-as tree = record {
   rooted = λ t above below. absurd (omega arith);
 }
 
--- ---- the next equation
+-- ---- assignments that agree with what is fixed
 
--- q from place r on, 0 before
-abbrev pub from_place : ℕ → (ℕ → ℕ) → ℕ → ℕ
-from_place r q x = if nat_lt x r then 0 else q x
+-- y where x is 0, else 0
+abbrev pub while_none : ℕ → ℕ → ℕ
+while_none x y = if x == 0 then y else 0
 
-before-zero : (r : ℕ) (q : ℕ → ℕ) (x : ℕ) → x < r → from_place r q x ≡ 0
-before-zero r q x l = grind (arith, nat_tests)
+pub while-none : (x y : ℕ) → x ≡ 0 → while_none x y ≡ y
+while-none x y e = rw e refl
 
-from-same : (r : ℕ) (q : ℕ → ℕ) (x : ℕ) → r ≤ x → from_place r q x ≡ q x
-from-same r q x l = grind (arith, nat_tests)
+pub while-some : (x y : ℕ) → x ≢ 0 → while_none x y ≡ 0
+while-some x y ne = elim (eqb_tells x 0) [ inl e ↦ absurd (ne e.1) | inr e ↦ rw e.0 refl ]
 
-module _ (g : Signature) (c d left p owner t : List ℕ) (r : ℕ) (rm : r < equations g) (sound : IsSound g) (open_all : AreOpen g c) (to : IsFixedTo g c d left p owner t r) where
+module _ (g : Signature) (c d left p owner t : List ℕ) (r bare : ℕ) (sound : IsSound g) (open_all : AreOpen g c) (to : IsFixedTo g c d left p owner t r bare) where
   -- a tight entry at an unknown that is not taken
-  open-left : (x j : ℕ) → x < equations g → IsTight g (by_place c) (by_number d) x j → ((y : ℕ) → y < r → get_or t y 0 ≢ j) → Uses (tight_of g c left) x j
+  open-left : (x j : ℕ) → x < equations g → IsTight g (by_place c) (by_number d) x j → ((y : ℕ) → y < equations g → get_or t y 0 ≢ j) → Uses (tight_of g c left) x j
   open-left x j xm tight ne =
       let known = tight-known g (by_place c) (by_number d) x j sound xm tight in
       let entry = used-entry g c d x j (tight-uses g c d x j tight) in
       entry-used g c left x j entry.0 entry.1 entry.2 (to.others j known.0 known.1 ne ∙ entry.3)
 
-  not-taken : (x j : ℕ) → x < equations g → Uses (tight_of g c left) x j → (y : ℕ) → y < r → get_or t y 0 ≢ j
-  not-taken x j xm used y yl e =
+  pub not-taken : (x j : ℕ) → x < equations g → Uses (tight_of g c left) x j → (y : ℕ) → y < equations g → get_or t y 0 ≢ j
+  not-taken x j xm used y ym e =
       let entry = used-entry g c left x j used in
+      let known = rw entry.2 at (sound.known x entry.0 xm entry.1) in
       let low = open_all.entry x entry.0 xm entry.1 in
-      let high : get_or left (j - 1) 0 ≡ 4294967295 = rw e at (to.closed y yl) in
+      let some : get_or t y 0 ≢ 0 = omega (arith, e, known.0) in
+      let high : get_or left (j - 1) 0 ≡ 4294967295 = rw e at (to.closed y ym some) in
       omega (arith, low, high, entry.3)
 
-  left-tight : (x j : ℕ) → x < equations g → Uses (tight_of g c left) x j → (0 < j) × (j ≤ g.unknowns) × IsTight g (by_place c) (by_number d) x j
+  pub left-tight : (x j : ℕ) → x < equations g → Uses (tight_of g c left) x j → (0 < j) × (j ≤ g.unknowns) × IsTight g (by_place c) (by_number d) x j
   left-tight x j xm used =
       let entry = used-entry g c left x j used in
       let known = rw entry.2 at (sound.known x entry.0 xm entry.1) in
       let same = to.others j known.0 known.1 (not-taken x j xm used) in
       (known.0, known.1, uses-tight g c d x j (entry-used g c d x j entry.0 entry.1 entry.2 (sym same ∙ entry.3)))
 
-  module _ (p1 p2 owner2 : List ℕ) (p1_is : p1 ≡ set p r 0)
-      (match2 : IsMatching (Uses (tight_of g c left)) (equations g) g.unknowns p2 owner2) (gained : get_or p2 r 0 ≢ 0)
-      (kept : (x : ℕ) → get_or p1 x 0 ≢ 0 → get_or p2 x 0 ≢ 0) (bare : (x : ℕ) → x ≢ r → get_or p1 x 0 ≡ 0 → get_or p2 x 0 ≡ 0)
-      (lowest : IsLowest (tight_of g c left) p1 r (get_or p2 r 0)) where
-    p1-at : (x : ℕ) → x ≢ r → get_or p1 x 0 ≡ get_or p x 0
-    p1-at x ne = rw p1_is (get_or-set_other p r x 0 0 ne)
-
-    given : (0 < get_or p2 r 0) × (get_or p2 r 0 ≤ g.unknowns) × IsTight g (by_place c) (by_number d) r (get_or p2 r 0)
-    given = left-tight r (get_or p2 r 0) rm (match2.edge r rm gained)
-
-    fresh : (y : ℕ) → y < r → get_or t y 0 ≢ get_or p2 r 0
-    fresh = not-taken r (get_or p2 r 0) rm (match2.edge r rm gained)
-
-    low : (q : ℕ → ℕ) → Assigns (IsTight g (by_place c) (by_number d)) (equations g) q → CoversAll g q → ((y : ℕ) → y < r → q y ≡ get_or t y 0) → get_or p2 r 0 ≤ q r
-    low q assigns covers same =
-        let part : Assigns (Uses (tight_of g c left)) (equations g) (from_place r q) = record {
-          allowed = λ x xm. elim (cases_lt x r) [
-            | inl l ↦ rw (before-zero r q x l) (λ bad. absurd (bad refl))
-            | inr l ↦ rw (from-same r q x l) (λ some. open-left x (q x) xm (assigns.allowed x xm some)
-                (λ y yl e. let is : y ≡ x = assigns.apart y x (omega arith) xm (covers y (omega arith)) (same y yl ∙ e) in omega arith))
-          ];
-          apart = λ x y xm ym. elim (cases_lt x r) [
-            | inl l ↦ rw (before-zero r q x l) (λ bad. absurd (bad refl))
-            | inr l ↦ rw (from-same r q x l) (elim (cases_lt y r) [
-              | inl l' ↦ rw (before-zero r q y l') (λ some e. absurd (some e))
-              | inr l' ↦ rw (from-same r q y l') (assigns.apart x y xm ym)
-            ])
-          ];
-        } in
-        let here : from_place r q r ≡ q r = from-same r q r (omega arith) in
-        let bound = lowest.low (from_place r q) part
-        (λ x xm. elim (cases_lt x r) [
-          | inl l ↦ let ne : x ≢ r = omega arith in rw (p1-at x ne, to.done x l) (λ bad. absurd (bad refl))
-          | inr l ↦ λ _. rw (from-same r q x l) (covers x xm)
+  module _ (q : ℕ → ℕ) (rival : IsRival g c d t r q) where
+    pub rival-open : (x : ℕ) → x < equations g → get_or t x 0 ≡ 0 → Uses (tight_of g c left) x (q x)
+    rival-open x xm none =
+        open-left x (q x) xm (rival.assigns.allowed x xm (rival.covers x xm)) (λ y ym e. elim (eqb_tells (get_or t y 0) 0) [
+          | inl z ↦ absurd (rival.covers x xm (sym e ∙ z.1))
+          | inr z ↦
+              let is : y ≡ x = rival.assigns.apart y x ym xm (rival.covers y ym) (to.forced y ym z.1 q rival ∙ e) in
+              absurd (z.1 (rw is none))
         ])
-        (rw here (covers r rm)) in
-        omega (arith, bound, here)
 
-    t-here : get_or (set t r (get_or p2 r 0)) r 0 ≡ get_or p2 r 0
-    t-here = let l : r < length t = omega (arith, to.fixed_all) in get_or-set_same t r (get_or p2 r 0) 0 l
+    pub rival-part : Assigns (Uses (tight_of g c left)) (equations g) (λ x. while_none (get_or t x 0) (q x))
+    rival-part = record {
+      allowed = λ x xm. elim (eqb_tells (get_or t x 0) 0) [
+        | inl e ↦ rw (while-none (get_or t x 0) (q x) e.1) (λ _. rival-open x xm e.1)
+        | inr e ↦ rw (while-some (get_or t x 0) (q x) e.1) (λ bad. absurd (bad refl))
+      ];
+      apart = λ x y xm ym. elim (eqb_tells (get_or t x 0) 0) [
+        | inr e ↦ rw (while-some (get_or t x 0) (q x) e.1) (λ bad. absurd (bad refl))
+        | inl e ↦ rw (while-none (get_or t x 0) (q x) e.1) (elim (eqb_tells (get_or t y 0) 0) [
+          | inr e' ↦ rw (while-some (get_or t y 0) (q y) e'.1) (λ some same. absurd (some same))
+          | inl e' ↦ rw (while-none (get_or t y 0) (q y) e'.1) (rival.assigns.apart x y xm ym)
+        ])
+      ];
+    }
 
-    t-before : (x : ℕ) → x < r → get_or (set t r (get_or p2 r 0)) x 0 ≡ get_or t x 0
-    t-before x l = let ne : x ≢ r = omega arith in get_or-set_other t r x (get_or p2 r 0) 0 ne
+    pub rival-given : (x : ℕ) → x < equations g → get_or t x 0 ≡ 0 → while_none (get_or t x 0) (q x) ≢ 0
+    rival-given x xm none = rw (while-none (get_or t x 0) (q x) none) (rival.covers x xm)
 
-    below-next : (x : ℕ) → x < r + 1 → x ≢ r → x < r
-    below-next x l ne = omega (arith, ne)
+    pub rival-covers : (x : ℕ) → x < equations g → get_or p x 0 ≢ 0 → while_none (get_or t x 0) (q x) ≢ 0
+    rival-covers x xm some = elim (eqb_tells (get_or t x 0) 0) [
+      | inl e ↦ rival-given x xm e.1
+      | inr e ↦ absurd (some (to.done x xm e.1))
+    ]
 
-    pub fixed-next : IsFixedTo g c d (set left (get_or p2 r 0 - 1) 4294967295) (set p2 r 0) (set owner2 (get_or p2 r 0) 0) (set t r (get_or p2 r 0)) (r + 1)
-    fixed-next =
-        let m3 = released (Uses (tight_of g c left)) (equations g) g.unknowns p2 owner2 match2 r rm (get_or p2 r 0) refl gained in
-        let free3 = released-free (Uses (tight_of g c left)) (equations g) g.unknowns p2 owner2 match2 r rm (get_or p2 r 0) refl gained in
-        let bare3 = released-bare (Uses (tight_of g c left)) (equations g) g.unknowns p2 owner2 match2 r rm (get_or p2 r 0) refl gained in
+  -- ---- one equation more
+
+  module _ (x : ℕ) (xm : x < equations g) (none : get_or t x 0 ≡ 0) (j : ℕ) (j_is : get_or p x 0 ≡ j) (some : j ≢ 0) (r' : ℕ) (le : r ≤ r')
+      (upto : (y : ℕ) → y < r' → (y < r) ⊎ (y ≡ x))
+      (mine : (q : ℕ → ℕ) → IsRival g c d (set t x j) r' q → q x ≡ j)
+      (minimum : (q : ℕ → ℕ) → x < r' → IsRival g c d (set t x j) x q → j ≤ q x) where
+    t-here : get_or (set t x j) x 0 ≡ j
+    t-here = let l : x < length t = omega (arith, to.fixed_all) in get_or-set_same t x j 0 l
+
+    t-other : (y : ℕ) → y ≢ x → get_or (set t x j) y 0 ≡ get_or t y 0
+    t-other y ne = get_or-set_other t x y j 0 ne
+
+    p-off : (y : ℕ) → y ≢ x → get_or (set p x 0) y 0 ≡ get_or p y 0
+    p-off y ne = get_or-set_other p x y 0 0 ne
+
+    before-other : (y : ℕ) → y < r → y ≢ x
+    before-other y l e = to.before y l (rw e none)
+
+    used-here : Uses (tight_of g c left) x j
+    used-here = rw j_is at (to.matching.edge x xm (rw j_is some))
+
+    given : (0 < j) × (j ≤ g.unknowns) × IsTight g (by_place c) (by_number d) x j
+    given = left-tight x j xm used-here
+
+    fresh : (y : ℕ) → y < equations g → get_or t y 0 ≢ j
+    fresh = not-taken x j xm used-here
+
+    rival-back : (s : ℕ) → s ≤ r → (s' : ℕ) → s ≤ s' → (q : ℕ → ℕ) → IsRival g c d (set t x j) s' q → IsRival g c d t s q
+    rival-back s sr s' ss q rival = record {
+      assigns = rival.assigns;
+      covers = rival.covers;
+      same = λ y l. rival.same y (omega arith) ∙ t-other y (before-other y (omega arith));
+    }
+
+    pub fixed-more : IsFixedTo g c d (set left (j - 1) 4294967295) (set p x 0) (set owner j 0) (set t x j) r' bare
+    fixed-more =
+        let m3 = released (Uses (tight_of g c left)) (equations g) g.unknowns p owner to.matching x xm j j_is some in
+        let free3 = released-free (Uses (tight_of g c left)) (equations g) g.unknowns p owner to.matching x xm j j_is some in
+        let bare3 = released-bare (Uses (tight_of g c left)) (equations g) g.unknowns p owner to.matching x xm j j_is some in
         record {
-          left_all = length-set left (get_or p2 r 0 - 1) 4294967295 ∙ to.left_all;
-          fixed_all = length-set t r (get_or p2 r 0) ∙ to.fixed_all;
-          matching = matching-taken g c left (set p2 r 0) (set owner2 (get_or p2 r 0) 0) m3 sound (get_or p2 r 0) given.0 free3;
-          rest = λ x above xm.
-              let ne : x ≢ r = omega arith in
-              rw (get_or-set_other p2 r x 0 0 ne) (kept x (rw (p1-at x ne) (to.rest x (omega arith) xm)));
-          done = λ x l. elim (eqb_tells x r) [
-            | inl e ↦ rw e.1 bare3
-            | inr e ↦ rw (get_or-set_other p2 r x 0 0 e.1) (bare x e.1 (rw (p1-at x e.1) (to.done x (below-next x l e.1))))
+          left_all = length-set left (j - 1) 4294967295 ∙ to.left_all;
+          fixed_all = length-set t x j ∙ to.fixed_all;
+          matching = matching-taken g c left (set p x 0) (set owner j 0) m3 sound j given.0 free3;
+          rest = λ y ym out. elim (eqb_tells y x) [
+            | inl e ↦ rw (e.1, t-here) (λ bad. absurd (some bad))
+            | inr e ↦ rw (t-other y e.1, p-off y e.1) (to.rest y ym out)
           ];
-          known = λ x l. elim (eqb_tells x r) [
-            | inl e ↦ rw (e.1, t-here) (given.0, given.1)
-            | inr e ↦ rw (t-before x (below-next x l e.1)) (to.known x (below-next x l e.1))
+          done = λ y ym. elim (eqb_tells y x) [
+            | inl e ↦ rw e.1 (λ _. bare3)
+            | inr e ↦ rw (t-other y e.1, p-off y e.1) (to.done y ym)
           ];
-          closed = λ x l. elim (eqb_tells x r) [
-            | inl e ↦ rw (e.1, t-here) (let inside : get_or p2 r 0 - 1 < length left = omega (arith, given, to.left_all) in get_or-set_same left (get_or p2 r 0 - 1) 4294967295 0 inside)
+          before = λ y l. elim (upto y l) [
+            | inl h ↦ rw (t-other y (before-other y h)) (to.before y h)
+            | inr e ↦ rw (e, t-here) some
+          ];
+          closed = λ y ym. elim (eqb_tells y x) [
+            | inl e ↦ rw (e.1, t-here) (λ _. let inside : j - 1 < length left = omega (arith, given, to.left_all) in get_or-set_same left (j - 1) 4294967295 0 inside)
+            | inr e ↦ rw (t-other y e.1) (λ has.
+                let ne : get_or t y 0 - 1 ≢ j - 1 = λ same. fresh y ym (omega (arith, same, has, given.0)) in
+                rw (get_or-set_other left (j - 1) (get_or t y 0 - 1) 4294967295 0 ne) (to.closed y ym has))
+          ];
+          others = λ k above below ne.
+              let last : j ≢ k = λ e. ne x xm (t-here ∙ e) in
+              let apart : k - 1 ≢ j - 1 = omega (arith, given.0, last) in
+              get_or-set_other left (j - 1) (k - 1) 4294967295 0 apart ∙ to.others k above below (λ y ym e. elim (eqb_tells y x) [
+                | inl z ↦ (let bad : 0 ≡ k = sym none ∙ rw z.1 at e in absurd (omega arith))
+                | inr z ↦ absurd (ne y ym (t-other y z.1 ∙ e))
+              ]);
+          assigns = record {
+            allowed = λ y ym. elim (eqb_tells y x) [
+              | inl e ↦ rw (e.1, t-here) (λ _. given.2)
+              | inr e ↦ rw (t-other y e.1) (to.assigns.allowed y ym)
+            ];
+            apart = λ y z ym zm. elim (eqb_tells y x) [
+              | inl e ↦ elim (eqb_tells z x) [
+                | inl e' ↦ λ _ _. e.1 ∙ sym e'.1
+                | inr e' ↦ rw (e.1, t-here, t-other z e'.1) (λ _ same. absurd (fresh z zm (sym same)))
+              ]
+              | inr e ↦ elim (eqb_tells z x) [
+                | inl e' ↦ rw (e'.1, t-here, t-other y e.1) (λ _ same. absurd (fresh y ym same))
+                | inr e' ↦ rw (t-other y e.1, t-other z e'.1) (to.assigns.apart y z ym zm)
+              ]
+            ];
+          };
+          forced = λ y ym. elim (eqb_tells y x) [
+            | inl e ↦ rw (e.1, t-here) (λ _ q rival. mine q rival)
+            | inr e ↦ rw (t-other y e.1) (λ has q rival. to.forced y ym has q (rival-back r (omega arith) r' le q rival))
+          ];
+          least = λ y l q rival. elim (upto y l) [
+            | inl h ↦ rw (t-other y (before-other y h)) (to.least y h q (rival-back y (omega arith) y (omega arith) q rival))
             | inr e ↦
-                let was = to.known x (below-next x l e.1) in
-                let ne : get_or t x 0 - 1 ≢ get_or p2 r 0 - 1 = λ same. fresh x (below-next x l e.1) (omega (arith, same, was.0, given.0)) in
-                rw (t-before x (below-next x l e.1), get_or-set_other left (get_or p2 r 0 - 1) (get_or t x 0 - 1) 4294967295 0 ne) (to.closed x (below-next x l e.1))
-          ];
-          others = λ j above below ne.
-              let last : get_or p2 r 0 ≢ j = λ e. ne r (omega arith) (t-here ∙ e) in
-              let apart : j - 1 ≢ get_or p2 r 0 - 1 = omega (arith, given.0, last) in
-              get_or-set_other left (get_or p2 r 0 - 1) (j - 1) 4294967295 0 apart ∙ to.others j above below (λ x l e. ne x (omega arith) (t-before x l ∙ e));
-          tight = λ x l. elim (eqb_tells x r) [
-            | inl e ↦ rw (e.1, t-here) given.2
-            | inr e ↦ rw (t-before x (below-next x l e.1)) (to.tight x (below-next x l e.1))
-          ];
-          apart = λ x y xl yl. elim (eqb_tells x r) [
-            | inl e ↦ elim (eqb_tells y r) [
-              | inl e' ↦ λ _. e.1 ∙ sym e'.1
-              | inr e' ↦ rw (e.1, t-here, t-before y (below-next y yl e'.1)) (λ same. absurd (fresh y (below-next y yl e'.1) (sym same)))
-            ]
-            | inr e ↦ elim (eqb_tells y r) [
-              | inl e' ↦ rw (e'.1, t-here, t-before x (below-next x xl e.1)) (λ same. absurd (fresh x (below-next x xl e.1) same))
-              | inr e' ↦ rw (t-before x (below-next x xl e.1), t-before y (below-next y yl e'.1)) (to.apart x y (below-next x xl e.1) (below-next y yl e'.1))
-            ]
-          ];
-          least = λ x l q assigns covers same. elim (eqb_tells x r) [
-            | inl e ↦ rw (e.1, t-here) (low q assigns covers (λ y yl. same y (omega (arith, e.1)) ∙ t-before y yl))
-            | inr e ↦
-                let le = to.least x (below-next x l e.1) q assigns covers (λ y yl. same y yl ∙ t-before y (omega (arith, below-next x l e.1))) in
-                rw (t-before x (below-next x l e.1)) le
+                let at = rw e at rival in
+                let l' : x < r' = rw e at l in
+                rw (e, t-here) (minimum q l' at)
           ];
         }
 
+  -- the pairs of equations that are not fixed may change
+  pub fixed-as : (p' owner' : List ℕ) (bare' : ℕ) → IsMatching (Uses (tight_of g c left)) (equations g) g.unknowns p' owner'
+      → ((x : ℕ) → x < equations g → x ≢ bare' → get_or t x 0 ≡ 0 → get_or p' x 0 ≢ 0)
+      → ((x : ℕ) → x < equations g → get_or t x 0 ≢ 0 → get_or p' x 0 ≡ 0) → IsFixedTo g c d left p' owner' t r bare'
+  fixed-as p' owner' bare' match rest done = record {
+    left_all = to.left_all;
+    fixed_all = to.fixed_all;
+    matching = match;
+    rest = rest;
+    done = done;
+    before = to.before;
+    closed = to.closed;
+    others = to.others;
+    assigns = to.assigns;
+    forced = to.forced;
+    least = to.least;
+  }
+
+  -- the next one is fixed already
+  pub fixed-skip : r < equations g → get_or t r 0 ≢ 0 → IsFixedTo g c d left p owner t (r + 1) bare
+  fixed-skip rm some = record {
+    left_all = to.left_all;
+    fixed_all = to.fixed_all;
+    matching = to.matching;
+    rest = to.rest;
+    done = to.done;
+    before = λ x l. elim (eqb_tells x r) [ inl e ↦ rw e.1 some | inr e ↦ to.before x (omega (arith, e.1)) ];
+    closed = to.closed;
+    others = to.others;
+    assigns = to.assigns;
+    forced = λ x xm has q rival. to.forced x xm has q (record { assigns = rival.assigns; covers = rival.covers; same = λ y l. rival.same y (omega arith) });
+    least = λ x l q rival. elim (eqb_tells x r) [
+      | inl e ↦
+          let at = rw e.1 at rival in
+          let is = to.forced r rm some q at in
+          rw e.1 (omega (arith, is))
+      | inr e ↦ to.least x (omega (arith, e.1)) q rival
+    ];
+  }
+
+-- ---- the next equation gives its unknown up, and gets the least one
+
+module _ (g : Signature) (c d left p owner t : List ℕ) (r bare : ℕ) (sound : IsSound g) (open_all : AreOpen g c) (to : IsFixedTo g c d left p owner t r bare) (rm : r < equations g)
+    (none : get_or t r 0 ≡ 0) where
+  pub root-has : bare ≡ equations g → get_or p r 0 ≢ 0
+  root-has e = to.rest r rm (omega (arith, e)) none
+
+  pub root-released : bare ≡ equations g → (v : ℕ) → get_or p r 0 ≡ v → v ≢ 0 → IsFixedTo g c d left (set p r 0) (set owner v 0) t r r
+  root-released at v v_is some =
+      fixed-as g c d left p owner t r bare sound open_all to (set p r 0) (set owner v 0) r
+      (released (Uses (tight_of g c left)) (equations g) g.unknowns p owner to.matching r rm v v_is some)
+      (λ x xm out zero_there. rw (get_or-set_other p r x 0 0 out) (to.rest x xm (omega (arith, at)) zero_there))
+      (λ x xm has. elim (eqb_tells x r) [
+        | inl e ↦ absurd (has (rw e.1 none))
+        | inr e ↦ rw (get_or-set_other p r x 0 0 e.1) (to.done x xm has)
+      ])
+
+  pub root-handed : (p' owner' : List ℕ) → bare ≡ r → IsMatching (Uses (tight_of g c left)) (equations g) g.unknowns p' owner' → get_or p' r 0 ≢ 0
+      → ((x : ℕ) → get_or p x 0 ≢ 0 → get_or p' x 0 ≢ 0) → ((x : ℕ) → x ≢ r → get_or p x 0 ≡ 0 → get_or p' x 0 ≡ 0)
+      → IsFixedTo g c d left p' owner' t r (equations g)
+  root-handed p' owner' at match gained kept bares =
+      fixed-as g c d left p owner t r bare sound open_all to p' owner' (equations g) match
+      (λ x xm out zero_there. elim (eqb_tells x r) [
+        | inl e ↦ rw e.1 gained
+        | inr e ↦ kept x (to.rest x xm (λ same. e.1 (same ∙ at)) zero_there)
+      ])
+      (λ x xm has. bares x (λ e. has (rw e none)) (to.done x xm has))
+
+  pub root-fixed : (v : ℕ) → get_or p r 0 ≡ v → v ≢ 0 → ((q : ℕ → ℕ) → IsRival g c d t r q → v ≤ q r)
+      → IsFixedTo g c d (set left (v - 1) 4294967295) (set p r 0) (set owner v 0) (set t r v) (r + 1) bare
+  root-fixed v v_is some low =
+      fixed-more g c d left p owner t r bare sound open_all to r rm none v v_is some (r + 1) (omega arith)
+      (λ y l. elim (eqb_tells y r) [ inl e ↦ inr e.1 | inr e ↦ inl (omega (arith, e.1)) ])
+      (λ q rival. rival.same r (omega arith) ∙ (let l : r < length t = omega (arith, rm, to.fixed_all) in get_or-set_same t r v 0 l))
+      (λ q l rival. low q (record {
+        assigns = rival.assigns;
+        covers = rival.covers;
+        same = λ y yl. let ne : y ≢ r = omega arith in rival.same y yl ∙ get_or-set_other t r y v 0 ne;
+      }))
+
 -- all equations are fixed
-module _ (g : Signature) (c d left p owner t : List ℕ) (to : IsFixedTo g c d left p owner t (equations g)) where
+module _ (g : Signature) (c d left p owner t : List ℕ) (bare : ℕ) (to : IsFixedTo g c d left p owner t (equations g) bare) where
   pub fixed-tight : Assigns (IsTight g (by_place c) (by_number d)) (equations g) (by_place t)
-  fixed-tight = record { allowed = λ i l some. to.tight i l; apart = λ i k il kl some same. to.apart i k il kl same }
+  fixed-tight = to.assigns
 
   pub fixed-covers : CoversAll g (by_place t)
-  fixed-covers = λ i l. let known = to.known i l in omega (arith, known.0)
+  fixed-covers = to.before
 
   pub fixed-least : IsLeastSequence g (by_place c) (by_number d) (by_place t)
   fixed-least = record {
-    none = λ q assigns covers before. let le = to.least before.place before.below q assigns covers before.same in omega (arith, le, before.less);
+    none = λ q assigns covers before.
+        let le = to.least before.place before.below q (record { assigns = assigns; covers = covers; same = before.same }) in
+        omega (arith, le, before.less);
   }
 
 -- at the start all unknowns are left
-pub fixed-start : (g : Signature) (c d left p owner t : List ℕ) → left ≡ d → length d ≡ g.unknowns → length t ≡ equations g
-    → IsMatching (Uses (tight_of g c d)) (equations g) g.unknowns p owner → CoversAll g (by_place p) → IsFixedTo g c d left p owner t 0
-fixed-start g c d left p owner t same size size' match covers = rw same (record {
+pub fixed-start : (g : Signature) (c d left p owner t : List ℕ) → left ≡ d → length d ≡ g.unknowns → length t ≡ equations g → ((x : ℕ) → get_or t x 0 ≡ 0)
+    → IsMatching (Uses (tight_of g c d)) (equations g) g.unknowns p owner → CoversAll g (by_place p) → IsFixedTo g c d left p owner t 0 (equations g)
+fixed-start g c d left p owner t same size size' none match covers = rw same (record {
   left_all = size;
   fixed_all = size';
   matching = match;
-  rest = λ x above xm. covers x xm;
-  done = λ x l. absurd (omega arith);
-  known = λ x l. absurd (omega arith);
-  closed = λ x l. absurd (omega arith);
+  rest = λ x xm out zero_there. covers x xm;
+  done = λ x xm some. absurd (some (none x));
+  before = λ x l. absurd (omega arith);
+  closed = λ x xm some. absurd (some (none x));
   others = λ j above below ne. refl;
-  tight = λ x l. absurd (omega arith);
-  apart = λ x y l. absurd (omega arith);
+  assigns = record { allowed = λ x xm some. absurd (some (none x)); apart = λ x y xm ym some. absurd (some (none x)) };
+  forced = λ x xm some. absurd (some (none x));
   least = λ x l. absurd (omega arith);
 })
 
@@ -282,3 +396,6 @@ spare-there g c left p owner p' owner' r sound match rm some is =
         used = edge;
       },
     )
+
+pub cost-skip : (r e s0 s1 : ℕ) → s1 ≤ s0 + r * e → s1 ≤ s0 + (r + 1) * e
+cost-skip r e s0 s1 one = grind arith

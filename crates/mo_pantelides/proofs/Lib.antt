@@ -6,3 +6,5 @@ pub mod Lowered
 pub mod Ranking
 pub mod Choosing
 pub mod Fixing
+pub mod Seeking
+pub mod Looking

@@ -1,3 +1,4 @@
 pub mod Raising
 pub mod Ranks
 pub mod Fixing
+pub mod Seeking

@@ -13,6 +13,7 @@ mod choose;
 mod least;
 mod raise;
 mod ranks;
+mod seek;
 mod start;
 mod transversal;
 

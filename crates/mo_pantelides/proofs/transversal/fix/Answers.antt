@@ -1,43 +1,46 @@
-use Rattle.std.proofs.Common.{◌≡◌, ◌≢◌, ◌<◌, ◌≤◌, ◌-◌, suc, length, slice_index, refl, sym, ◌∙◌, arith}
-use Rattle.mo_pantelides.proofs.Fixing.{released, released-bare, spare-there, fixed-next, tree-as}
+use Rattle.std.proofs.Common.{refl, arith}
+use Rattle.mo_match.proofs.Extending.{tree-after}
+use Rattle.mo_pantelides.proofs.Fixing.{released-bare, spare-there, root-has, root-released, root-handed, root-fixed, tree-as}
 use Rattle.mo_pantelides.proofs.transversal.fix.Goals as goal
 
 pub release-requires-clause-known : goal.release-requires-clause-known
 release-requires-clause-known g c =
     let match = c.requires.fixed.matching in
-    let held = match.owned c.args.root c.requires.root (c.requires.fixed.rest c.args.root (omega arith) c.requires.root) in
+    let has = root-has _ _ _ _ _ _ _ _ _ c.equations-equations.ensures.sound c.requires.open c.requires.fixed c.requires.root.0 c.requires.root.1 refl in
+    let held = match.owned c.args.root c.requires.root.0 has in
     omega (arith, held.0, match.unknowns_all)
 
-pub extend_lowest-requires-clause-matching : goal.extend_lowest-requires-clause-matching
-extend_lowest-requires-clause-matching g c =
-    let some = c.requires.fixed.rest c.args.root (omega arith) c.requires.root in
-    rw (c.release.ensures.pairs, c.release.ensures.owner) (released _ _ _ _ _ c.requires.fixed.matching c.args.root c.requires.root _ refl some)
+pub seek-found-requires-clause-root : goal.seek-found-requires-clause-root
+seek-found-requires-clause-root g c =
+    let has = root-has _ _ _ _ _ _ _ _ _ c.equations-equations.ensures.sound c.requires.open c.requires.fixed c.requires.root.0 c.requires.root.1 refl in
+    (c.requires.root.0, rw c.release.ensures.pairs (released-bare _ _ _ _ _ c.requires.fixed.matching c.args.root c.requires.root.0 _ refl has), c.requires.root.1)
 
-pub extend_lowest-requires-clause-tree : goal.extend_lowest-requires-clause-tree
-extend_lowest-requires-clause-tree g c = tree-as c.requires.tree
+pub seek-found-requires-clause-fixed : goal.seek-found-requires-clause-fixed
+seek-found-requires-clause-fixed g c =
+    let has = root-has _ _ _ _ _ _ _ _ _ c.equations-equations.ensures.sound c.requires.open c.requires.fixed c.requires.root.0 c.requires.root.1 refl in
+    rw (c.release.ensures.pairs, c.release.ensures.owner) (root-released _ _ _ _ _ _ _ _ _ c.equations-equations.ensures.sound c.requires.open c.requires.fixed c.requires.root.0 c.requires.root.1 refl _ refl has)
 
-pub extend_lowest-requires-clause-root : goal.extend_lowest-requires-clause-root
-extend_lowest-requires-clause-root g c =
-    let some = c.requires.fixed.rest c.args.root (omega arith) c.requires.root in
-    (c.requires.root, rw c.release.ensures.pairs (released-bare _ _ _ _ _ c.requires.fixed.matching c.args.root c.requires.root _ refl some))
+pub seek-found-requires-clause-tree : goal.seek-found-requires-clause-tree
+seek-found-requires-clause-tree g c = tree-as c.requires.tree
 
-pub extend_lowest-requires-clause-spare : goal.extend_lowest-requires-clause-spare
-extend_lowest-requires-clause-spare g c =
-    let some = c.requires.fixed.rest c.args.root (omega arith) c.requires.root in
-    spare-there _ _ _ _ _ c.release.new.pairs _ _ c.equations-equations.ensures.sound c.requires.fixed.matching c.requires.root some c.release.ensures.owner
-
-pub release-unknown-requires-clause-known : goal.release-unknown-requires-clause-known
-release-unknown-requires-clause-known g c =
-    let step = c.extend_lowest.ensures in
-    let held = step.matching.owned c.args.root c.requires.root step.gained in
-    omega (arith, held.0, step.matching.unknowns_all)
+pub seek-found-requires-clause-spare : goal.seek-found-requires-clause-spare
+seek-found-requires-clause-spare g c =
+    let has = root-has _ _ _ _ _ _ _ _ _ c.equations-equations.ensures.sound c.requires.open c.requires.fixed c.requires.root.0 c.requires.root.1 refl in
+    spare-there _ _ _ _ _ c.release.new.pairs _ _ c.equations-equations.ensures.sound c.requires.fixed.matching c.requires.root.0 has c.release.ensures.owner
 
 pub returns-clause-fixed : goal.returns-clause-fixed
 returns-clause-fixed g c =
-    let step = c.extend_lowest.ensures in
-    let last = c.release-unknown.ensures in
-    rw (last.unknown, last.pairs, last.owner) (fixed-next _ _ _ _ _ _ _ _ c.requires.root c.equations-equations.ensures.sound c.requires.open c.requires.fixed
-    _ _ _ c.release.ensures.pairs step.matching step.gained step.kept step.bare step.lowest)
+    let found = c.seek-found.ensures.found in
+    let handed = c.hand_on.ensures in
+    let gained = rw found.first at handed.root in
+    let sound = c.equations-equations.ensures.sound in
+    let match = rw c.of_tight-graph.ensures at handed.matching in
+    let low = rw found.first at handed.handed in
+    let step = root-handed _ _ _ _ _ _ _ _ _ sound c.requires.open found.fixed c.requires.root.0 found.unfixed _ _ refl match gained handed.kept (rw found.first at handed.bare) in
+    rw (c.take.ensures.left, c.take.ensures.pairs, c.take.ensures.owner, c.take.ensures.fixed)
+    (root-fixed _ _ _ _ _ _ _ _ _ sound c.requires.open step c.requires.root.0 found.unfixed _ refl gained (found.low _ low))
 
 pub returns-clause-tree : goal.returns-clause-tree
-returns-clause-tree g c = tree-as c.extend_lowest.ensures.tree
+returns-clause-tree g c =
+    let found = c.seek-found.ensures.found in
+    tree-as (tree-after _ _ _ _ _ _ _ _ found.tree (omega arith) _ c.unmark.auto.mark c.unmark.ensures.cleared c.unmark.ensures.less c.unmark.ensures.others c.hand_on.new.pairs (λ s l. absurd (omega arith)))

@@ -1,7 +1,6 @@
 use Rattle.std.proofs.Common.{◌≡◌, ◌+◌, ◌-◌, slice_index, arith}
 use Rattle.mo_incidence.specs.Signature.{row_len}
 use Rattle.mo_match.proofs.Trees.{grows-on, scan-next}
-use Rattle.mo_match.proofs.Bounding.{reached-on, reached-none}
 use Rattle.mo_match.proofs.graph.Graph.scan_row.Goals as goal
 
 pub loop-k-preserved : goal.loop-k-preserved
@@ -9,7 +8,6 @@ loop-k-preserved g c = record {
   tree = c.visit-grown.ensures.tree;
   grows = grows-on c.loop-k.invariant.grows c.visit-grown.ensures.grows;
   searched = scan-next _ c.loop-k.invariant.grows c.requires.head.1 c.loop-k.invariant.searched c.visit-grown.ensures.grows.kept c.in-None.is c.visit-grown.ensures.passed;
-  reached = reached-on c.loop-k.invariant.grows.more c.loop-k.invariant.reached c.visit-grown.ensures.reached;
   cost = omega (arith, c.visit-grown.ensures.cost);
 }
 
@@ -20,6 +18,3 @@ returns-clause-searched g c =
     let all : c.row_len-k-end.result ≡ row_len c.args.self.now.signature i = rw back at c.row_len-k-end.ensures in
     let at : c.loop-k.k ≡ row_len c.args.self.now.signature i = omega arith in
     rw at at c.loop-k.invariant.searched
-
-pub returns-in-Some-clause-reached : goal.returns-in-Some-clause-reached
-returns-in-Some-clause-reached g c = reached-on c.loop-k.invariant.grows.more c.loop-k.invariant.reached c.visit-grown.ensures.reached

@@ -1,5 +1,5 @@
 use Rattle.std.proofs.Common.{◌≤◌, ◌+◌, slice_index}
-use Rattle.mo_match.specs.Searching.{HoldsTree, Grows, IsSearched, AreReachedFrom}
+use Rattle.mo_match.specs.Searching.{HoldsTree, Grows, IsSearched}
 use Rattle.mo_match.proofs.graph.Graph.scan_row.Given as goal
 
 abbrev pub invariant-loop-k : goal.invariant-loop-k
@@ -7,6 +7,5 @@ invariant-loop-k g l = record {
   tree : HoldsTree l.self l.pairs l.queue l.parent l.mark l.base l.tail;
   grows : Grows l.initial.queue l.initial.mark l.queue l.mark l.end l.tail;
   searched : IsSearched l.self l.owner l.mark (slice_index l.initial.queue l.head) l.k;
-  reached : AreReachedFrom l.initial.parent l.parent l.head l.end l.tail;
   cost : l.steps ≤ l.initial.steps + l.k;
 }

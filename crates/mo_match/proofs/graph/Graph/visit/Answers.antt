@@ -1,6 +1,5 @@
-use Rattle.std.proofs.Common.{◌∙◌, arith}
-use Rattle.mo_match.proofs.Trees.{tree-room, reach-tree, reach-marked, reach-grows, grows-none, owner-facts, entry-uses, entry-free, entry-passed, entry-back}
-use Rattle.mo_match.proofs.Bounding.{reached-one, child-one}
+use Rattle.std.proofs.Common.{arith}
+use Rattle.mo_match.proofs.Trees.{tree-room, reach-tree, reach-marked, reach-grows, grows-none, owner-facts, entry-uses, entry-free, entry-passed}
 use Rattle.mo_match.proofs.graph.Graph.visit.Goals as goal
 
 pub returns-then-holder-eq0-clause-free : goal.returns-then-holder-eq0-clause-free
@@ -35,19 +34,3 @@ returns-clause-passed g c =
     let known = c.in-Some.ensures.known in
     let held = owner-facts c.in-Some.unknown c.requires.matching known.0 known.1 c.if-holder-eq0.false in
     entry-passed _ _ _ _ _ c.requires.k c.in-Some.ensures.some _ c.if-holder-eq0.false (reach-marked c.reach-grown.ensures (omega (arith, held.0, c.requires.tree.mark_all)))
-
-pub returns-then-holder-eq0-clause-unknown : goal.returns-then-holder-eq0-clause-unknown
-returns-then-holder-eq0-clause-unknown g c = (entry-back _ _ _ _ c.in-Some.ensures.some).0
-
-pub returns-clause-reached : goal.returns-clause-reached
-returns-clause-reached g c =
-    let known = c.in-Some.ensures.known in
-    let held = owner-facts c.in-Some.unknown c.requires.matching known.0 known.1 c.if-holder-eq0.false in
-    reached-one c.reach-grown.ensures (λ unmarked. let room = tree-room _ _ _ _ _ _ _ _ c.requires.tree _ held.0 unmarked in omega (arith, c.requires.tree.parent_all, room))
-
-pub returns-clause-child : goal.returns-clause-child
-returns-clause-child g c =
-    let known = c.in-Some.ensures.known in
-    let held = owner-facts c.in-Some.unknown c.requires.matching known.0 known.1 c.if-holder-eq0.false in
-    child-one c.args.pairs.now _ c.reach-grown.ensures (λ unmarked. let room = tree-room _ _ _ _ _ _ _ _ c.requires.tree _ held.0 unmarked in omega (arith, c.requires.tree.queue_all, room))
-    (held.1 ∙ (entry-back _ _ _ _ c.in-Some.ensures.some).0)
