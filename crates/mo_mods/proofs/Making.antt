@@ -1,48 +1,38 @@
 -- Tables that are made of the parts of others.
-use Rattle.std.proofs.Common.{◌≡◌, ℕ, ◌+◌, ◌<◌, List, [], ◌∷◌, ◌++◌, get_or, length, map, take, Option, None, refl, ap, sym, ◌∙◌}
+use Rattle.std.proofs.Common.{◌≡◌, ℕ, List, [], ◌∷◌, ◌++◌, Option, None, Ordering, Less, Equal, Greater, nat_cmp, refl, ap, sym, ◌∙◌}
 use Rattle.std.specs.Prelude.{option_map}
-use Rattle.std.proofs.lemmas.List.{map-append, take_more}
+use Rattle.std.specs.Borrow.{Bor}
+use Rattle.std.specs.BTreeMap.{insert_entry}
+use Rattle.std.specs.Cmp.Lexicographic.{slice_cmp}
+use Rattle.std.specs.List.{AllByRecursion}
+use Rattle.std.specs.List.Sorted.{IsStrictlySortedBy}
+use Rattle.std.specs.Map.{keys_of}
+use Rattle.std.specs.Ordering.{match_ordering, ordering_reverse}
+use Rattle.std.proofs.lemmas.Cmp.{nat_list_cmp_total}
 use Rattle.mo_scope.specs.Frames.{Frame}
-use Rattle.mo_mods.specs.declared.env.BelowOf.{BelowOf}
 use Rattle.mo_mods.specs.declared.env.MergedEnv.{MergedEnv, MergedEnv-F, fold_out-MergedEnv, fold-roll-MergedEnv, out-MergedEnv, roll-MergedEnv}
 use Rattle.mo_mods.specs.Merged.{Merged, Table_of, Below, Nothing_below, Below_then, Merged_value, Redeclared}
 use Rattle.mo_mods.specs.Steps.{entered_value, entered_table, entered_below, stepped}
-use Rattle.mo_mods.specs.Sights.{below_seen, entered_named, merged_in, merged_node, named_in, redeclared_in, value_in}
+use Rattle.mo_mods.specs.Sights.{below_seen, merged_in, merged_node, name_cmp, redeclared_in, value_in}
 use Rattle.mo_mods.proofs.Finding.{below_map}
-
-abbrev of_pairs : List (List ℕ × Merged) → Below
-of_pairs [] = Nothing_below
-of_pairs (pair ∷ pairs) = Below_then pair.0 pair.1 (of_pairs pairs)
-
-below_pairs : (frames : List Frame) (xs : List (BelowOf MergedEnv)) → below_seen frames xs ≡ of_pairs (map (named_in frames) xs)
-below_pairs frames [] = refl
-below_pairs frames (one ∷ others) = ap (Below_then one.name.now (merged_in frames one.env)) (below_pairs frames others)
-
-entered_pairs : (frames : List Frame) (index : List ℕ) (xs : List (BelowOf MergedEnv)) → entered_below index (below_seen frames xs) ≡ of_pairs (map (entered_named frames index) xs)
-entered_pairs frames index [] = refl
-entered_pairs frames index (one ∷ others) = ap (Below_then one.name.now (entered_table index (merged_in frames one.env))) (entered_pairs frames index others)
-
-below_made : (frames : List Frame) (index : List ℕ) (made xs : List (BelowOf MergedEnv)) → map (named_in frames) made ≡ map (entered_named frames index) xs →
-    below_seen frames made ≡ entered_below index (below_seen frames xs)
-below_made frames index made xs same = below_pairs frames made ∙ ap of_pairs same ∙ sym (entered_pairs frames index xs)
 
 -- a table by its parts
 pub env_is : (frames : List Frame) (env : MergedEnv) →
     merged_in frames env
-    ≡ Table_of (option_map (value_in frames) (out-MergedEnv env).value) (option_map (redeclared_in frames) (out-MergedEnv env).redeclared) (below_seen frames (out-MergedEnv env).below)
+    ≡ Table_of (option_map (value_in frames) (out-MergedEnv env).value) (option_map (redeclared_in frames) (out-MergedEnv env).redeclared) (below_seen frames (out-MergedEnv env).below.entries)
 env_is frames env =
     fold_out-MergedEnv Merged (merged_node frames) env
-    ∙ ap (Table_of (option_map (value_in frames) (out-MergedEnv env).value) (option_map (redeclared_in frames) (out-MergedEnv env).redeclared)) (below_map frames (out-MergedEnv env).below)
+    ∙ ap (Table_of (option_map (value_in frames) (out-MergedEnv env).value) (option_map (redeclared_in frames) (out-MergedEnv env).redeclared)) (below_map frames (out-MergedEnv env).below.entries)
 
-env_made : (frames : List Frame) (layer : MergedEnv-F MergedEnv) →
+pub env_made : (frames : List Frame) (layer : MergedEnv-F MergedEnv) →
     merged_in frames (roll-MergedEnv layer)
-    ≡ Table_of (option_map (value_in frames) layer.value) (option_map (redeclared_in frames) layer.redeclared) (below_seen frames layer.below)
+    ≡ Table_of (option_map (value_in frames) layer.value) (option_map (redeclared_in frames) layer.redeclared) (below_seen frames layer.below.entries)
 env_made frames layer =
     fold-roll-MergedEnv Merged (merged_node frames) layer
-    ∙ ap (Table_of (option_map (value_in frames) layer.value) (option_map (redeclared_in frames) layer.redeclared)) (below_map frames layer.below)
+    ∙ ap (Table_of (option_map (value_in frames) layer.value) (option_map (redeclared_in frames) layer.redeclared)) (below_map frames layer.below.entries)
 
 -- a table made of the parts of another one
-made_of : (value value_is : Option Merged_value) (redeclared redeclared_is : Option Redeclared) (below below_is : Below) → value ≡ value_is → redeclared ≡ redeclared_is → below ≡ below_is →
+pub made_of : (value value_is : Option Merged_value) (redeclared redeclared_is : Option Redeclared) (below below_is : Below) → value ≡ value_is → redeclared ≡ redeclared_is → below ≡ below_is →
     Table_of value redeclared below ≡ Table_of value_is redeclared_is below_is
 made_of value value_is redeclared redeclared_is below below_is v r b =
     ap (λ x. Table_of x redeclared below) v ∙ ap (λ x. Table_of value_is x below) r ∙ ap (Table_of value_is redeclared_is) b
@@ -50,24 +40,59 @@ made_of value value_is redeclared redeclared_is below below_is v r b =
 pub entered_is : (frames : List Frame) (index : List ℕ) (layer : MergedEnv-F MergedEnv) (env : MergedEnv) →
     option_map (value_in frames) layer.value ≡ option_map (entered_value index) (option_map (value_in frames) (out-MergedEnv env).value) →
     option_map (redeclared_in frames) layer.redeclared ≡ option_map (redeclared_in frames) (out-MergedEnv env).redeclared →
-    map (named_in frames) layer.below ≡ map (entered_named frames index) (out-MergedEnv env).below →
+    below_seen frames layer.below.entries ≡ entered_below index (below_seen frames (out-MergedEnv env).below.entries) →
     merged_in frames (roll-MergedEnv layer) ≡ entered_table index (merged_in frames env)
 entered_is frames index layer env v r b =
-    env_made frames layer ∙ made_of _ _ _ _ _ _ v r (below_made frames index layer.below (out-MergedEnv env).below b)
-    ∙ sym (ap (entered_table index) (env_is frames env))
+    env_made frames layer ∙ made_of _ _ _ _ _ _ v r b ∙ sym (ap (entered_table index) (env_is frames env))
 
 pub stepped_is : (frames : List Frame) (index : List ℕ) (layer : MergedEnv-F MergedEnv) (env : MergedEnv) →
     option_map (value_in frames) layer.value ≡ option_map (entered_value index) (option_map (value_in frames) (out-MergedEnv env).value) →
     option_map (redeclared_in frames) layer.redeclared ≡ None →
-    map (named_in frames) layer.below ≡ map (entered_named frames index) (out-MergedEnv env).below →
+    below_seen frames layer.below.entries ≡ entered_below index (below_seen frames (out-MergedEnv env).below.entries) →
     merged_in frames (roll-MergedEnv layer) ≡ stepped index (merged_in frames env)
 stepped_is frames index layer env v r b =
-    env_made frames layer ∙ made_of _ _ _ _ _ _ v r (below_made frames index layer.below (out-MergedEnv env).below b)
-    ∙ sym (ap (stepped index) (env_is frames env))
+    env_made frames layer ∙ made_of _ _ _ _ _ _ v r b ∙ sym (ap (stepped index) (env_is frames env))
 
--- one more of what is made of a list
-pub mapped_more : {A X B : Type 0} (f : A → B) (g : X → B) (made new : List A) (a : A) (xs : List X) (i : ℕ) (x : X) → i < length xs → x ≡ get_or xs i x →
-    new ≡ made ++ a ∷ [] → f a ≡ g x → map f made ≡ map g (take i xs) → map f new ≡ map g (take (i + 1) xs)
-mapped_more f g made new a xs i x below at is same before =
-    ap (map f) is ∙ map-append f made (a ∷ []) ∙ ap (λ ys. ys ++ f a ∷ []) before ∙ ap (λ b. map g (take i xs) ++ b ∷ []) same
-    ∙ sym (map-append g (take i xs) (x ∷ [])) ∙ ap (map g) (ap (λ y. take i xs ++ y ∷ []) at ∙ sym (take_more xs i x below))
+-- ---- a table that is put under a name
+
+abbrev pub Entry : Type 0
+Entry = Bor (List ℕ) × MergedEnv
+
+abbrev put : List ℕ → Merged → Below → Below
+put name table Nothing_below = Below_then name table Nothing_below
+put name table (Below_then other there others) =
+    match_ordering (slice_cmp nat_cmp name other) (Below_then name table (Below_then other there others)) (Below_then other table others) (Below_then other there (put name table others))
+
+seen_ordering : (frames : List Frame) (o : Ordering) (a b c : List Entry) →
+    below_seen frames (match_ordering o a b c) ≡ match_ordering o (below_seen frames a) (below_seen frames b) (below_seen frames c)
+seen_ordering frames Less a b c = refl
+seen_ordering frames Equal a b c = refl
+seen_ordering frames Greater a b c = refl
+
+seen_inserted : (frames : List Frame) (es : List Entry) (k : Bor (List ℕ)) (v : MergedEnv) → below_seen frames (insert_entry name_cmp es k v) ≡ put k.now (merged_in frames v) (below_seen frames es)
+seen_inserted frames [] k v = refl
+seen_inserted frames (e ∷ es) k v = seen_ordering frames (name_cmp k e.0) _ _ _ ∙ rw (seen_inserted frames es k v) refl
+
+before_middle : (first : Entry) (es : List Entry) (e : Entry) (more : List Entry) → AllByRecursion (λ y. name_cmp first.0 y ≡ Less) (keys_of (es ++ e ∷ more)) → name_cmp first.0 e.0 ≡ Less
+before_middle first [] e more h = h.0
+before_middle first (x ∷ es) e more h = before_middle first es e more h.1
+
+-- a name that is above those before it goes last
+put_last : (frames : List Frame) (index : List ℕ) (done : List Entry) (e : Entry) (more : List Entry) → IsStrictlySortedBy name_cmp (keys_of (done ++ e ∷ more)) →
+    put e.0.now (entered_table index (merged_in frames e.1)) (entered_below index (below_seen frames done)) ≡ entered_below index (below_seen frames (done ++ e ∷ []))
+unfolding IsStrictlySortedBy
+put_last frames index [] e more h = refl
+put_last frames index (first ∷ done) e more h =
+    let above : slice_cmp nat_cmp e.0.now first.0.now ≡ Greater =
+    nat_list_cmp_total.antisymm e.0.now first.0.now ∙ ap ordering_reverse (before_middle first done e more h.0) in
+    rw above (ap (Below_then first.0.now (entered_table index (merged_in frames first.1))) (put_last frames index done e more h.1))
+
+-- one more table of a map, entered at an index
+pub entered_more : (frames : List Frame) (index : List ℕ) (done : List Entry) (e : Entry) (more : List Entry) (made new : List Entry) (k : Bor (List ℕ)) (v : MergedEnv) →
+    IsStrictlySortedBy name_cmp (keys_of (done ++ e ∷ more)) → k.now ≡ e.0.now → merged_in frames v ≡ entered_table index (merged_in frames e.1) → new ≡ insert_entry name_cmp made k v →
+    below_seen frames made ≡ entered_below index (below_seen frames done) →
+    below_seen frames new ≡ entered_below index (below_seen frames (done ++ e ∷ []))
+entered_more frames index done e more made new k v sorted named is inserted before =
+    ap (below_seen frames) inserted ∙ seen_inserted frames made k v ∙ ap (λ n. put n (merged_in frames v) (below_seen frames made)) named
+    ∙ ap (λ t. put e.0.now t (below_seen frames made)) is ∙ ap (put e.0.now (entered_table index (merged_in frames e.1))) before
+    ∙ put_last frames index done e more sorted

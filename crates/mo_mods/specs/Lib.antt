@@ -1,4 +1,7 @@
+pub mod Left
 pub mod Marks
 pub mod Merged
+pub mod Passes
+pub mod PathSights
 pub mod Sights
 pub mod Steps

@@ -1,11 +1,9 @@
 -- One table of modifiers for a list of sources (Modelica Language Specification 3.5, sections 7.2 and 7.3).
-use Rattle.std.specs.Prelude.{◌≡◌, ℕ, Bool, List, [], ◌∷◌, Option, None, Ok, option_map, if◌then◌else◌}
+use Rattle.std.specs.Prelude.{◌≡◌, ℕ, Bool, List, [], ◌∷◌, Option, None, option_map, if◌then◌else◌}
 use Rattle.std.specs.Str.{bytes_eq}
-use Rattle.mo_scope.specs.Outcome.{Outcome, and_then}
 use Rattle.mo_scope.specs.Rows.{Table, Declares}
-use Rattle.mo_scope.specs.Frames.{Frame, Scope, Source, sources_of}
+use Rattle.mo_scope.specs.Frames.{Scope, Source}
 use Rattle.mo_scope.specs.Parts.{Picked, Redeclaration, picked, redeclared_path, parts}
-use Rattle.mo_scope.specs.Arguments.{second_pass}
 use Rattle.mo_mods.specs.Marks.{marks_of}
 
 -- ---- tables
@@ -72,11 +70,6 @@ pub record StandsFor (table : Table) (merged : Merged) (sources : List Source) :
       redeclared_here (at_path merged path) ≡ option_map redeclared_as (redeclared_path table sources path)
 
 -- ---- what is promised of tables
-
--- The sources of a frame merged, or the first rule that the second pass over its arguments breaks.
-pub record Merges (table : Table) (frame : Frame) (outcome : Outcome Merged) : Type 0 where
-  pub broken : and_then outcome (λ merged. Ok tt) ≡ second_pass table (sources_of frame)
-  pub stands : (merged : Merged) → outcome ≡ Ok merged → StandsFor table merged (sources_of frame)
 
 -- For every list that the first table stands for, the second one stands for the parts of that list for the name, entered at the index.
 abbrev pub StepsIn : Table → (from : Merged) → (name : List ℕ) → (index : List ℕ) → (to : Merged) → Type 0

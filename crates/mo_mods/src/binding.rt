@@ -1,6 +1,5 @@
 //! Looking up what a table gives.
 ghost use Rattle.std.specs.Prelude.{◌≡◌, [], List as Seq, drop, option_copied, option_map};
-ghost use Rattle.std.specs.Str.{bytes_eq};
 ghost use Rattle.mo_scope.specs.Frames.{Frame};
 ghost use Rattle.mo_scope.specs.Sights.{picked_in};
 ghost use Rattle.mo_mods.specs.Merged.{at_path, binding, table_for, tables_below};
@@ -10,24 +9,12 @@ use crate::env::MergedEnv;
 use mo_scope::Picked;
 use mo_syntax::Text;
 
-/// Whether two names are the same.
-fn is_named(name: &Text, other: &Text) -> bool
-    ensures { result ≡ bytes_eq name.now other.now }
-{
-    name.as_str() == other.as_str()
-}
-
 impl<'t> MergedEnv<'t> {
     /// The table for the paths that begin with a name, None where nothing is given for them.
     pub fn table_for(&self, name: &Text) -> Option<&MergedEnv<'t>>
         ensures { (frames : Seq Frame) → merged_or frames (option_copied result) ≡ table_for name.now (tables_below (merged_in frames self.now)) }
     {
-        for one in self.below.as_slice() {
-            if is_named(one.name, name) {
-                return Some(&one.env);
-            }
-        }
-        None
+        self.below.get(name.as_str())
     }
 
     /// The value for a path, with its scope and its pending indices. It takes no memory.

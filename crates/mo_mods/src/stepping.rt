@@ -1,16 +1,17 @@
 //! The table for an element.
-ghost use Rattle.std.specs.Prelude.{◌≡◌, List as Seq, map, option_map, IfOk};
+ghost use Rattle.std.specs.Prelude.{◌≡◌, List as Seq, option_map, IfOk};
 ghost use Rattle.std.specs.List.{list_any};
 ghost use Rattle.mo_scope.specs.Frames.{Frame};
 ghost use Rattle.mo_scope.specs.Rows.{Table};
 ghost use Rattle.mo_mods.specs.Merged.{StepsIn, nothing_merged};
-ghost use Rattle.mo_mods.specs.Sights.{entered_named, merged_in, named_in, redeclared_in, value_in};
-ghost use Rattle.mo_mods.specs.Steps.{entered_table, entered_value as value_entered, rest_of as rest_of_marks, stepped, stepped_in, with_index as pending_with_index};
+ghost use Rattle.mo_mods.specs.Sights.{below_seen, merged_in, redeclared_in, value_in};
+ghost use Rattle.mo_mods.specs.Steps.{entered_below as below_entered, entered_table, entered_value as value_entered, rest_of as rest_of_marks, stepped, stepped_in, with_index as pending_with_index};
 
-use crate::env::{BelowOf, MergedEnv, MergedValue, RedeclaredAt};
+use crate::env::{MergedEnv, MergedValue, RedeclaredAt, put};
 use mo_scope::{copied, copied_scope, extend};
 use mo_syntax::{List, NoMemory, Text, both};
 use std::alloc::Global;
+use std::collections::BTreeMap;
 
 /// What stands behind the first mark.
 fn rest_of(marks: &[bool]) -> &[bool]
@@ -111,7 +112,7 @@ fn entered_env<'t>(
         entered_option(alloc, &env.value, index),
         copied_redeclared(alloc, &env.redeclared),
     )?;
-    let below = entered_list(alloc, env.below.as_slice(), index)?;
+    let below = entered_below(alloc, &env.below, index)?;
     Ok(MergedEnv {
         value,
         redeclared,
@@ -121,20 +122,17 @@ fn entered_env<'t>(
 
 /// Tables by name, each entered at an index.
 #[cycle(entered)]
-fn entered_list<'t>(
+fn entered_below<'t>(
     alloc: Global,
-    below: &[BelowOf<'t, MergedEnv<'t>>],
+    below: &BTreeMap<&'t str, MergedEnv<'t>>,
     index: &[u32],
-) -> Result<List<BelowOf<'t, MergedEnv<'t>>>, NoMemory>
-    ensures { IfOk result (λ made. (frames : Seq Frame) → map (named_in frames) made ≡ map (entered_named frames index.now) below.now) }
+) -> Result<BTreeMap<&'t str, MergedEnv<'t>>, NoMemory>
+    ensures { IfOk result (λ made. (frames : Seq Frame) → below_seen frames made.entries ≡ below_entered index.now (below_seen frames below.now.entries)) }
 {
-    let mut made = List::new(alloc);
-    for one in below {
-        let env = entered_env(alloc, &one.env, index)?;
-        made.push(BelowOf {
-            name: one.name,
-            env,
-        })?;
+    let mut made = BTreeMap::new(alloc);
+    for (name, env) in below.iter() {
+        let env = entered_env(alloc, env, index)?;
+        put(&mut made, *name, env)?;
     }
     Ok(made)
 }
@@ -146,7 +144,7 @@ fn nothing<'t>(alloc: Global) -> MergedEnv<'t>
     MergedEnv {
         value: None,
         redeclared: None,
-        below: List::new(alloc),
+        below: BTreeMap::new(alloc),
     }
 }
 
@@ -159,7 +157,7 @@ fn stepped_env<'t>(
     ensures { IfOk result (λ made. (frames : Seq Frame) → merged_in frames made ≡ stepped index.now (merged_in frames env.now)) }
 {
     let value = entered_option(alloc, &env.value, index)?;
-    let below = entered_list(alloc, env.below.as_slice(), index)?;
+    let below = entered_below(alloc, &env.below, index)?;
     Ok(MergedEnv {
         value,
         redeclared: None,

@@ -1,0 +1,40 @@
+//! The modifiers of a frame as one table.
+ghost use Rattle.std.specs.Prelude.{IfOk};
+ghost use Rattle.mo_scope.specs.Arguments.{second_pass};
+ghost use Rattle.mo_scope.specs.Frames.{sources_of};
+ghost use Rattle.mo_scope.specs.Outcome.{Gives};
+ghost use Rattle.mo_scope.specs.Worlds.{IsFrame, frame_at, frames_of, table_in};
+ghost use Rattle.mo_mods.specs.Merged.{StandsFor};
+ghost use Rattle.mo_mods.specs.Sights.{merged_in};
+
+use crate::asked::arguments;
+use crate::env::MergedEnv;
+use crate::merging::merged_sources;
+use crate::passes::first_broken;
+use mo_scope::Scopes;
+use mo_syntax::{FrameId, Stop};
+use std::alloc::Global;
+
+/// The second pass over the arguments of a frame's sources: two of one path, one below a final one of a later source, `each`
+/// where no index is pending.
+fn pass(scopes: &Scopes<'_>, alloc: Global, frame: FrameId) -> Result<(), Stop>
+    requires { IsFrame scopes.now frame.0 }
+    ensures { Gives (λ _. tt) result (second_pass (table_in scopes.now) (sources_of (frame_at scopes.now frame.0))) }
+{
+    let asked = arguments(scopes, alloc, scopes.sources(frame).as_slice())?;
+    match first_broken(alloc, asked.as_slice())? {
+        None => Ok(()),
+        Some(broken) => Err(Stop::Broken(broken)),
+    }
+}
+
+/// The sources of a frame merged into one table. Breaks rules 21, 22 and 23 where the second pass over the arguments of the
+/// sources does. A path of more than 1,000 names is want of memory.
+pub fn merge<'t>(scopes: &Scopes<'t>, alloc: Global, frame: FrameId) -> Result<MergedEnv<'t>, Stop>
+    requires { IsFrame scopes.now frame.0 }
+    ensures broken { Gives (λ _. tt) result (second_pass (table_in scopes.now) (sources_of (frame_at scopes.now frame.0))) }
+    ensures stands { IfOk result (λ made. StandsFor (table_in scopes.now) (merged_in (frames_of scopes.now) made) (sources_of (frame_at scopes.now frame.0))) }
+{
+    pass(scopes, alloc, frame)?;
+    Ok(merged_sources(scopes, alloc, scopes.sources(frame).as_slice())?)
+}
