@@ -1,6 +1,12 @@
-pub mod Ends
-pub mod Joining
 pub mod Later
 pub mod Owning
 pub mod Reading
 pub mod Redeclaring
+pub mod Joining
+pub mod Circling
+pub mod Counting
+pub mod Ends
+pub mod Naming
+pub mod Outcomes
+pub mod Outwards
+pub mod Walking

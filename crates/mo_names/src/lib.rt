@@ -1,14 +1,9 @@
-//! What names mean: so far what lookup asks of classes whose elements are known (Modelica Language Specification 3.5, sections
-//! 5.3, 5.6.1, 7.2, 7.3 and 13.2).
-//!
-//! - `Found`: what a name finds.
-//! - `Walk`: the elements of a frame, each with the base frames on the way to it.
-//!
-//! Inside stand what a name reaches among own elements, among inherited ones and among literals, elements that are classes,
-//! entered by the redeclaration that wins, names at the top, the paths of imports, and the elements of bases put behind those
-//! before.
+//! What names mean: the elements of frames, the lookup of names and paths, and the children of frames (Modelica Language
+//! Specification 3.5, sections 5.3, 5.4, 5.6.1, 7.1 to 7.3 and 13.2).
 #![tactic(auto)]
 
+mod bases;
+mod circle;
 mod class_element;
 mod found;
 mod importing;
@@ -26,4 +21,3 @@ mod top;
 mod walk;
 
 pub use found::Found;
-pub use walk::{Inherited, Walk};
