@@ -1,4 +1,5 @@
 pub mod Bases
+pub mod Children
 pub mod Joins
 pub mod Parts
 pub mod Past

@@ -95,6 +95,10 @@ abbrev pub imported_met : Option Found → Option Met
 imported_met None = None
 imported_met (Some found) = Some (record { found = found; near = false })
 
+-- what is met through imports
+abbrev pub imports_met : Table → Asking → (ask : Place) → List ℕ → List Import → Outcome (Option Met)
+imports_met table asking ask name clauses = and_then (found_by_names_or_stars table asking ask name clauses) (λ found. Ok (imported_met found))
+
 -- ---- the name of a class
 
 -- the first identifier of the name of a class

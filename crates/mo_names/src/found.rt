@@ -1,6 +1,6 @@
-//! What names find.
-use mo_scope::Member;
-use mo_syntax::{ClassId, FrameId, Place};
+//! What names find, and what elements are entered as.
+use mo_scope::{Declares, Member, Redeclaration, Source};
+use mo_syntax::{ClassId, FrameId, List, Place};
 
 /// What a name finds.
 #[derive(Clone, Copy)]
@@ -20,10 +20,23 @@ pub enum Found<'t> {
 
 /// What a name reaches among the elements of a frame.
 #[derive(Clone, Copy)]
-pub(crate) enum Reached<'t> {
+pub enum Reached<'t> {
     Element(Member<'t>),
+    /// A literal of the enumeration that the class of the frame ends at.
     Other(Found<'t>),
     Absent,
+}
+
+/// An element of a frame, entered at an index.
+#[derive(Drop)]
+pub struct Child<'t> {
+    pub declares: Declares<'t>,
+    /// The redeclaration that wins, None where there is none.
+    pub redeclared: Option<Redeclaration<'t>>,
+    /// The class of its type as it was found; of a class, the frame that it is entered as.
+    pub class: FrameId,
+    /// What modifies it, outermost first.
+    pub sources: List<Source<'t>>,
 }
 
 /// What a name finds, and whether it is an element of the frame that the text stands in.

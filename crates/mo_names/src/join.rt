@@ -1,20 +1,20 @@
 //! Joining the elements of bases.
-ghost use Rattle.std.specs.Prelude.{◌≡◌, ◌∷◌, ◌++◌, [], List as Seq, map, reverse, IfOk};
+ghost use Rattle.std.specs.Prelude.{◌≡◌, ◌∷◌, ◌++◌, [], List as Seq, map, option_map, reverse, IfOk};
 ghost use Rattle.std.specs.List.{list_any};
 ghost use Rattle.std.specs.Str.{bytes_eq};
 ghost use Rattle.mo_scope.specs.Frames.{Frame, is_same_base};
-ghost use Rattle.mo_scope.specs.Lookup.{final_frame, is_counted, not_counted, with_member as joined_member, with_members as joined_members};
+ghost use Rattle.mo_scope.specs.Lookup.{final_frame, is_counted, not_counted, with_base as joined_base, with_member as joined_member, with_members as joined_members};
 ghost use Rattle.mo_scope.specs.Outcome.{Gives};
 ghost use Rattle.mo_scope.specs.Places.{Every};
 ghost use Rattle.mo_scope.specs.Worlds.{IsFrame, World, frame_at, frame_in, frames_of};
-ghost use Rattle.mo_names.specs.Sights.{AreThrough, IsBase, IsInherited, IsMember, IsWalk, frames_through, inherited_seen, member_of, walk_seen};
-ghost use Rattle.mo_names.specs.Joins.{counts_through, is_among, base_behind, inherited_behind, member_hidden};
+ghost use Rattle.mo_names.specs.Sights.{AreThrough, IsBase, IsInherited, IsLeaf, IsMember, IsWalk, frames_through, inherited_seen, member_of, walk_seen};
+ghost use Rattle.mo_names.specs.Joins.{all_added as added_all, base_added as added_by_base, base_behind, bases_added as added_bases, counts_through, inherited_behind, is_among, member_hidden};
 
 use crate::same::are_one_base;
 use crate::stops::stop;
 use crate::walk::{Inherited, Walk};
 use mo_scope::{Member, Scopes};
-use mo_syntax::{FrameId, List, NoMemory, Stop, Text};
+use mo_syntax::{FrameId, List, NoMemory, Stop, Text, both};
 use std::alloc::Global;
 
 /// Whether an element has that name.
@@ -48,7 +48,7 @@ pub(crate) fn with_member<'t>(
 }
 
 /// A list from its end.
-pub(crate) fn turned<T: Drop>(list: List<T>) -> List<T>
+fn turned<T: Drop>(list: List<T>) -> List<T>
     ensures { result ≡ reverse list }
 {
     let mut items = list.into_vec();
@@ -57,7 +57,7 @@ pub(crate) fn turned<T: Drop>(list: List<T>) -> List<T>
 }
 
 /// Puts elements behind others, in their order; they come from their end.
-pub(crate) fn with_members<'t>(
+fn with_members<'t>(
     s: &Scopes<'t>,
     turned: List<Inherited<'t>>,
     walk: &mut Walk<'t>,
@@ -120,6 +120,9 @@ fn is_base_counted(s: &Scopes, bases: &[List<FrameId>], through: &[FrameId]) -> 
     requires through { AreThrough s.now through.now }
     ensures { result ≡ is_counted (map (frames_through (frames_of s.now)) bases.now) (frames_through (frames_of s.now) through.now) }
 {
+    if bases.is_empty() {
+        return false;
+    }
     is_any_among(s, bases, through)
 }
 
@@ -186,7 +189,7 @@ fn hidden_member<'t>(member: &Member<'t>, hidden: bool) -> Member<'t>
 }
 
 /// The elements of a base that were not met before, behind it; they come from their end.
-pub(crate) fn members_behind<'t>(
+fn members_behind<'t>(
     alloc: Global,
     s: &Scopes<'t>,
     bases: &[List<FrameId>],
@@ -212,7 +215,7 @@ pub(crate) fn members_behind<'t>(
 }
 
 /// The bases of a base, and before them that base itself.
-pub(crate) fn all_bases(
+fn all_bases(
     alloc: Global,
     s: &Scopes,
     before: &[List<FrameId>],
@@ -231,7 +234,7 @@ pub(crate) fn all_bases(
 }
 
 /// The bases of a base in the order of their sections, and behind them that base itself.
-pub(crate) fn all_sections(
+fn all_sections(
     alloc: Global,
     s: &Scopes,
     before: &[List<FrameId>],
@@ -247,4 +250,100 @@ pub(crate) fn all_sections(
     let mut all = sections;
     all.push(List::new(alloc))?;
     bases_behind(alloc, s, before, base, turned(all))
+}
+
+/// What a base adds to the elements before: its own, its bases and their sections, but for those that were met before.
+fn base_added<'t>(
+    alloc: Global,
+    s: &Scopes<'t>,
+    before: &[List<FrameId>],
+    hidden: bool,
+    base: FrameId,
+    walk: Walk<'t>,
+) -> Result<Walk<'t>, NoMemory>
+    requires before { Every (IsBase s.now) before.now }
+    requires base { IsFrame s.now base.0 }
+    requires walk { IsWalk s.now walk }
+    ensures are { IfOk result (λ added. walk_seen (frames_of s.now) added ≡ added_by_base hidden (frame_at s.now base.0) (map (frames_through (frames_of s.now)) before.now) (walk_seen (frames_of s.now) walk.entry)) }
+    ensures stand { IfOk result (IsWalk s.now) }
+{
+    let Walk {
+        members,
+        bases,
+        sections,
+        leaf,
+    } = walk;
+    let from_end = turned(members);
+    let (members, (bases, sections)) = both(
+        members_behind(alloc, s, before, hidden, base, from_end),
+        both(
+            all_bases(alloc, s, before, base, bases),
+            all_sections(alloc, s, before, base, sections),
+        ),
+    )?;
+    Ok(Walk {
+        members,
+        bases,
+        sections,
+        leaf,
+    })
+}
+
+/// Puts bases and their sections behind those before; the first leaf stays.
+fn with_bases<'t>(
+    s: &Scopes<'t>,
+    bases: List<List<FrameId>>,
+    sections: List<List<FrameId>>,
+    leaf: Option<FrameId>,
+    so_far: &mut Walk<'t>,
+) -> Result<(), NoMemory>
+    requires bases { Every (IsBase s.now) bases }
+    requires sections { Every (IsBase s.now) sections }
+    requires leaf { IsLeaf s.now leaf }
+    requires so_far { IsWalk s.now so_far.old }
+    ensures are { IfOk result (λ _. walk_seen (frames_of s.now) so_far.new ≡ added_bases (map (frames_through (frames_of s.now)) bases) (map (frames_through (frames_of s.now)) sections) (option_map (λ frame. frame_at s.now frame.0) leaf) (walk_seen (frames_of s.now) so_far.old)) }
+    ensures stand { IfOk result (λ _. IsWalk s.now so_far.new) }
+{
+    so_far.bases.append(bases)?;
+    so_far.sections.append(sections)?;
+    if so_far.leaf.is_none() {
+        so_far.leaf = leaf;
+    }
+    Ok(())
+}
+
+/// Puts all that a base adds behind what is before.
+fn with_added<'t>(s: &Scopes<'t>, added: Walk<'t>, so_far: &mut Walk<'t>) -> Result<(), Stop>
+    requires added { IsWalk s.now added }
+    requires so_far { IsWalk s.now so_far.old }
+    ensures value { Gives (λ _. walk_seen (frames_of s.now) so_far.new) result (added_all (walk_seen (frames_of s.now) added.entry) (walk_seen (frames_of s.now) so_far.old)) }
+    ensures stand { IfOk result (λ _. IsWalk s.now so_far.new) }
+{
+    let Walk {
+        members,
+        bases,
+        sections,
+        leaf,
+    } = added;
+    with_bases(s, bases, sections, leaf, so_far)?;
+    with_members(s, turned(members), so_far)
+}
+
+/// The elements of a base behind those before. A base that is met again counts once, with all that it inherits.
+pub(crate) fn with_base<'t>(
+    alloc: Global,
+    s: &Scopes<'t>,
+    hidden: bool,
+    base: FrameId,
+    walk: Walk<'t>,
+    so_far: &mut Walk<'t>,
+) -> Result<(), Stop>
+    requires base { IsFrame s.now base.0 }
+    requires walk { IsWalk s.now walk }
+    requires so_far { IsWalk s.now so_far.old }
+    ensures value { Gives (λ _. walk_seen (frames_of s.now) so_far.new) result (joined_base hidden (frame_at s.now base.0) (walk_seen (frames_of s.now) walk.entry) (walk_seen (frames_of s.now) so_far.old)) }
+    ensures stand { IfOk result (λ _. IsWalk s.now so_far.new) }
+{
+    let added = base_added(alloc, s, so_far.bases.as_slice(), hidden, base, walk)?;
+    with_added(s, added, so_far)
 }

@@ -1,23 +1,33 @@
-//! What names mean: so far what lookup asks of classes whose elements are known (Modelica Language Specification 3.5, sections
-//! 5.3, 5.6.1, 7.2, 7.3 and 13.2).
+//! What names mean (Modelica Language Specification 3.5, sections 5.3, 5.4, 5.6.1, 7.1 to 7.3 and 13.2).
 //!
-//! - `Found`: what a name finds.
-//! - `Walk`: the elements of a frame, each with the base frames on the way to it.
+//! - `elements`, `walk_of`, `base_of`: the elements of a frame, inherited and own; those with the base frames on the way to them,
+//!   as `Walk` and `Inherited`; and the base frame of an extends clause.
+//! - `find`, `find_first`, `find_behind`, `find_path`: what a name finds, as `Found`: a simple name, the first identifier of a
+//!   name, one behind a dot, and a whole name. `find_element` says what a name reaches among the elements of a frame, as `Reached`.
+//! - `inner_of`, `stands_for`: the component that one which is declared `outer` stands for.
+//! - `child`, `child_of_member`: an element of a frame, entered at an index, as `Child`; `enter_child` and `enter_component` make
+//!   the frame of a component.
 //!
-//! Inside stand what a name reaches among own elements, among inherited ones and among literals, elements that are classes,
-//! entered by the redeclaration that wins, names at the top, the paths of imports, and the elements of bases put behind those
-//! before.
+//! Each call keeps the frames that exist, after a refusal too. A broken rule is the first one of the definition in `mo_scope`.
 #![tactic(auto)]
 
+mod bases;
+mod circle;
 mod class_element;
+mod element_list;
+mod entering;
 mod found;
+mod free;
 mod importing;
 mod join;
 mod literals;
+mod lookup;
+mod outer;
 mod own;
 mod own_walk;
 mod parts;
 mod past;
+mod path;
 mod reach;
 mod same;
 mod start;
@@ -25,5 +35,10 @@ mod stops;
 mod top;
 mod walk;
 
-pub use found::Found;
+pub use element_list::{base_of, elements, walk_of};
+pub use entering::{child, child_of_member, enter_child, enter_component};
+pub use found::{Child, Found, Reached};
+pub use lookup::{find, find_element, find_first};
+pub use outer::{inner_of, stands_for};
+pub use path::{find_behind, find_path};
 pub use walk::{Inherited, Walk};

@@ -149,7 +149,7 @@ pub(crate) fn leaf_checked(s: &Scopes, walk: &Walk) -> Result<(), Stop>
 }
 
 /// A copy of the names of an instance path.
-fn names_copied(
+pub(crate) fn names_copied(
     alloc: Global,
     names: &[(Text, List<u32>)],
 ) -> Result<List<(Text, List<u32>)>, NoMemory>
@@ -162,7 +162,11 @@ fn names_copied(
     Ok(made)
 }
 
-fn name_copied(alloc: Global, name: &Text, index: &[u32]) -> Result<(Text, List<u32>), NoMemory>
+pub(crate) fn name_copied(
+    alloc: Global,
+    name: &Text,
+    index: &[u32],
+) -> Result<(Text, List<u32>), NoMemory>
     ensures { IfOk result (λ made. (made.0 ≡ name.now) × (made.1 ≡ index.now)) }
 {
     let index = index.to_vec(alloc)?;

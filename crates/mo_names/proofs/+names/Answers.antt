@@ -1,0 +1,409 @@
+-- One step further.
+use Rattle.mo_names.proofs.Circling.{is_busy_still, none_left, walked_further, drop_map, left_from, loop_err, names_step, then_ok, told_of, package_names_step, exit_err, later_gives, package_is, star_is, left_read, in_frame_is, around_less, go_on, here_or_past, or_on, outwards_step, class_names_step, class_is}
+use Rattle.mo_names.proofs.Later.{grows_trans, grows_refl, table_later, is_walk_later}
+use Rattle.mo_names.proofs.Naming.{class_named_is}
+use Rattle.mo_names.proofs.Outcomes.{gives_same, exit_same, then_same_ok, exit_is}
+use Rattle.mo_names.proofs.Outwards.{imports_told, here_told, past_told}
+use Rattle.mo_names.proofs.Walking.{part_read, part_told}
+use Rattle.mo_names.specs.Bases.{first_of_parts, part_walked, parts_walked}
+use Rattle.mo_names.specs.Parts.{imports_of, parts_of}
+use Rattle.mo_names.specs.Past.{Around, Found_past, past, past_seen}
+use Rattle.mo_names.specs.Sights.{asking_at, walk_seen, asks, found_in, met_seen, classed_seen}
+use Rattle.mo_names.specs.Steps.{before_dot, import_step, package_behind, package_step, package_at_top, also_found, found_by_all, imports_met, met_or, class_step, next_item, started}
+use Rattle.mo_scope.proofs.Numbered.{is_no_top}
+use Rattle.mo_scope.specs.Frames.{Frame, class_of, is_top, Scope}
+use Rattle.mo_scope.specs.Lookup.{contains, walked_class, Found, import_behind, through_star, Asking, found_element, Met, found_from, found_in as in_one_frame, Classed, class_behind, Walked, leaf_checked}
+use Rattle.mo_scope.specs.Outcome.{and_then, Outcome}
+use Rattle.mo_scope.specs.Rows.{row_at, Part, Row}
+use Rattle.mo_scope.specs.Sights.{part_seen}
+use Rattle.mo_scope.specs.Worlds.{frame_at, frames_of, table_in, scope_in}
+use Rattle.mo_syntax.specs.declared.class.Import.{Import}
+use Rattle.mo_syntax.specs.declared.meaning.FrameId.{FrameId}
+use Rattle.mo_syntax.specs.declared.place.Place.{Place}
+use Rattle.mo_syntax.specs.declared.text.Text.{Text}
+use Rattle.std.proofs.Common.{◌-◌, ◌<◌, ◌++◌, ◌∷◌, [], List, ℕ, ap, arith, false, sym, ◌≡◌, ◌∙◌, ◌+◌, Bor, Option, drop, map, Err, Some, None, subst, Ok, refl}
+use Rattle.std.proofs.lemmas.Result.{err_from_is_err_and}
+use Rattle.std.specs.Prelude.{option_map, slice_get}
+use Rattle.mo_names.proofs.+names.Goals as goal
+
+pub circle::walked-returns-then-ask-eq0-clause-value : goal.circle::walked-returns-then-ask-eq0-clause-value
+circle::walked-returns-then-ask-eq0-clause-value t c =
+    rw c.stop.ensures (none_left (table_in c.args.s.now) c.args.ask.now.left c.args.ask.now.busy.now c.args.ask.now.place (frame_at c.args.s.now c.args.frame.0) c.if-ask-eq0.true)
+
+pub circle::walked-returns-then-is_busy-clause-value : goal.circle::walked-returns-then-is_busy-clause-value
+circle::walked-returns-then-is_busy-clause-value t c =
+    rw c.stop-then-is_busy.ensures (is_busy_still (table_in c.args.s.now) c.args.ask.now.left c.args.ask.now.busy.now c.args.ask.now.place (frame_at c.args.s.now c.args.frame.0)
+    (ap (contains c.args.ask.now.busy.now) (sym c.class_of-class.ensures.is) ∙ sym c.is_busy.ensures ∙ c.if-is_busy.true))
+
+pub circle::walked-returns-clause-value : goal.circle::walked-returns-clause-value
+circle::walked-returns-clause-value t c =
+    let F : Frame = frame_at c.args.s.now c.args.frame.0 in
+    let same : c.as_slice.result.now ≡ c.args.ask.now.busy.now ++ class_of F ∷ [] = c.as_slice.ensures ∙ c.in_ok-busy.ensures ∙ ap (λ (n : ℕ). c.args.ask.now.busy.now ++ n ∷ []) c.class_of-class.ensures.is in
+    let some : 0 < c.args.ask.now.left = omega arith in
+    gives_same (walk_seen (frames_of c.walked_class.new.s)) c.walked_class.result _ _
+    (ap (λ (b : List ℕ). walked_class (table_in c.args.s.now) (asking_at (table_in c.args.s.now) (c.args.ask.now.left - 1) b) F (row_at (table_in c.args.s.now) (class_of F))) same
+    ∙ walked_further (table_in c.args.s.now) c.args.ask.now.left c.args.ask.now.busy.now c.args.ask.now.place F some
+    (ap (contains c.args.ask.now.busy.now) (sym c.class_of-class.ensures.is) ∙ sym c.is_busy.ensures ∙ c.if-is_busy.false))
+    c.walked_class.ensures.value
+
+pub circle::import_behind-returns-in_err-found-clause-value : goal.circle::import_behind-returns-in_err-found-clause-value
+circle::import_behind-returns-in_err-found-clause-value t c =
+    let p = err_from_is_err_and c.from_residual.result c.from_residual.ensures.1 in
+    let F : Found = found_in (frames_of c.loop-at.s) c.loop-at.found in
+    let rest : List (List ℕ) = map (λ (name : Bor Text). name.now) (drop (c.loop-at.at + 1) c.args.names.now) in
+    let before : c.before_dot-before.result ≡ before_dot c.args.place rest = c.before_dot-before.ensures ∙ ap (before_dot c.args.place) (drop_map (λ (name : Bor Text). name.now) c.args.names.now (c.loop-at.at + 1)) in
+    rw (p.1, p.2) (loop_err (found_in (frames_of c.import_step.new.s)) (found_in (frames_of c.import_step.new.s)) c.in_err-found.field-0.0 c.args.s.now c.loop-at.s
+    (λ t. import_step t (asks t c.args.ask.now) c.args.ask.now.place c.args.place c.before_dot-before.result F c.index-names-at.result.now)
+    (λ next. import_behind (table_in c.args.s.now) (asks (table_in c.args.s.now) c.args.ask.now) c.args.ask.now.place c.args.place next rest) _
+    c.loop-at.invariant.grows c.in_err-found.ensures.value
+    (rw before (names_step (table_in c.args.s.now) (asks (table_in c.args.s.now) c.args.ask.now) c.args.ask.now.place c.args.place F c.index-names-at.result.now rest
+    ∙ left_from (λ xs. import_behind (table_in c.args.s.now) (asks (table_in c.args.s.now) c.args.ask.now) c.args.ask.now.place c.args.place F (map (λ (name : Bor Text). name.now) xs)) c.args.names.now c.loop-at.at c.index-names-at.result _ c.loop-at-test.true c.index-names-at.is c.loop-at.invariant.left)))
+
+pub circle::import_behind-loop-at-preserved : goal.circle::import_behind-loop-at-preserved
+circle::import_behind-loop-at-preserved t c =
+    let F : Found = found_in (frames_of c.loop-at.s) c.loop-at.found in
+    let rest : List (List ℕ) = map (λ (name : Bor Text). name.now) (drop (c.loop-at.at + 1) c.args.names.now) in
+    let before : c.before_dot-before.result ≡ before_dot c.args.place rest = c.before_dot-before.ensures ∙ ap (before_dot c.args.place) (drop_map (λ (name : Bor Text). name.now) c.args.names.now (c.loop-at.at + 1)) in
+    record {
+      grows = grows_trans c.args.s.now c.loop-at.s c.import_step.new.s c.loop-at.invariant.grows c.in_ok-found.ensures.grows;
+      stand = c.in_ok-found.ensures.stand;
+      left =
+          then_ok (import_step (table_in c.args.s.now) (asks (table_in c.args.s.now) c.args.ask.now) c.args.ask.now.place c.args.place (before_dot c.args.place rest) F c.index-names-at.result.now)
+          (λ next. import_behind (table_in c.args.s.now) (asks (table_in c.args.s.now) c.args.ask.now) c.args.ask.now.place c.args.place next rest)
+          (found_in (frames_of c.import_step.new.s) c.in_ok-found.found) _
+          (names_step (table_in c.args.s.now) (asks (table_in c.args.s.now) c.args.ask.now) c.args.ask.now.place c.args.place F c.index-names-at.result.now rest
+          ∙ left_from (λ xs. import_behind (table_in c.args.s.now) (asks (table_in c.args.s.now) c.args.ask.now) c.args.ask.now.place c.args.place F (map (λ (name : Bor Text). name.now) xs)) c.args.names.now c.loop-at.at c.index-names-at.result _ c.loop-at-test.true c.index-names-at.is c.loop-at.invariant.left)
+          (ap (λ (b : Option Place). import_step (table_in c.args.s.now) (asks (table_in c.args.s.now) c.args.ask.now) c.args.ask.now.place c.args.place b F c.index-names-at.result.now) (sym before)
+          ∙ told_of (λ t. import_step t (asks t c.args.ask.now) c.args.ask.now.place c.args.place c.before_dot-before.result F c.index-names-at.result.now) c.args.s.now c.loop-at.s _ c.loop-at.invariant.grows c.in_ok-found.ensures.value);
+    }
+
+pub circle::package_behind-returns-in_err-frame-clause-value : goal.circle::package_behind-returns-in_err-frame-clause-value
+circle::package_behind-returns-in_err-frame-clause-value t c =
+    let p = err_from_is_err_and c.from_residual.result c.from_residual.ensures.1 in
+    let F : Frame = frame_at c.loop-name.s c.loop-name.frame.0 in
+    rw (p.1, p.2) (loop_err (λ (f : FrameId). frame_at c.package_step.new.s f.0) (λ (f : FrameId). frame_at c.package_step.new.s f.0) c.in_err-frame.field-0.0 c.args.s.now c.loop-name.s
+    (λ t. package_step t (asks t c.args.ask.now) c.args.ask.now.place c.args.place F c.name-item.result)
+    (λ next. package_behind (table_in c.args.s.now) (asks (table_in c.args.s.now) c.args.ask.now) c.args.ask.now.place c.args.place next (drop (c.loop-name.name-index + 1) c.args.names.now)) _
+    c.loop-name.invariant.grows c.in_err-frame.ensures.value
+    (package_names_step (table_in c.args.s.now) (asks (table_in c.args.s.now) c.args.ask.now) c.args.ask.now.place c.args.place F c.name-item.result (drop (c.loop-name.name-index + 1) c.args.names.now)
+    ∙ left_from (package_behind (table_in c.args.s.now) (asks (table_in c.args.s.now) c.args.ask.now) c.args.ask.now.place c.args.place F) c.args.names.now c.loop-name.name-index c.name-item.result _ c.loop-name-test.true c.name-item.is c.loop-name.invariant.left))
+
+pub circle::package_behind-loop-name-preserved : goal.circle::package_behind-loop-name-preserved
+circle::package_behind-loop-name-preserved t c = record {
+  grows = grows_trans c.args.s.now c.loop-name.s c.package_step.new.s c.loop-name.invariant.grows c.in_ok-frame.ensures.grows;
+  stand = c.in_ok-frame.ensures.stand;
+  left =
+      let F : Frame = frame_at c.loop-name.s c.loop-name.frame.0 in
+      then_ok (package_step (table_in c.args.s.now) (asks (table_in c.args.s.now) c.args.ask.now) c.args.ask.now.place c.args.place F c.name-item.result)
+      (λ next. package_behind (table_in c.args.s.now) (asks (table_in c.args.s.now) c.args.ask.now) c.args.ask.now.place c.args.place next (drop (c.loop-name.name-index + 1) c.args.names.now))
+      (frame_at c.package_step.new.s c.in_ok-frame.frame.0) _
+      (package_names_step (table_in c.args.s.now) (asks (table_in c.args.s.now) c.args.ask.now) c.args.ask.now.place c.args.place F c.name-item.result (drop (c.loop-name.name-index + 1) c.args.names.now)
+      ∙ left_from (package_behind (table_in c.args.s.now) (asks (table_in c.args.s.now) c.args.ask.now) c.args.ask.now.place c.args.place F) c.args.names.now c.loop-name.name-index c.name-item.result _ c.loop-name-test.true c.name-item.is c.loop-name.invariant.left)
+      (told_of (λ t. package_step t (asks t c.args.ask.now) c.args.ask.now.place c.args.place F c.name-item.result) c.args.s.now c.loop-name.s _ c.loop-name.invariant.grows c.in_ok-frame.ensures.value);
+}
+
+pub circle::package_named-returns-in_err-first-clause-value : goal.circle::package_named-returns-in_err-first-clause-value
+circle::package_named-returns-in_err-first-clause-value t c =
+    let p = err_from_is_err_and c.from_residual.result c.from_residual.ensures.1 in
+    exit_err (λ (f : FrameId). frame_at c.package_at_top.new.s f.0) _ c.from_residual.result c.in_err-first.field-0.0 c.args.s.now c.args.s.now
+    (λ t. package_at_top t c.args.place c.args.name.now)
+    (λ frame. package_behind (table_in c.args.s.now) (asks (table_in c.args.s.now) c.args.ask.now) c.args.ask.now.place c.args.place frame c.args.names.now) _ (p.1 ∙ ap Err p.2)
+    (grows_refl c.args.s.now) c.in_err-first.ensures.value
+    (package_is (table_in c.args.s.now) (asks (table_in c.args.s.now) c.args.ask.now) c.args.ask.now.place c.args.place c.args.name.now c.args.names.now)
+
+pub circle::package_named-returns-clause-value : goal.circle::package_named-returns-clause-value
+circle::package_named-returns-clause-value t c =
+    later_gives _ c.package_behind.result c.args.s.now c.package_at_top.new.s
+    (λ t. package_behind t (asks t c.args.ask.now) c.args.ask.now.place c.args.place (frame_at c.package_at_top.new.s c.in_ok-first.first.0) c.args.names.now) _
+    c.in_ok-first.ensures.grows c.package_behind.ensures.value
+    (then_ok (package_at_top (table_in c.args.s.now) c.args.place c.args.name.now)
+    (λ frame. package_behind (table_in c.args.s.now) (asks (table_in c.args.s.now) c.args.ask.now) c.args.ask.now.place c.args.place frame c.args.names.now)
+    (frame_at c.package_at_top.new.s c.in_ok-first.first.0) _
+    (package_is (table_in c.args.s.now) (asks (table_in c.args.s.now) c.args.ask.now) c.args.ask.now.place c.args.place c.args.name.now c.args.names.now)
+    c.in_ok-first.ensures.value)
+
+pub circle::found_by_star-returns-in_ok-frame-in-All-clause-value : goal.circle::found_by_star-returns-in_ok-frame-in-All-clause-value
+circle::found_by_star-returns-in_ok-frame-in-All-clause-value t c =
+    later_gives (option_map (found_in (frames_of c.through_star.new.s))) c.through_star.result c.args.s.now c.imported_package.new.s
+    (λ t. through_star t (asks t c.args.ask.now) c.args.ask.now.place c.in-All.place (frame_at c.imported_package.new.s c.in_ok-frame-in-All.frame.0) c.args.name.now) _
+    c.in_ok-frame-in-All.ensures.grows c.through_star.ensures.value
+    (star_is (table_in c.args.s.now) (asks (table_in c.args.s.now) c.args.ask.now) c.args.ask.now.place c.in-All.place c.in-All.path c.as_slice.result.now c.args.name.now c.args.clause.now
+    (frame_at c.imported_package.new.s c.in_ok-frame-in-All.frame.0) c.in-All.is c.as_slice.ensures c.in_ok-frame-in-All.ensures.value)
+
+pub circle::found_by_each-returns-in_err-found-clause-value : goal.circle::found_by_each-returns-in_err-found-clause-value
+circle::found_by_each-returns-in_err-found-clause-value t c =
+    let p = err_from_is_err_and c.from_residual.result c.from_residual.ensures.1 in
+    let F : Option Found = option_map (found_in (frames_of c.loop-at.s)) c.loop-at.found in
+    let all : List Import = imports_of (row_at (table_in c.args.s.now) c.class_of-class.result.0) in
+    let read : slice_get all c.loop-at.at ≡ Some c.import_at-clause.result.now = subst (λ t. slice_get (imports_of (row_at t c.class_of-class.result.0)) c.loop-at.at ≡ Some c.import_at-clause.result.now) (table_later c.args.s.now c.loop-at.s c.loop-at.invariant.grows) c.import_at-clause.ensures in
+    exit_err (option_map (found_in (frames_of c.also_by.new.s))) _ c.from_residual.result c.in_err-found.field-0.0 c.args.s.now c.loop-at.s
+    (λ t. also_found t (asks t c.args.ask.now) c.args.ask.now.place c.args.star c.args.name.now F c.import_at-clause.result.now)
+    (λ next. found_by_all (table_in c.args.s.now) (asks (table_in c.args.s.now) c.args.ask.now) c.args.ask.now.place c.args.star c.args.name.now next (drop (c.loop-at.at + 1) all)) _ (p.1 ∙ ap Err p.2)
+    c.loop-at.invariant.grows c.in_err-found.ensures.value
+    (left_read (found_by_all (table_in c.args.s.now) (asks (table_in c.args.s.now) c.args.ask.now) c.args.ask.now.place c.args.star c.args.name.now F) all c.loop-at.at c.import_at-clause.result.now _ read c.loop-at.invariant.left
+    ∙ ap (λ (n : ℕ). found_by_all (table_in c.args.s.now) (asks (table_in c.args.s.now) c.args.ask.now) c.args.ask.now.place c.args.star c.args.name.now None (imports_of (row_at (table_in c.args.s.now) n))) c.class_of-class.ensures.is)
+
+pub circle::found_by_each-loop-at-preserved : goal.circle::found_by_each-loop-at-preserved
+circle::found_by_each-loop-at-preserved t c =
+    let F : Option Found = option_map (found_in (frames_of c.loop-at.s)) c.loop-at.found in
+    let all : List Import = imports_of (row_at (table_in c.args.s.now) c.class_of-class.result.0) in
+    let read : slice_get all c.loop-at.at ≡ Some c.import_at-clause.result.now = subst (λ t. slice_get (imports_of (row_at t c.class_of-class.result.0)) c.loop-at.at ≡ Some c.import_at-clause.result.now) (table_later c.args.s.now c.loop-at.s c.loop-at.invariant.grows) c.import_at-clause.ensures in
+    record {
+      grows = grows_trans c.args.s.now c.loop-at.s c.also_by.new.s c.loop-at.invariant.grows c.in_ok-found.ensures.grows;
+      stand = c.in_ok-found.ensures.stand;
+      left =
+          then_ok (also_found (table_in c.args.s.now) (asks (table_in c.args.s.now) c.args.ask.now) c.args.ask.now.place c.args.star c.args.name.now F c.import_at-clause.result.now)
+          (λ next. found_by_all (table_in c.args.s.now) (asks (table_in c.args.s.now) c.args.ask.now) c.args.ask.now.place c.args.star c.args.name.now next (drop (c.loop-at.at + 1) all))
+          (option_map (found_in (frames_of c.also_by.new.s)) c.in_ok-found.found) _
+          (left_read (found_by_all (table_in c.args.s.now) (asks (table_in c.args.s.now) c.args.ask.now) c.args.ask.now.place c.args.star c.args.name.now F) all c.loop-at.at c.import_at-clause.result.now _ read c.loop-at.invariant.left)
+          (told_of (λ t. also_found t (asks t c.args.ask.now) c.args.ask.now.place c.args.star c.args.name.now F c.import_at-clause.result.now) c.args.s.now c.loop-at.s _ c.loop-at.invariant.grows c.in_ok-found.ensures.value);
+    }
+
+pub circle::found_in-returns-in_err-found-clause-value : goal.circle::found_in-returns-in_err-found-clause-value
+circle::found_in-returns-in_err-found-clause-value t c =
+    let p = err_from_is_err_and c.from_residual.result c.from_residual.ensures.1 in
+    let A : Asking = asks (table_in c.args.s.now) c.args.ask.now in
+    let F : Frame = frame_at c.args.s.now c.args.frame.0 in
+    exit_err (option_map (found_in (frames_of c.found_element.new.s))) _ c.from_residual.result c.in_err-found.field-0.0 c.args.s.now c.args.s.now
+    (λ t. found_element t (asks t c.args.ask.now) c.args.bare F c.args.ask.now.place c.args.name.now)
+    (λ found. met_or c.args.near found (imports_met (table_in c.args.s.now) A c.args.ask.now.place c.args.name.now (imports_of (row_at (table_in c.args.s.now) (class_of F))))) _ (p.1 ∙ ap Err p.2)
+    (grows_refl c.args.s.now) c.in_err-found.ensures.value
+    (in_frame_is (table_in c.args.s.now) A c.args.bare c.args.near F c.args.ask.now.place c.args.name.now)
+
+pub circle::found_in-returns-in-Some-clause-value : goal.circle::found_in-returns-in-Some-clause-value
+circle::found_in-returns-in-Some-clause-value t c =
+    let A : Asking = asks (table_in c.args.s.now) c.args.ask.now in
+    let F : Frame = frame_at c.args.s.now c.args.frame.0 in
+    sym (then_ok (found_element (table_in c.args.s.now) A c.args.bare F c.args.ask.now.place c.args.name.now)
+    (λ found. met_or c.args.near found (imports_met (table_in c.args.s.now) A c.args.ask.now.place c.args.name.now (imports_of (row_at (table_in c.args.s.now) (class_of F)))))
+    (Some (found_in (frames_of c.found_element.new.s) c.in-Some.found)) _
+    (in_frame_is (table_in c.args.s.now) A c.args.bare c.args.near F c.args.ask.now.place c.args.name.now)
+    (c.in_ok-found.ensures.value ∙ ap (λ o. Ok (option_map (found_in (frames_of c.found_element.new.s)) o)) c.in-Some.is))
+
+pub circle::found_in-returns-in-None-clause-value : goal.circle::found_in-returns-in-None-clause-value
+circle::found_in-returns-in-None-clause-value t c =
+    let A : Asking = asks (table_in c.args.s.now) c.args.ask.now in
+    let F : Frame = frame_at c.args.s.now c.args.frame.0 in
+    gives_same _ c.met_by_imports.result _ _
+    (imports_told c.args.s.now c.found_element.new.s c.args.ask.now c.args.frame.0 c.args.name.now c.in_ok-found.ensures.grows c.requires
+    ∙ then_ok (found_element (table_in c.args.s.now) A c.args.bare F c.args.ask.now.place c.args.name.now)
+    (λ found. met_or c.args.near found (imports_met (table_in c.args.s.now) A c.args.ask.now.place c.args.name.now (imports_of (row_at (table_in c.args.s.now) (class_of F)))))
+    None _
+    (in_frame_is (table_in c.args.s.now) A c.args.bare c.args.near F c.args.ask.now.place c.args.name.now)
+    (c.in_ok-found.ensures.value ∙ ap (λ o. Ok (option_map (found_in (frames_of c.found_element.new.s)) o)) c.in-None.is))
+    c.met_by_imports.ensures.value
+
+pub bases::found_from-returns-in_err-here-clause-value : goal.bases::found_from-returns-in_err-here-clause-value
+bases::found_from-returns-in_err-here-clause-value t c =
+    let p = err_from_is_err_and c.from_residual.result c.from_residual.ensures.1 in
+    let A : Asking = asks (table_in c.args.s.now) c.args.ask.now in
+    let F : Frame = frame_at c.loop-here.s c.loop-here.frame.0 in
+    exit_same (option_map (met_seen (frames_of c.found_in.new.s))) _ c.from_residual.result c.in_err-here.field-0.0 _ (in_one_frame (table_in c.args.s.now) A c.loop-here.own c.loop-here.at_hand F c.args.ask.now.place c.args.name.now)
+    (λ here. or_on here (and_then (past (table_in c.args.s.now) c.args.ask.now.place F c.args.name.now) (go_on (table_in c.args.s.now) A c.args.ask.now.place c.args.name.now))) _
+    (p.1 ∙ ap Err p.2) (here_told c.args.s.now c.loop-here.s c.args.ask.now c.loop-here.own c.loop-here.at_hand c.loop-here.frame.0 c.args.name.now c.loop-here.invariant.grows) c.in_err-here.ensures.value
+    (outwards_step (table_in c.args.s.now) A c.loop-here.own c.loop-here.at_hand F c.args.ask.now.place c.args.name.now (is_no_top c.loop-here.s c.loop-here.frame.0 c.loop-here.invariant.stand) ∙ c.loop-here.invariant.left)
+
+pub bases::found_from-returns-in-Some-clause-value : goal.bases::found_from-returns-in-Some-clause-value
+bases::found_from-returns-in-Some-clause-value t c =
+    let A : Asking = asks (table_in c.args.s.now) c.args.ask.now in
+    let F : Frame = frame_at c.loop-here.s c.loop-here.frame.0 in
+    sym (here_or_past (table_in c.args.s.now) A c.loop-here.own c.loop-here.at_hand F c.args.ask.now.place c.args.name.now (Some (met_seen (frames_of c.found_in.new.s) c.in-Some.met)) _
+    (is_no_top c.loop-here.s c.loop-here.frame.0 c.loop-here.invariant.stand) c.loop-here.invariant.left
+    (sym (here_told c.args.s.now c.loop-here.s c.args.ask.now c.loop-here.own c.loop-here.at_hand c.loop-here.frame.0 c.args.name.now c.loop-here.invariant.grows)
+    ∙ c.in_ok-here.ensures.value ∙ ap (λ o. Ok (option_map (met_seen (frames_of c.found_in.new.s)) o)) c.in-Some.is))
+
+pub bases::found_from-returns-in_err-found-clause-value : goal.bases::found_from-returns-in_err-found-clause-value
+bases::found_from-returns-in_err-found-clause-value t c =
+    let p = err_from_is_err_and c.from_residual-in_err-found.result c.from_residual-in_err-found.ensures.1 in
+    let A : Asking = asks (table_in c.args.s.now) c.args.ask.now in
+    let F : Frame = frame_at c.loop-here.s c.loop-here.frame.0 in
+    let all : Outcome Met = found_from (table_in c.args.s.now) A c.args.bare c.args.near (frame_at c.args.s.now c.args.first.0) c.args.ask.now.place c.args.name.now in
+    let further : and_then (past (table_in c.args.s.now) c.args.ask.now.place F c.args.name.now) (go_on (table_in c.args.s.now) A c.args.ask.now.place c.args.name.now) ≡ all =
+    here_or_past (table_in c.args.s.now) A c.loop-here.own c.loop-here.at_hand F c.args.ask.now.place c.args.name.now None all
+    (is_no_top c.loop-here.s c.loop-here.frame.0 c.loop-here.invariant.stand) c.loop-here.invariant.left
+    (sym (here_told c.args.s.now c.loop-here.s c.args.ask.now c.loop-here.own c.loop-here.at_hand c.loop-here.frame.0 c.args.name.now c.loop-here.invariant.grows)
+    ∙ c.in_ok-here.ensures.value ∙ ap (λ o. Ok (option_map (met_seen (frames_of c.found_in.new.s)) o)) c.in_default.is) in
+    let told : past (table_in c.found_in.new.s) c.args.ask.now.place (frame_at c.found_in.new.s c.loop-here.frame.0) c.args.name.now ≡ past (table_in c.args.s.now) c.args.ask.now.place F c.args.name.now =
+    past_told c.args.s.now c.loop-here.s c.found_in.new.s c.args.ask.now.place c.loop-here.frame.0 c.args.name.now c.loop-here.invariant.grows c.in_ok-here.ensures.grows c.loop-here.invariant.stand in
+    exit_same (past_seen (frames_of c.past_frame.new.s)) _ c.from_residual-in_err-found.result c.in_err-found.field-0.0 _ (past (table_in c.args.s.now) c.args.ask.now.place F c.args.name.now) (go_on (table_in c.args.s.now) A c.args.ask.now.place c.args.name.now) all
+    (p.1 ∙ ap Err p.2) told c.in_err-found.ensures.value further
+
+pub bases::found_from-returns-in-Found-clause-value : goal.bases::found_from-returns-in-Found-clause-value
+bases::found_from-returns-in-Found-clause-value t c =
+    let A : Asking = asks (table_in c.args.s.now) c.args.ask.now in
+    let F : Frame = frame_at c.loop-here.s c.loop-here.frame.0 in
+    let all : Outcome Met = found_from (table_in c.args.s.now) A c.args.bare c.args.near (frame_at c.args.s.now c.args.first.0) c.args.ask.now.place c.args.name.now in
+    let further : and_then (past (table_in c.args.s.now) c.args.ask.now.place F c.args.name.now) (go_on (table_in c.args.s.now) A c.args.ask.now.place c.args.name.now) ≡ all =
+    here_or_past (table_in c.args.s.now) A c.loop-here.own c.loop-here.at_hand F c.args.ask.now.place c.args.name.now None all
+    (is_no_top c.loop-here.s c.loop-here.frame.0 c.loop-here.invariant.stand) c.loop-here.invariant.left
+    (sym (here_told c.args.s.now c.loop-here.s c.args.ask.now c.loop-here.own c.loop-here.at_hand c.loop-here.frame.0 c.args.name.now c.loop-here.invariant.grows)
+    ∙ c.in_ok-here.ensures.value ∙ ap (λ o. Ok (option_map (met_seen (frames_of c.found_in.new.s)) o)) c.in_default.is) in
+    let told : past (table_in c.found_in.new.s) c.args.ask.now.place (frame_at c.found_in.new.s c.loop-here.frame.0) c.args.name.now ≡ past (table_in c.args.s.now) c.args.ask.now.place F c.args.name.now =
+    past_told c.args.s.now c.loop-here.s c.found_in.new.s c.args.ask.now.place c.loop-here.frame.0 c.args.name.now c.loop-here.invariant.grows c.in_ok-here.ensures.grows c.loop-here.invariant.stand in
+    sym (then_ok (past (table_in c.args.s.now) c.args.ask.now.place F c.args.name.now) (go_on (table_in c.args.s.now) A c.args.ask.now.place c.args.name.now)
+    (Found_past (found_in (frames_of c.past_frame.new.s) c.in-Found.found)) all further
+    (sym told ∙ c.in_ok-found.ensures.value ∙ ap (λ o. Ok (past_seen (frames_of c.past_frame.new.s) o)) c.in-Found.is))
+
+pub bases::found_from-loop-here-preserved : goal.bases::found_from-loop-here-preserved
+bases::found_from-loop-here-preserved t c =
+    let A : Asking = asks (table_in c.args.s.now) c.args.ask.now in
+    let F : Frame = frame_at c.loop-here.s c.loop-here.frame.0 in
+    let all : Outcome Met = found_from (table_in c.args.s.now) A c.args.bare c.args.near (frame_at c.args.s.now c.args.first.0) c.args.ask.now.place c.args.name.now in
+    let further : and_then (past (table_in c.args.s.now) c.args.ask.now.place F c.args.name.now) (go_on (table_in c.args.s.now) A c.args.ask.now.place c.args.name.now) ≡ all =
+    here_or_past (table_in c.args.s.now) A c.loop-here.own c.loop-here.at_hand F c.args.ask.now.place c.args.name.now None all
+    (is_no_top c.loop-here.s c.loop-here.frame.0 c.loop-here.invariant.stand) c.loop-here.invariant.left
+    (sym (here_told c.args.s.now c.loop-here.s c.args.ask.now c.loop-here.own c.loop-here.at_hand c.loop-here.frame.0 c.args.name.now c.loop-here.invariant.grows)
+    ∙ c.in_ok-here.ensures.value ∙ ap (λ o. Ok (option_map (met_seen (frames_of c.found_in.new.s)) o)) c.in_default.is) in
+    let told : past (table_in c.found_in.new.s) c.args.ask.now.place (frame_at c.found_in.new.s c.loop-here.frame.0) c.args.name.now ≡ past (table_in c.args.s.now) c.args.ask.now.place F c.args.name.now =
+    past_told c.args.s.now c.loop-here.s c.found_in.new.s c.args.ask.now.place c.loop-here.frame.0 c.args.name.now c.loop-here.invariant.grows c.in_ok-here.ensures.grows c.loop-here.invariant.stand in
+    let seen : past (table_in c.args.s.now) c.args.ask.now.place F c.args.name.now ≡ Ok (Around (frame_at c.past_frame.new.s c.in-Around.outer.0)) =
+    sym told ∙ c.in_ok-found.ensures.value ∙ ap (λ o. Ok (past_seen (frames_of c.past_frame.new.s) o)) c.in-Around.is in
+    record {
+      grows = grows_trans c.args.s.now c.loop-here.s c.past_frame.new.s c.loop-here.invariant.grows (grows_trans c.loop-here.s c.found_in.new.s c.past_frame.new.s c.in_ok-here.ensures.grows c.in_ok-found.ensures.grows);
+      stand = rw c.in-Around.is at c.in_ok-found.ensures.stand;
+      left = then_ok (past (table_in c.args.s.now) c.args.ask.now.place F c.args.name.now) (go_on (table_in c.args.s.now) A c.args.ask.now.place c.args.name.now) (Around (frame_at c.past_frame.new.s c.in-Around.outer.0)) all further seen;
+    }
+
+pub bases::found_from-loop-here-smaller : goal.bases::found_from-loop-here-smaller
+bases::found_from-loop-here-smaller t c =
+    let F : Frame = frame_at c.loop-here.s c.loop-here.frame.0 in
+    let told : past (table_in c.found_in.new.s) c.args.ask.now.place (frame_at c.found_in.new.s c.loop-here.frame.0) c.args.name.now ≡ past (table_in c.args.s.now) c.args.ask.now.place F c.args.name.now =
+    past_told c.args.s.now c.loop-here.s c.found_in.new.s c.args.ask.now.place c.loop-here.frame.0 c.args.name.now c.loop-here.invariant.grows c.in_ok-here.ensures.grows c.loop-here.invariant.stand in
+    let seen : past (table_in c.args.s.now) c.args.ask.now.place F c.args.name.now ≡ Ok (Around (frame_at c.past_frame.new.s c.in-Around.outer.0)) =
+    sym told ∙ c.in_ok-found.ensures.value ∙ ap (λ o. Ok (past_seen (frames_of c.past_frame.new.s) o)) c.in-Around.is in
+    around_less (table_in c.args.s.now) c.args.ask.now.place F (frame_at c.past_frame.new.s c.in-Around.outer.0) c.args.name.now (is_no_top c.loop-here.s c.loop-here.frame.0 c.loop-here.invariant.stand) seen
+
+pub bases::class_behind-returns-in_err-class-clause-value : goal.bases::class_behind-returns-in_err-class-clause-value
+bases::class_behind-returns-in_err-class-clause-value t c =
+    let p = err_from_is_err_and c.from_residual.result c.from_residual.ensures.1 in
+    let C : Classed = classed_seen (frames_of c.loop-part.s) c.loop-part.class in
+    rw (p.1, p.2) (loop_err (classed_seen (frames_of c.class_step.new.s)) (classed_seen (frames_of c.class_step.new.s)) c.in_err-class.field-0.0 c.args.s.now c.loop-part.s
+    (λ t. class_step t (asks t c.args.ask.now) C c.part-item.result)
+    (λ next. class_behind (table_in c.args.s.now) (asks (table_in c.args.s.now) c.args.ask.now) next (drop (c.loop-part.part-index + 1) c.args.parts.now)) _
+    c.loop-part.invariant.grows c.in_err-class.ensures.value
+    (class_names_step (table_in c.args.s.now) (asks (table_in c.args.s.now) c.args.ask.now) C c.part-item.result (drop (c.loop-part.part-index + 1) c.args.parts.now)
+    ∙ left_from (class_behind (table_in c.args.s.now) (asks (table_in c.args.s.now) c.args.ask.now) C) c.args.parts.now c.loop-part.part-index c.part-item.result _ c.loop-part-test.true c.part-item.is c.loop-part.invariant.left))
+
+pub bases::class_behind-loop-part-preserved : goal.bases::class_behind-loop-part-preserved
+bases::class_behind-loop-part-preserved t c = record {
+  grows = grows_trans c.args.s.now c.loop-part.s c.class_step.new.s c.loop-part.invariant.grows c.in_ok-class.ensures.grows;
+  stand = c.in_ok-class.ensures.stand;
+  left =
+      let C : Classed = classed_seen (frames_of c.loop-part.s) c.loop-part.class in
+      then_ok (class_step (table_in c.args.s.now) (asks (table_in c.args.s.now) c.args.ask.now) C c.part-item.result)
+      (λ next. class_behind (table_in c.args.s.now) (asks (table_in c.args.s.now) c.args.ask.now) next (drop (c.loop-part.part-index + 1) c.args.parts.now))
+      (classed_seen (frames_of c.class_step.new.s) c.in_ok-class.class) _
+      (class_names_step (table_in c.args.s.now) (asks (table_in c.args.s.now) c.args.ask.now) C c.part-item.result (drop (c.loop-part.part-index + 1) c.args.parts.now)
+      ∙ left_from (class_behind (table_in c.args.s.now) (asks (table_in c.args.s.now) c.args.ask.now) C) c.args.parts.now c.loop-part.part-index c.part-item.result _ c.loop-part-test.true c.part-item.is c.loop-part.invariant.left)
+      (told_of (λ t. class_step t (asks t c.args.ask.now) C c.part-item.result) c.args.s.now c.loop-part.s _ c.loop-part.invariant.grows c.in_ok-class.ensures.value);
+}
+
+pub bases::class_named-returns-in_err-first-clause-value : goal.bases::class_named-returns-in_err-first-clause-value
+bases::class_named-returns-in_err-first-clause-value t c =
+    let p = err_from_is_err_and c.from_residual.result c.from_residual.ensures.1 in
+    let A : Asking = asks (table_in c.args.s.now) c.args.ask.now in
+    let S : Scope = scope_in (frames_of c.args.s.now) c.args.scope.now.frame.0 c.args.scope.now.iters in
+    exit_err (classed_seen (frames_of c.class_first.new.s)) _ c.from_residual.result c.in_err-first.field-0.0 c.args.s.now c.args.s.now
+    (λ t. first_of_parts t (asks t c.args.ask.now) c.args.bare c.args.reference.now.top S c.args.reference.now.parts)
+    (λ class. class_behind (table_in c.args.s.now) A class (drop 1 c.args.reference.now.parts)) _ (p.1 ∙ ap Err p.2)
+    (grows_refl c.args.s.now) c.in_err-first.ensures.value
+    (class_named_is (table_in c.args.s.now) A c.args.bare S c.args.reference.now)
+
+pub bases::class_named-returns-clause-value : goal.bases::class_named-returns-clause-value
+bases::class_named-returns-clause-value t c =
+    let A : Asking = asks (table_in c.args.s.now) c.args.ask.now in
+    let S : Scope = scope_in (frames_of c.args.s.now) c.args.scope.now.frame.0 c.args.scope.now.iters in
+    let C : Classed = classed_seen (frames_of c.class_first.new.s) c.in_ok-first.first in
+    later_gives _ c.class_behind.result c.args.s.now c.class_first.new.s
+    (λ t. class_behind t (asks t c.args.ask.now) C c.behind_first-parts.result.now) _
+    c.in_ok-first.ensures.grows c.class_behind.ensures.value
+    (ap (class_behind (table_in c.args.s.now) A C) (c.behind_first-parts.ensures ∙ ap (drop 1) c.as_slice.ensures)
+    ∙ then_ok (first_of_parts (table_in c.args.s.now) A c.args.bare c.args.reference.now.top S c.args.reference.now.parts)
+    (λ class. class_behind (table_in c.args.s.now) A class (drop 1 c.args.reference.now.parts)) C _
+    (class_named_is (table_in c.args.s.now) A c.args.bare S c.args.reference.now)
+    c.in_ok-first.ensures.value)
+
+pub bases::base_walked-with_base-requires-clause-so_far : goal.bases::base_walked-with_base-requires-clause-so_far
+bases::base_walked-with_base-requires-clause-so_far t c = is_walk_later c.args.s.now c.base_elements.new.s c.args.so_far.now c.in_ok-base.ensures.grows c.requires.so_far
+
+pub bases::walked_parts-returns-in_err-item-clause-value : goal.bases::walked_parts-returns-in_err-item-clause-value
+bases::walked_parts-returns-in_err-item-clause-value t c =
+    let p = err_from_is_err_and c.from_residual.result c.from_residual.ensures.1 in
+    let F : Frame = frame_at c.args.s.now c.args.frame.0 in
+    let A : Asking = asks (table_in c.args.s.now) c.args.ask.now in
+    let row : Option Row = row_at (table_in c.args.s.now) (class_of F) in
+    let W : Walked = walk_seen (frames_of c.loop-at.s) c.loop-at.so_far in
+    let part : Part = part_seen c.part_at-part.result in
+    let read : slice_get (parts_of row) c.loop-at.at ≡ Some part = part_read c.args.s.now c.loop-at.s c.class_of-class.result.0 F c.loop-at.at part c.loop-at.invariant.grows c.class_of-class.ensures.is c.part_at-part.ensures.is in
+    exit_same {T = ℕ} (λ _. walk_seen (frames_of c.part_walked.new.s) c.part_walked.new.so_far) _ c.from_residual.result c.in_err-item.field-0.0 _ (part_walked (table_in c.args.s.now) A F row c.loop-at.item part W)
+    (λ w. parts_walked (table_in c.args.s.now) A F row (next_item part c.loop-at.item) (drop (c.loop-at.at + 1) (parts_of row)) w) _
+    (p.1 ∙ ap Err p.2) (part_told c.args.s.now c.loop-at.s c.args.ask.now c.args.frame.0 c.loop-at.item part W c.loop-at.invariant.grows c.requires.frame) c.in_err-item.ensures.value
+    (left_read (λ ps. parts_walked (table_in c.args.s.now) A F row c.loop-at.item ps W) (parts_of row) c.loop-at.at part _ read c.loop-at.invariant.left)
+
+pub bases::walked_parts-loop-at-preserved : goal.bases::walked_parts-loop-at-preserved
+bases::walked_parts-loop-at-preserved t c =
+    let F : Frame = frame_at c.args.s.now c.args.frame.0 in
+    let A : Asking = asks (table_in c.args.s.now) c.args.ask.now in
+    let row : Option Row = row_at (table_in c.args.s.now) (class_of F) in
+    let W : Walked = walk_seen (frames_of c.loop-at.s) c.loop-at.so_far in
+    let part : Part = part_seen c.part_at-part.result in
+    let read : slice_get (parts_of row) c.loop-at.at ≡ Some part = part_read c.args.s.now c.loop-at.s c.class_of-class.result.0 F c.loop-at.at part c.loop-at.invariant.grows c.class_of-class.ensures.is c.part_at-part.ensures.is in
+    record {
+      grows = grows_trans c.args.s.now c.loop-at.s c.part_walked.new.s c.loop-at.invariant.grows c.in_ok-item.ensures.grows;
+      stand = c.in_ok-item.ensures.stand;
+      left =
+          ap (λ n. parts_walked (table_in c.args.s.now) A F row n (drop (c.loop-at.at + 1) (parts_of row)) (walk_seen (frames_of c.part_walked.new.s) c.part_walked.new.so_far)) c.in_ok-item.ensures.item
+          ∙ then_same_ok _ (part_walked (table_in c.args.s.now) A F row c.loop-at.item part W)
+          (λ w. parts_walked (table_in c.args.s.now) A F row (next_item part c.loop-at.item) (drop (c.loop-at.at + 1) (parts_of row)) w)
+          (walk_seen (frames_of c.part_walked.new.s) c.part_walked.new.so_far) _
+          (part_told c.args.s.now c.loop-at.s c.args.ask.now c.args.frame.0 c.loop-at.item part W c.loop-at.invariant.grows c.requires.frame)
+          (left_read (λ ps. parts_walked (table_in c.args.s.now) A F row c.loop-at.item ps W) (parts_of row) c.loop-at.at part _ read c.loop-at.invariant.left)
+          c.in_ok-item.ensures.value;
+    }
+
+pub bases::walked_class-returns-in_err-walk-clause-value : goal.bases::walked_class-returns-in_err-walk-clause-value
+bases::walked_class-returns-in_err-walk-clause-value t c =
+    let p = err_from_is_err_and c.from_residual.result c.from_residual.ensures.1 in
+    let A : Asking = asks (table_in c.args.s.now) c.args.ask.now in
+    let F : Frame = frame_at c.args.s.now c.args.frame.0 in
+    let row : Option Row = row_at (table_in c.args.s.now) (class_of F) in
+    exit_same (walk_seen (frames_of c.args.s.now)) _ c.from_residual.result c.in_err-walk.field-0.0 (started F row) (started F row)
+    (λ w. and_then (parts_walked (table_in c.args.s.now) A F row 0 (parts_of row) w) leaf_checked) _ (p.1 ∙ ap Err p.2) refl c.in_err-walk.ensures.value
+    (class_is (table_in c.args.s.now) A F row)
+
+pub bases::walked_class-returns-in_err-walked_parts-clause-value : goal.bases::walked_class-returns-in_err-walked_parts-clause-value
+bases::walked_class-returns-in_err-walked_parts-clause-value t c =
+    let p = err_from_is_err_and c.from_residual-in_err-walked_parts.result c.from_residual-in_err-walked_parts.ensures.1 in
+    let A : Asking = asks (table_in c.args.s.now) c.args.ask.now in
+    let F : Frame = frame_at c.args.s.now c.args.frame.0 in
+    let row : Option Row = row_at (table_in c.args.s.now) (class_of F) in
+    let W : Walked = walk_seen (frames_of c.args.s.now) c.in_ok-walk.walk in
+    exit_same (λ (w : Walked). w) _ c.from_residual-in_err-walked_parts.result c.in_err-walked_parts.field-0.0 (parts_walked (table_in c.args.s.now) A F row 0 (parts_of row) W) (parts_walked (table_in c.args.s.now) A F row 0 (parts_of row) W)
+    leaf_checked _ (p.1 ∙ ap Err p.2) refl c.in_err-walked_parts.ensures.value
+    (then_ok (started F row) (λ w. and_then (parts_walked (table_in c.args.s.now) A F row 0 (parts_of row) w) leaf_checked) W _ (class_is (table_in c.args.s.now) A F row) c.in_ok-walk.ensures.value)
+
+pub bases::walked_class-returns-in_err-leaf_checked-clause-value : goal.bases::walked_class-returns-in_err-leaf_checked-clause-value
+bases::walked_class-returns-in_err-leaf_checked-clause-value t c =
+    let p = err_from_is_err_and c.from_residual-in_err-leaf_checked.result c.from_residual-in_err-leaf_checked.ensures.1 in
+    let A : Asking = asks (table_in c.args.s.now) c.args.ask.now in
+    let F : Frame = frame_at c.args.s.now c.args.frame.0 in
+    let row : Option Row = row_at (table_in c.args.s.now) (class_of F) in
+    let W : Walked = walk_seen (frames_of c.args.s.now) c.in_ok-walk.walk in
+    let V : Walked = walk_seen (frames_of c.walked_parts.new.s) c.walked_parts.new.so_far in
+    exit_is (λ (w : Walked). w) _ c.from_residual-in_err-leaf_checked.result c.in_err-leaf_checked.field-0.0 (leaf_checked V) _ (p.1 ∙ ap Err p.2)
+    (then_ok (parts_walked (table_in c.args.s.now) A F row 0 (parts_of row) W) leaf_checked V _
+    (then_ok (started F row) (λ w. and_then (parts_walked (table_in c.args.s.now) A F row 0 (parts_of row) w) leaf_checked) W _ (class_is (table_in c.args.s.now) A F row) c.in_ok-walk.ensures.value)
+    c.in_ok-walked_parts.ensures.value)
+    c.in_err-leaf_checked.ensures
+
+pub bases::walked_class-returns-clause-value : goal.bases::walked_class-returns-clause-value
+bases::walked_class-returns-clause-value t c =
+    let A : Asking = asks (table_in c.args.s.now) c.args.ask.now in
+    let F : Frame = frame_at c.args.s.now c.args.frame.0 in
+    let row : Option Row = row_at (table_in c.args.s.now) (class_of F) in
+    let W : Walked = walk_seen (frames_of c.args.s.now) c.in_ok-walk.walk in
+    let V : Walked = walk_seen (frames_of c.walked_parts.new.s) c.walked_parts.new.so_far in
+    sym (then_ok (parts_walked (table_in c.args.s.now) A F row 0 (parts_of row) W) leaf_checked V _
+    (then_ok (started F row) (λ w. and_then (parts_walked (table_in c.args.s.now) A F row 0 (parts_of row) w) leaf_checked) W _ (class_is (table_in c.args.s.now) A F row) c.in_ok-walk.ensures.value)
+    c.in_ok-walked_parts.ensures.value)
+    ∙ c.in_ok-leaf_checked.ensures

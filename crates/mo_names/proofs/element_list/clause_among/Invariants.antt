@@ -1,0 +1,9 @@
+-- The clause among the parts that are left is the one that was asked for.
+use Rattle.std.proofs.Common.{◌≡◌, drop, map}
+use Rattle.std.specs.Prelude.{slice_get}
+use Rattle.mo_scope.specs.Rows.{clauses_in}
+use Rattle.mo_scope.specs.Sights.{part_seen}
+use Rattle.mo_names.proofs.element_list.clause_among.Given as goal
+
+abbrev pub invariant-loop-part : goal.invariant-loop-part
+invariant-loop-part l = slice_get (clauses_in (map part_seen (drop l.part-index l.parts))) l.left ≡ slice_get (clauses_in (map part_seen l.parts)) l.clause

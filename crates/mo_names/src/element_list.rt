@@ -1,0 +1,187 @@
+//! The elements of frames and their bases.
+#![tactic(auto, using(crate::proofs::Later::later))]
+
+ghost use Rattle.std.specs.Prelude.{◌≡◌, ◌<◌, Some, length, map, option_map, slice_get, IfOk, IfSome};
+ghost use Rattle.mo_scope.specs.Names.{base_frame_of, clauses_of, elements_of, walk_of as walk_of_frame};
+ghost use Rattle.mo_scope.specs.Outcome.{Gives};
+ghost use Rattle.mo_scope.specs.Places.{Every};
+ghost use Rattle.mo_scope.specs.Rows.{Clause as Extends, clauses_in};
+ghost use Rattle.mo_scope.specs.Sights.{clause_seen, member_seen, part_seen};
+ghost use Rattle.mo_scope.specs.Worlds.{Grows, IsFrame, frame_at, frames_of, table_in};
+ghost use Rattle.mo_names.specs.Sights.{IsMember, IsWalk, member_of, walk_seen};
+
+use crate::bases::base_found;
+use crate::found::Ask;
+use crate::free::{class_count, elements_at};
+use crate::walk::{Inherited, Walk};
+use mo_scope::{Clause, Member, MemberTable, Part, Scopes, copied};
+use mo_syntax::{FrameId, List, NoMemory, Place, Stop};
+use std::alloc::Global;
+
+/// The elements of a frame with the base frames on the way to them. A broken rule is the first one that the inheritance of its
+/// class breaks.
+pub fn walk_of<'t>(alloc: Global, s: &mut Scopes<'t>, frame: FrameId) -> Result<Walk<'t>, Stop>
+    requires { IsFrame s.old frame.0 }
+    ensures grows { Grows s.old s.new }
+    ensures value { Gives (walk_seen (frames_of s.new)) result (walk_of_frame (table_in s.old) (frame_at s.old frame.0)) }
+    ensures stand { IfOk result (IsWalk s.new) }
+{
+    elements_at(alloc, s, frame, Place { file: 0, byte: 0 })
+}
+
+/// The elements that are held, without the base frames on the way to them.
+fn members_held<'t>(alloc: Global, held: &[Inherited<'t>]) -> Result<List<Member<'t>>, NoMemory>
+    ensures { IfOk result (λ made. made ≡ map (λ inherited. inherited.member) held.now) }
+{
+    let mut made = List::new(alloc);
+    for inherited in held {
+        made.push(inherited.member)?;
+    }
+    Ok(made)
+}
+
+/// The elements of a frame, found by a walk.
+fn elements_found<'t>(
+    alloc: Global,
+    s: &mut Scopes<'t>,
+    frame: FrameId,
+) -> Result<List<Member<'t>>, Stop>
+    requires { IsFrame s.old frame.0 }
+    ensures grows { Grows s.old s.new }
+    ensures value { Gives (map (member_of (frames_of s.new))) result (elements_of (table_in s.old) (frame_at s.old frame.0)) }
+    ensures stand { IfOk result (Every (IsMember s.new)) }
+{
+    let walk = walk_of(alloc, s, frame)?;
+    let members = members_held(alloc, walk.members.as_slice())?;
+    Ok(members)
+}
+
+/// The table of some elements.
+fn table_of<'t>(alloc: Global, members: &[Member<'t>]) -> Result<MemberTable<'t>, NoMemory>
+    ensures { IfOk result (λ made. made ≡ map member_seen members.now) }
+{
+    let mut made = MemberTable::new(alloc);
+    for member in members {
+        made.push(*member)?;
+    }
+    Ok(made)
+}
+
+/// Keeps the elements of a frame.
+fn elements_kept<'t>(
+    alloc: Global,
+    s: &mut Scopes<'t>,
+    frame: FrameId,
+    members: &[Member<'t>],
+) -> Result<(), NoMemory>
+    requires frame { IsFrame s.old frame.0 }
+    requires elements { elements_of (table_in s.old) (frame_at s.old frame.0) ≡ Ok (map (member_of (frames_of s.old)) members.now) }
+    requires members { Every (IsMember s.old) members.now }
+    ensures grows { Grows s.old s.new }
+{
+    let table = table_of(alloc, members)?;
+    s.keep(alloc, frame, table)
+}
+
+/// The elements of a frame by the table that is kept, None where none is.
+#[tactic(auto, using(crate::proofs::Later::later, crate::proofs::Listing::listing))]
+fn elements_by_table<'t>(
+    alloc: Global,
+    s: &Scopes<'t>,
+    frame: FrameId,
+) -> Result<Option<List<Member<'t>>>, NoMemory>
+    requires { IsFrame s.now frame.0 }
+    ensures are { IfOk result (λ kept. IfSome kept (λ members. elements_of (table_in s.now) (frame_at s.now frame.0) ≡ Ok (map (member_of (frames_of s.now)) members))) }
+    ensures stand { IfOk result (λ kept. IfSome kept (Every (IsMember s.now))) }
+{
+    match s.table(frame) {
+        Some(table) => {
+            let members = copied(alloc, table.members())?;
+            Ok(Some(members))
+        }
+        None => Ok(None),
+    }
+}
+
+/// The elements of a frame in their order, inherited and own. The first time they are found and kept; after that they are those
+/// of the table that is kept. A broken rule is the first one that the inheritance of its class breaks.
+#[tactic(auto, using(crate::proofs::Later::later, crate::proofs::Listing::listing))]
+pub fn elements<'t>(
+    alloc: Global,
+    s: &mut Scopes<'t>,
+    frame: FrameId,
+) -> Result<List<Member<'t>>, Stop>
+    requires { IsFrame s.old frame.0 }
+    ensures grows { Grows s.old s.new }
+    ensures value { Gives (map (member_of (frames_of s.new))) result (elements_of (table_in s.old) (frame_at s.old frame.0)) }
+    ensures stand { IfOk result (Every (IsMember s.new)) }
+{
+    if let Some(members) = elements_by_table(alloc, s, frame)? {
+        return Ok(members);
+    }
+    let members = elements_found(alloc, s, frame)?;
+    elements_kept(alloc, s, frame, members.as_slice())?;
+    Ok(members)
+}
+
+/// The extends clause among some parts with so many before it.
+fn clause_among<'t>(parts: &[Part<'t>], clause: u32) -> Option<Clause<'t>>
+    ensures { option_map clause_seen result ≡ slice_get (clauses_in (map part_seen parts.now)) clause }
+{
+    let mut left = clause;
+    for part in parts {
+        if let Part::Base(found) = part {
+            if left == 0 {
+                return Some(*found);
+            }
+            left -= 1;
+        }
+    }
+    None
+}
+
+/// The extends clause of a frame's class with so many before it.
+fn clause_at<'t>(s: &Scopes<'t>, frame: FrameId, clause: u32) -> Option<Clause<'t>>
+    requires { IsFrame s.now frame.0 }
+    ensures { option_map clause_seen result ≡ slice_get (clauses_of (table_in s.now) (frame_at s.now frame.0)) clause }
+{
+    match s.row(s.class_of(frame)) {
+        Some(row) => clause_among(row.parts.as_slice(), clause),
+        None => None,
+    }
+}
+
+/// The base frame of an extends clause of a frame's class.
+fn base_at<'t>(
+    alloc: Global,
+    s: &mut Scopes<'t>,
+    frame: FrameId,
+    clause: &Clause<'t>,
+) -> Result<FrameId, Stop>
+    requires { IsFrame s.old frame.0 }
+    ensures grows { Grows s.old s.new }
+    ensures value { Gives (λ base. frame_at s.new base.0) result (base_frame_of (table_in s.old) (frame_at s.old frame.0) (clause_seen clause.now)) }
+    ensures stand { IfOk result (λ base. IsFrame s.new base.0) }
+{
+    let busy = [s.class_of(frame).0];
+    let ask = Ask {
+        left: class_count(s)?,
+        busy: &busy,
+        place: Place { file: 0, byte: 0 },
+    };
+    base_found(alloc, s, &ask, frame, clause)
+}
+
+/// The base frame of the extends clause of a frame's class with so many before it. A broken rule is one that its name breaks.
+pub fn base_of(alloc: Global, s: &mut Scopes, frame: FrameId, clause: u32) -> Result<FrameId, Stop>
+    requires frame { IsFrame s.old frame.0 }
+    requires clause { clause < length (clauses_of (table_in s.old) (frame_at s.old frame.0)) }
+    ensures grows { Grows s.old s.new }
+    ensures value { (extends : Extends) → slice_get (clauses_of (table_in s.old) (frame_at s.old frame.0)) clause ≡ Some extends → Gives (λ base. frame_at s.new base.0) result (base_frame_of (table_in s.old) (frame_at s.old frame.0) extends) }
+    ensures stand { IfOk result (λ base. IsFrame s.new base.0) }
+{
+    match clause_at(s, frame, clause) {
+        Some(found) => base_at(alloc, s, frame, &found),
+        None => unreachable!(),
+    }
+}

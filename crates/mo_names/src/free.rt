@@ -1,0 +1,129 @@
+//! Lookup where no class is having its bases found.
+#![tactic(auto, using(crate::proofs::Later::later))]
+
+ghost use Rattle.std.specs.Prelude.{◌≡◌, false, None, IfOk};
+ghost use Rattle.mo_scope.specs.Lookup.{asking_of, behind_class as found_behind_class, class_named as named_class, reached as reached_of};
+ghost use Rattle.mo_scope.specs.Outcome.{Gives};
+ghost use Rattle.mo_scope.specs.Rows.{number_of_classes};
+ghost use Rattle.mo_scope.specs.Worlds.{Grows, IsFrame, frame_at, frames_of, scope_in, table_in};
+ghost use Rattle.mo_names.specs.Past.{first_met};
+ghost use Rattle.mo_names.specs.Sights.{IsFound, IsReached, IsWalk, classed_seen, found_in, met_seen, reached_seen, walk_seen};
+
+use crate::bases::{class_named, found_first};
+use crate::circle::{behind_class, reached, walked};
+use crate::found::{Ask, Classed, Found, Met, Reached};
+use crate::walk::Walk;
+use mo_scope::{ScopeAt, Scopes};
+use mo_syntax::{FrameId, NoMemory, Place, Reference, Stop, Text};
+use std::alloc::Global;
+
+/// How many classes there are, the predefined types among them.
+pub(crate) fn class_count(s: &Scopes) -> Result<usize, NoMemory>
+    ensures { IfOk result (λ count. count ≡ number_of_classes (table_in s.now)) }
+{
+    s.class_count().checked_add(6).ok_or(NoMemory)
+}
+
+/// The elements of a frame, asked for at a place.
+pub(crate) fn elements_at<'t>(
+    alloc: Global,
+    s: &mut Scopes<'t>,
+    frame: FrameId,
+    place: Place,
+) -> Result<Walk<'t>, Stop>
+    requires { IsFrame s.old frame.0 }
+    ensures grows { Grows s.old s.new }
+    ensures value { Gives (walk_seen (frames_of s.new)) result ((asking_of (table_in s.old)).elements place (frame_at s.old frame.0)) }
+    ensures stand { IfOk result (IsWalk s.new) }
+{
+    let ask = Ask {
+        left: class_count(s)?,
+        busy: &[],
+        place,
+    };
+    walked(alloc, s, &ask, frame)
+}
+
+/// What a name reaches among the elements of a frame.
+pub(crate) fn reached_at<'t>(
+    alloc: Global,
+    s: &mut Scopes<'t>,
+    frame: FrameId,
+    name: &Text,
+    place: Place,
+) -> Result<Reached<'t>, Stop>
+    requires { IsFrame s.old frame.0 }
+    ensures grows { Grows s.old s.new }
+    ensures value { Gives (reached_seen (frames_of s.new)) result (reached_of (table_in s.old) (asking_of (table_in s.old)) place (frame_at s.old frame.0) name.now) }
+    ensures stand { IfOk result (IsReached s.new) }
+{
+    let ask = Ask {
+        left: class_count(s)?,
+        busy: &[],
+        place,
+    };
+    reached(alloc, s, &ask, frame, name)
+}
+
+/// What stands behind a class.
+pub(crate) fn behind_class_at<'t>(
+    alloc: Global,
+    s: &mut Scopes<'t>,
+    frame: FrameId,
+    name: &Text,
+    place: Place,
+) -> Result<Found<'t>, Stop>
+    requires { IsFrame s.old frame.0 }
+    ensures grows { Grows s.old s.new }
+    ensures value { Gives (found_in (frames_of s.new)) result (found_behind_class (table_in s.old) (asking_of (table_in s.old)) place place None (frame_at s.old frame.0) name.now) }
+    ensures stand { IfOk result (IsFound s.new) }
+{
+    let ask = Ask {
+        left: class_count(s)?,
+        busy: &[],
+        place,
+    };
+    behind_class(alloc, s, &ask, place, None, frame, name)
+}
+
+/// What the first identifier of a name finds; a leading dot starts at the top.
+pub(crate) fn first_at<'t>(
+    alloc: Global,
+    s: &mut Scopes<'t>,
+    at: &ScopeAt,
+    top: bool,
+    name: &Text,
+    place: Place,
+) -> Result<Met<'t>, Stop>
+    requires { IsFrame s.old at.now.frame.0 }
+    ensures grows { Grows s.old s.new }
+    ensures value { Gives (met_seen (frames_of s.new)) result (first_met (table_in s.old) (asking_of (table_in s.old)) false top (scope_in (frames_of s.old) at.now.frame.0 at.now.iters) place name.now) }
+    ensures stand { IfOk result (λ met. IsFound s.new met.found) }
+{
+    let ask = Ask {
+        left: class_count(s)?,
+        busy: &[],
+        place,
+    };
+    found_first(alloc, s, &ask, false, top, at, name)
+}
+
+/// The class that the name of a type or a constraining class finds in a scope.
+pub(crate) fn class_named_at(
+    alloc: Global,
+    s: &mut Scopes,
+    at: &ScopeAt,
+    reference: &Reference,
+) -> Result<Classed, Stop>
+    requires { IsFrame s.old at.now.frame.0 }
+    ensures grows { Grows s.old s.new }
+    ensures value { Gives (classed_seen (frames_of s.new)) result (named_class (table_in s.old) (asking_of (table_in s.old)) false (scope_in (frames_of s.old) at.now.frame.0 at.now.iters) reference.now) }
+    ensures stand { IfOk result (λ class. IsFrame s.new class.frame.0) }
+{
+    let ask = Ask {
+        left: class_count(s)?,
+        busy: &[],
+        place: Place { file: 0, byte: 0 },
+    };
+    class_named(alloc, s, &ask, false, at, reference)
+}

@@ -1,0 +1,109 @@
+//! What simple names find.
+#![tactic(auto, using(crate::proofs::Later::later))]
+
+ghost use Rattle.std.specs.Prelude.{IfOk};
+ghost use Rattle.mo_scope.specs.Lookup.{asking_of, reached as reached_of};
+ghost use Rattle.mo_scope.specs.Names.{constant_unless, found as found_of, taken as taken_found};
+ghost use Rattle.mo_scope.specs.Outcome.{Gives};
+ghost use Rattle.mo_scope.specs.Worlds.{Grows, IsFrame, frame_at, frames_of, scope_in, table_in};
+ghost use Rattle.mo_names.specs.Children.{first_found};
+ghost use Rattle.mo_names.specs.Sights.{IsFound, IsReached, found_in, reached_seen};
+
+use crate::found::{Found, Reached};
+use crate::free::{first_at, reached_at};
+use crate::outer::stands_for;
+use crate::own::is_constant_declared;
+use crate::stops::stop;
+use mo_scope::{ScopeAt, Scopes};
+use mo_syntax::{FrameId, Place, Stop, Text};
+use std::alloc::Global;
+
+/// What a name reaches among the elements of a frame: the own ones come first, and its bases are found only where none of them
+/// has the name. Where rule 18 is broken, it is at this place.
+pub fn find_element<'t>(
+    alloc: Global,
+    s: &mut Scopes<'t>,
+    frame: FrameId,
+    name: &Text,
+    place: Place,
+) -> Result<Reached<'t>, Stop>
+    requires { IsFrame s.old frame.0 }
+    ensures grows { Grows s.old s.new }
+    ensures value { Gives (reached_seen (frames_of s.new)) result (reached_of (table_in s.old) (asking_of (table_in s.old)) place (frame_at s.old frame.0) name.now) }
+    ensures stand { IfOk result (IsReached s.new) }
+{
+    reached_at(alloc, s, frame, name, place)
+}
+
+/// Asks that a component which is not near is a constant.
+fn constant_or_near(s: &Scopes, near: bool, found: &Found, place: Place) -> Result<(), Stop>
+    ensures { Gives (λ _. found_in (frames_of s.now) found.now) result (constant_unless near place (found_in (frames_of s.now) found.now)) }
+{
+    match found {
+        Found::Component(_, member) => {
+            if near || is_constant_declared(&member.declares) {
+                Ok(())
+            } else {
+                Err(stop(15, place))
+            }
+        }
+        Found::Class(_, _)
+        | Found::Literal(_, _)
+        | Found::Iteration(_)
+        | Found::Function(_)
+        | Found::Time => Ok(()),
+    }
+}
+
+/// What was found, asked for a constant and then for the inner component.
+pub(crate) fn taken<'t>(
+    alloc: Global,
+    s: &mut Scopes<'t>,
+    near: bool,
+    found: &Found<'t>,
+    place: Place,
+) -> Result<Found<'t>, Stop>
+    requires { IsFound s.old found.now }
+    ensures grows { Grows s.old s.new }
+    ensures value { Gives (found_in (frames_of s.new)) result (taken_found (table_in s.old) near place (found_in (frames_of s.old) found.now)) }
+    ensures stand { IfOk result (IsFound s.new) }
+{
+    constant_or_near(s, near, found, place)?;
+    stands_for(alloc, s, found, place)
+}
+
+/// What a simple name in an expression finds in a scope, where it stands at that place: among the iteration variables, then
+/// outwards from frame to frame. A component of an enclosing frame is a constant, and one that is declared `outer` stands for
+/// the inner one. Breaks 12 to 19, 24, 34 and 45.
+pub fn find<'t>(
+    alloc: Global,
+    s: &mut Scopes<'t>,
+    at: &ScopeAt,
+    name: &Text,
+    place: Place,
+) -> Result<Found<'t>, Stop>
+    requires { IsFrame s.old at.now.frame.0 }
+    ensures grows { Grows s.old s.new }
+    ensures value { Gives (found_in (frames_of s.new)) result (found_of (table_in s.old) (scope_in (frames_of s.old) at.now.frame.0 at.now.iters) name.now place) }
+    ensures stand { IfOk result (IsFound s.new) }
+{
+    find_first(alloc, s, at, false, name, place)
+}
+
+/// What the first identifier of a name in an expression finds in a scope; behind a leading dot it is found at the top.
+pub fn find_first<'t>(
+    alloc: Global,
+    s: &mut Scopes<'t>,
+    at: &ScopeAt,
+    top: bool,
+    name: &Text,
+    place: Place,
+) -> Result<Found<'t>, Stop>
+    requires { IsFrame s.old at.now.frame.0 }
+    ensures grows { Grows s.old s.new }
+    ensures value { Gives (found_in (frames_of s.new)) result (first_found (table_in s.old) top (scope_in (frames_of s.old) at.now.frame.0 at.now.iters) name.now place) }
+    ensures stand { IfOk result (IsFound s.new) }
+{
+    let met = first_at(alloc, s, at, top, name, place)?;
+    taken(alloc, s, met.near, &met.found, place)
+}

@@ -1,0 +1,197 @@
+//! Components that are declared `outer` (Modelica Language Specification 3.5, section 5.4).
+#![tactic(auto, using(crate::proofs::Later::later))]
+
+ghost use Rattle.std.specs.Prelude.{◌≡◌, ◌&&◌, map, option_map, IfOk, IfSome};
+ghost use Rattle.std.specs.Str.{bytes_eq};
+ghost use Rattle.mo_scope.specs.Frames.{at_eq, indexed_eq, is_same_element as is_one_element, numbers_eq};
+ghost use Rattle.mo_scope.specs.Lookup.{Component as found_component};
+ghost use Rattle.mo_scope.specs.Names.{inner_of as inner_component, is_inner_for, stands_for as stood_for};
+ghost use Rattle.mo_scope.specs.Outcome.{Gives};
+ghost use Rattle.mo_scope.specs.Places.{Every};
+ghost use Rattle.mo_scope.specs.Worlds.{Grows, IsFrame, frame_at, frames_of, table_in};
+ghost use Rattle.mo_names.specs.Children.{IsComponent, component_seen, first_inner, inner_in_frame};
+ghost use Rattle.mo_names.specs.Sights.{IsFound, IsInherited, IsMember, found_in, inherited_seen, member_of};
+
+use crate::found::Found;
+use crate::free::elements_at;
+use crate::own::is_class_declared;
+use crate::same::is_same_class;
+use crate::stops::stop;
+use crate::walk::Inherited;
+use mo_scope::{Member, Scopes};
+use mo_syntax::{FrameId, InstancePath, List, Place, Stop, Text};
+use std::alloc::Global;
+
+/// Whether two names of instance paths are one, with one index.
+fn is_same_name(a: &(Text, List<u32>), b: &(Text, List<u32>)) -> bool
+    ensures { result ≡ (bytes_eq a.now.0 b.now.0 && numbers_eq a.now.1 b.now.1) }
+{
+    if !a.0.equals(&b.0) {
+        return false;
+    }
+    a.1.as_slice() == b.1.as_slice()
+}
+
+/// Whether two instance paths have the same names with the same indices.
+fn are_same_names(a: &[(Text, List<u32>)], b: &[(Text, List<u32>)]) -> bool
+    ensures { result ≡ indexed_eq a.now b.now }
+{
+    if a.len() != b.len() {
+        return false;
+    }
+    for i in 0..a.len() {
+        if !is_same_name(&a[i], &b[i]) {
+            return false;
+        }
+    }
+    true
+}
+
+/// Whether two instance paths are one, or both are missing.
+fn is_same_path(a: Option<&InstancePath>, b: Option<&InstancePath>) -> bool
+    ensures { result ≡ at_eq (option_map (λ path. path.now.0) a.entry) (option_map (λ path. path.now.0) b.entry) }
+{
+    match (a, b) {
+        (None, None) => true,
+        (Some(a), Some(b)) => are_same_names(a.0.as_slice(), b.0.as_slice()),
+        _ => false,
+    }
+}
+
+/// Whether two elements are one declaration in one instance.
+fn is_same_element(s: &Scopes, a: &Member, b: &Member) -> bool
+    requires a { IsFrame s.now a.now.home.0 }
+    requires b { IsFrame s.now b.now.home.0 }
+    ensures { result ≡ is_one_element (member_of (frames_of s.now) a.now) (member_of (frames_of s.now) b.now) }
+{
+    if !is_same_class(s, a.home, b.home) {
+        return false;
+    }
+    if a.item != b.item {
+        return false;
+    }
+    is_same_path(s.path(a.home), s.path(b.home))
+}
+
+/// Whether an element is the inner one for an outer component: another component of its name that is declared `inner`.
+fn is_inner(s: &Scopes, outer: &Member, member: &Member) -> bool
+    requires outer { IsFrame s.now outer.now.home.0 }
+    requires member { IsFrame s.now member.now.home.0 }
+    ensures { result ≡ is_inner_for (member_of (frames_of s.now) outer.now) (member_of (frames_of s.now) member.now) }
+{
+    if !member.name.equals(outer.name) {
+        return false;
+    }
+    if !member.declares.flags.inner {
+        return false;
+    }
+    if is_class_declared(&member.declares) {
+        return false;
+    }
+    !is_same_element(s, member, outer)
+}
+
+/// The first of some elements that is the inner one for an outer component.
+fn inner_among<'t>(
+    s: &Scopes<'t>,
+    outer: &Member<'t>,
+    members: &[Inherited<'t>],
+) -> Option<Member<'t>>
+    requires outer { IsMember s.now outer.now }
+    requires members { Every (IsInherited s.now) members.now }
+    ensures is { option_map (member_of (frames_of s.now)) result ≡ first_inner (member_of (frames_of s.now) outer.now) (map (inherited_seen (frames_of s.now)) members.now) }
+    ensures exists { IfSome result (IsMember s.now) }
+{
+    for inherited in members {
+        if is_inner(s, outer, &inherited.member) {
+            return Some(inherited.member);
+        }
+    }
+    None
+}
+
+/// The inner component among the elements of a frame.
+fn inner_in<'t>(
+    alloc: Global,
+    s: &mut Scopes<'t>,
+    outer: &Member<'t>,
+    owner: FrameId,
+    place: Place,
+) -> Result<Option<Member<'t>>, Stop>
+    requires outer { IsMember s.old outer.now }
+    requires owner { IsFrame s.old owner.0 }
+    ensures grows { Grows s.old s.new }
+    ensures value { Gives (option_map (member_of (frames_of s.new))) result (inner_in_frame (table_in s.old) place (member_of (frames_of s.old) outer.now) (frame_at s.old owner.0)) }
+    ensures stand { IfOk result (λ member. IfSome member (IsMember s.new)) }
+{
+    let walk = elements_at(alloc, s, owner, place)?;
+    Ok(inner_among(s, outer, walk.members.as_slice()))
+}
+
+/// The component that an outer one stands for, with the frame among whose elements it is: the first one of its name that is
+/// declared `inner` among the elements of the owners of the frame that declares it. None breaks rule 45 at the outer one; an
+/// owner whose bases are not found breaks 18 at this place.
+pub fn inner_of<'t>(
+    alloc: Global,
+    s: &mut Scopes<'t>,
+    outer: &Member<'t>,
+    place: Place,
+) -> Result<(FrameId, Member<'t>), Stop>
+    requires { IsMember s.old outer.now }
+    ensures grows { Grows s.old s.new }
+    ensures value { Gives (component_seen (frames_of s.new)) result (inner_component (table_in s.old) place (member_of (frames_of s.old) outer.now)) }
+    ensures stand { IfOk result (IsComponent s.new) }
+{
+    let mut frame = outer.home;
+    while let Some(owner) = s.owner(frame) {
+        let inner = inner_in(alloc, s, outer, owner, place)?;
+        if let Some(member) = inner {
+            return Ok((owner, member));
+        }
+        frame = owner;
+    }
+    Err(stop(45, outer.declares.place))
+}
+
+/// What a name at that place finds, where a component that is declared `outer` stands for the inner one.
+pub fn stands_for<'t>(
+    alloc: Global,
+    s: &mut Scopes<'t>,
+    found: &Found<'t>,
+    place: Place,
+) -> Result<Found<'t>, Stop>
+    requires { IsFound s.old found.now }
+    ensures grows { Grows s.old s.new }
+    ensures value { Gives (found_in (frames_of s.new)) result (stood_for (table_in s.old) place (found_in (frames_of s.old) found.now)) }
+    ensures stand { IfOk result (IsFound s.new) }
+{
+    match found {
+        Found::Component(frame, member) => component_for(alloc, s, *frame, member, place),
+        Found::Class(_, _)
+        | Found::Literal(_, _)
+        | Found::Iteration(_)
+        | Found::Function(_)
+        | Found::Time => Ok(*found),
+    }
+}
+
+/// The component that one among the elements of a frame stands for.
+fn component_for<'t>(
+    alloc: Global,
+    s: &mut Scopes<'t>,
+    frame: FrameId,
+    member: &Member<'t>,
+    place: Place,
+) -> Result<Found<'t>, Stop>
+    requires frame { IsFrame s.old frame.0 }
+    requires member { IsMember s.old member.now }
+    ensures grows { Grows s.old s.new }
+    ensures value { Gives (found_in (frames_of s.new)) result (stood_for (table_in s.old) place (found_component (frame_at s.old frame.0) (member_of (frames_of s.old) member.now))) }
+    ensures stand { IfOk result (IsFound s.new) }
+{
+    if !member.declares.flags.outer {
+        return Ok(Found::Component(frame, *member));
+    }
+    let (owner, inner) = inner_of(alloc, s, member, place)?;
+    Ok(Found::Component(owner, inner))
+}

@@ -1,0 +1,215 @@
+//! What names of several identifiers find.
+#![tactic(auto, using(crate::proofs::Later::later))]
+
+ghost use Rattle.std.specs.Prelude.{drop, IfOk};
+ghost use Rattle.mo_scope.specs.Names.{behind_component as component_behind, behind_found as one_behind, found_behind as all_behind, found_class as class_found, found_path, found_reference as reference_found};
+ghost use Rattle.mo_scope.specs.Outcome.{Gives};
+ghost use Rattle.mo_scope.specs.Worlds.{Grows, IsFrame, frame_at, frames_of, scope_in, table_in};
+ghost use Rattle.mo_names.specs.Children.{class_next, component_next, found_in_component, next_found, reached_in_component};
+ghost use Rattle.mo_names.specs.Sights.{IsFound, IsMember, found_in, member_of};
+
+use crate::entering::enter_component;
+use crate::found::{Found, Reached};
+use crate::free::{behind_class_at, class_named_at};
+use crate::lookup::{find_element, find_first, taken};
+use crate::outer::stands_for;
+use crate::own::is_class_declared;
+use crate::stops::stop;
+use mo_scope::{Member, ScopeAt, Scopes};
+use mo_syntax::{FrameId, Part, Place, Reference, Stop, Text};
+use std::alloc::Global;
+
+/// A part of a component.
+fn part_of_component<'t>(
+    alloc: Global,
+    s: &mut Scopes<'t>,
+    frame: FrameId,
+    part: &Member<'t>,
+    place: Place,
+) -> Result<Found<'t>, Stop>
+    requires frame { IsFrame s.old frame.0 }
+    requires part { IsMember s.old part.now }
+    ensures grows { Grows s.old s.new }
+    ensures value { Gives (found_in (frames_of s.new)) result (found_in_component (table_in s.old) place (frame_at s.old frame.0) (member_of (frames_of s.old) part.now)) }
+    ensures stand { IfOk result (IsFound s.new) }
+{
+    if is_class_declared(&part.declares) {
+        return Err(stop(13, place));
+    }
+    if part.hidden {
+        return Err(stop(17, place));
+    }
+    stands_for(alloc, s, &Found::Component(frame, *part), place)
+}
+
+/// What a name finds in the frame of a component.
+fn find_in_component<'t>(
+    alloc: Global,
+    s: &mut Scopes<'t>,
+    frame: FrameId,
+    name: &Text,
+    place: Place,
+) -> Result<Found<'t>, Stop>
+    requires { IsFrame s.old frame.0 }
+    ensures grows { Grows s.old s.new }
+    ensures value { Gives (found_in (frames_of s.new)) result (reached_in_component (table_in s.old) place (frame_at s.old frame.0) name.now) }
+    ensures stand { IfOk result (IsFound s.new) }
+{
+    match find_element(alloc, s, frame, name, place)? {
+        Reached::Element(part) => part_of_component(alloc, s, frame, &part, place),
+        Reached::Other(_) => Err(stop(12, place)),
+        Reached::Absent => Err(stop(12, place)),
+    }
+}
+
+/// What an identifier finds in a component, which is entered.
+fn find_entered<'t>(
+    alloc: Global,
+    s: &mut Scopes<'t>,
+    member: &Member<'t>,
+    name: &Text,
+    place: Place,
+) -> Result<Found<'t>, Stop>
+    requires { IsMember s.old member.now }
+    ensures grows { Grows s.old s.new }
+    ensures value { Gives (found_in (frames_of s.new)) result (component_next (table_in s.old) place (member_of (frames_of s.old) member.now) name.now) }
+    ensures stand { IfOk result (IsFound s.new) }
+{
+    let frame = enter_component(alloc, s, member, &[])?;
+    find_in_component(alloc, s, frame, name, place)
+}
+
+/// What an identifier finds behind a component.
+#[tactic(auto, using(crate::proofs::Later::later, crate::proofs::Paths::behind_gives))]
+fn find_behind_component<'t>(
+    alloc: Global,
+    s: &mut Scopes<'t>,
+    member: &Member<'t>,
+    name: &Text,
+    place: Place,
+) -> Result<Found<'t>, Stop>
+    requires { IsMember s.old member.now }
+    ensures grows { Grows s.old s.new }
+    ensures value { Gives (found_in (frames_of s.new)) result (component_behind (table_in s.old) place (member_of (frames_of s.old) member.now) name.now) }
+    ensures stand { IfOk result (IsFound s.new) }
+{
+    find_entered(alloc, s, member, name, place)
+}
+
+/// What an identifier of an expression finds behind a class.
+fn find_behind_class<'t>(
+    alloc: Global,
+    s: &mut Scopes<'t>,
+    frame: FrameId,
+    name: &Text,
+    place: Place,
+) -> Result<Found<'t>, Stop>
+    requires { IsFrame s.old frame.0 }
+    ensures grows { Grows s.old s.new }
+    ensures value { Gives (found_in (frames_of s.new)) result (class_next (table_in s.old) (frame_at s.old frame.0) name.now place) }
+    ensures stand { IfOk result (IsFound s.new) }
+{
+    let found = behind_class_at(alloc, s, frame, name, place)?;
+    taken(alloc, s, false, &found, place)
+}
+
+/// What an identifier of an expression finds behind a dot. Behind a class stands an element of it, of which a component is a
+/// constant; behind a component one of its components. Behind all else nothing is found.
+pub fn find_behind<'t>(
+    alloc: Global,
+    s: &mut Scopes<'t>,
+    found: &Found<'t>,
+    name: &Text,
+    place: Place,
+) -> Result<Found<'t>, Stop>
+    requires { IsFound s.old found.now }
+    ensures grows { Grows s.old s.new }
+    ensures value { Gives (found_in (frames_of s.new)) result (next_found (table_in s.old) (found_in (frames_of s.old) found.now) name.now place) }
+    ensures stand { IfOk result (IsFound s.new) }
+{
+    match found {
+        Found::Component(_, member) => find_behind_component(alloc, s, member, name, place),
+        Found::Class(frame, _) => find_behind_class(alloc, s, *frame, name, place),
+        Found::Literal(_, _) | Found::Iteration(_) | Found::Function(_) | Found::Time => {
+            Err(stop(12, place))
+        }
+    }
+}
+
+/// What one more identifier of a name finds.
+#[tactic(auto, using(crate::proofs::Later::later, crate::proofs::Paths::next_gives))]
+fn find_next<'t>(
+    alloc: Global,
+    s: &mut Scopes<'t>,
+    found: &Found<'t>,
+    part: &Part,
+) -> Result<Found<'t>, Stop>
+    requires { IsFound s.old found.now }
+    ensures grows { Grows s.old s.new }
+    ensures value { Gives (found_in (frames_of s.new)) result (one_behind (table_in s.old) (found_in (frames_of s.old) found.now) part.now) }
+    ensures stand { IfOk result (IsFound s.new) }
+{
+    find_behind(alloc, s, found, &part.name, part.place)
+}
+
+/// What the identifiers behind the first one find.
+fn find_all_behind<'t>(
+    alloc: Global,
+    s: &mut Scopes<'t>,
+    first: Found<'t>,
+    parts: &[Part],
+) -> Result<Found<'t>, Stop>
+    requires { IsFound s.old first }
+    ensures grows { Grows s.old s.new }
+    ensures value { Gives (found_in (frames_of s.new)) result (all_behind (table_in s.old) (found_in (frames_of s.old) first.entry) (drop 1 parts.now)) }
+    ensures stand { IfOk result (IsFound s.new) }
+{
+    let mut found = first;
+    for at in 1..parts.len() {
+        found = find_next(alloc, s, &found, &parts[at])?;
+    }
+    Ok(found)
+}
+
+/// What a name in an expression finds in a scope.
+fn find_reference<'t>(
+    alloc: Global,
+    s: &mut Scopes<'t>,
+    at: &ScopeAt,
+    top: bool,
+    parts: &[Part],
+) -> Result<Found<'t>, Stop>
+    requires { IsFrame s.old at.now.frame.0 }
+    ensures grows { Grows s.old s.new }
+    ensures value { Gives (found_in (frames_of s.new)) result (reference_found (table_in s.old) (scope_in (frames_of s.old) at.now.frame.0 at.now.iters) (record { top = top; parts = parts.now })) }
+    ensures stand { IfOk result (IsFound s.new) }
+{
+    match parts {
+        [part, ..] => {
+            let first = find_first(alloc, s, at, top, &part.name, part.place)?;
+            find_all_behind(alloc, s, first, parts)
+        }
+        [] => Err(stop(12, Place { file: 0, byte: 0 })),
+    }
+}
+
+/// What a name finds in a scope: the name of a type, a base or a constraining class where a class is wanted, else a name in an
+/// expression, whose subscripts do not count. Breaks 12 to 19, 24, 34 and 45, at the identifier that breaks it.
+pub fn find_path<'t>(
+    alloc: Global,
+    s: &mut Scopes<'t>,
+    at: &ScopeAt,
+    path: &Reference,
+    class_wanted: bool,
+) -> Result<Found<'t>, Stop>
+    requires { IsFrame s.old at.now.frame.0 }
+    ensures grows { Grows s.old s.new }
+    ensures value { Gives (found_in (frames_of s.new)) result (found_path (table_in s.old) (scope_in (frames_of s.old) at.now.frame.0 at.now.iters) path.now class_wanted) }
+    ensures stand { IfOk result (IsFound s.new) }
+{
+    if class_wanted {
+        let class = class_named_at(alloc, s, at, path)?;
+        return Ok(Found::Class(class.frame, class.replaceable));
+    }
+    find_reference(alloc, s, at, path.top, path.parts.as_slice())
+}
