@@ -31,7 +31,7 @@ then_ok o f a all is ok = ap (λ x. and_then x f) (sym ok) ∙ is
 pub then_err : {A B : Type 0} (o : Outcome A) (f : A → Outcome B) (b : Broken) (all : Outcome B) → and_then o f ≡ all → o ≡ Err b → all ≡ Err b
 then_err o f b all is err = sym is ∙ ap (λ x. and_then x f) err
 
-then_then : {A B C : Type 0} (o : Outcome A) (f : A → Outcome B) (g : B → Outcome C) → and_then o (λ a. and_then (f a) g) ≡ and_then (and_then o f) g
+pub then_then : {A B C : Type 0} (o : Outcome A) (f : A → Outcome B) (g : B → Outcome C) → and_then o (λ a. and_then (f a) g) ≡ and_then (and_then o f) g
 then_then (Ok a) f g = refl
 then_then (Err b) f g = refl
 

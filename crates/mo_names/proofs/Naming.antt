@@ -8,7 +8,7 @@ use Rattle.mo_scope.specs.Rows.{Table}
 use Rattle.mo_scope.specs.Frames.{Scope}
 use Rattle.mo_scope.specs.Lookup.{Met, Classed, Asking, class_behind, class_named, classed, found_first}
 use Rattle.mo_names.specs.Bases.{first_of_parts}
-use Rattle.mo_names.proofs.Outcomes.{and_then_further}
+use Rattle.mo_names.proofs.Circling.{then_then}
 
 pub class_named_is : (table : Table) (asking : Asking) (bare : Bool) (scope : Scope) (reference : ReferenceOf Expr) →
     and_then (first_of_parts table asking bare reference.top scope reference.parts) (λ class. class_behind table asking class (drop 1 reference.parts)) ≡ class_named table asking bare scope reference
@@ -24,4 +24,4 @@ class_named_is table asking bare scope reference = by reference.parts
         and_then (first_of_parts table asking bare reference.top scope parts) (λ class. class_behind table asking class (drop 1 parts)) ≡ named_from parts
     by [] = refl
     by (part ∷ parts) =
-        sym (and_then_further (found_first table asking bare reference.top scope part) (λ (met : Met). classed part.place met.found) (λ class. class_behind table asking class parts))
+        sym (then_then (found_first table asking bare reference.top scope part) (λ (met : Met). classed part.place met.found) (λ class. class_behind table asking class parts))

@@ -1,13 +1,9 @@
 -- Outcomes, one after another, and answers that are told of them.
-use Rattle.std.proofs.Common.{◌≡◌, Result, Ok, Err, refl, ap, sym, subst, ◌∙◌}
+use Rattle.std.proofs.Common.{◌≡◌, Result, Ok, Err, sym, subst, ◌∙◌}
 use Rattle.mo_syntax.specs.declared.place.Stop.{Stop}
 use Rattle.mo_syntax.specs.declared.place.Stop.TheVariants.{Broken as broken_by, NoMemory as no_memory}
 use Rattle.mo_scope.specs.Outcome.{Outcome, Gives, and_then}
 use Rattle.mo_names.proofs.Circling.{err_on, then_ok}
-
-pub and_then_further : {A B C : Type 0} (o : Outcome A) (f : A → Outcome B) (g : B → Outcome C) → and_then o (λ a. and_then (f a) g) ≡ and_then (and_then o f) g
-and_then_further (Ok a) f g = refl
-and_then_further (Err b) f g = refl
 
 -- an answer that is no value, where what it is told of comes to the same outcome
 pub exit_same : {T U A B : Type 0} (view : T → A) (view' : U → B) (r : Result U Stop) (e : Stop) (o o' : Outcome A) (f : A → Outcome B) (all : Outcome B) → r ≡ Err e → o ≡ o' → Gives view (Err e) o →

@@ -128,12 +128,6 @@ abbrev pub base_at : Table → Asking → Frame → Option Row → Clause → Ou
 base_at table asking frame None clause = Ok frame
 base_at table asking frame (Some row) clause = base_of table asking frame row clause
 
--- the elements of the base of an extends clause behind those before
-abbrev pub base_walked : Table → Asking → Frame → Option Row → Clause → Walked → Outcome Walked
-base_walked table asking frame row clause so_far =
-    and_then (base_at table asking frame row clause) (λ base.
-    and_then (asking.elements (last_place clause.base.parts) base) (λ walked. with_base clause.hidden base walked so_far))
-
 abbrev pub own_inherited : Frame → ℕ → Declares → Inherited
 own_inherited frame item declares = record {
   member = record { name = declares.name; home = frame; item = item; hidden = declares.flags.hidden; declares = declares };
@@ -144,14 +138,3 @@ own_inherited frame item declares = record {
 abbrev pub next_item : Part → ℕ → ℕ
 next_item (Element_of declares) item = item + 1
 next_item (Base_of clause) item = item
-
--- one part of a class
-abbrev pub part_walked : Table → Asking → Frame → Option Row → (item : ℕ) → Part → Walked → Outcome Walked
-part_walked table asking frame row item (Element_of declares) so_far = with_member (own_inherited frame item declares) so_far
-part_walked table asking frame row item (Base_of clause) so_far = base_walked table asking frame row clause so_far
-
--- the parts of a class
-abbrev pub parts_walked : Table → Asking → Frame → Option Row → (item : ℕ) → List Part → Walked → Outcome Walked
-parts_walked table asking frame row item [] so_far = Ok so_far
-parts_walked table asking frame row item (part ∷ parts) so_far =
-    and_then (part_walked table asking frame row item part so_far) (parts_walked table asking frame row (next_item part item) parts)

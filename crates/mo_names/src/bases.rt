@@ -1,7 +1,7 @@
 //! Names of classes and bases: the second half of the circle.
 #![tactic(auto, using(crate::proofs::Later::later))]
 
-ghost use Rattle.std.specs.Prelude.{◌≡◌, ◌<◌, drop, map, IfOk};
+ghost use Rattle.std.specs.Prelude.{◌≡◌, ◌<◌, drop, IfOk};
 ghost use Rattle.mo_scope.specs.Frames.{class_of};
 ghost use Rattle.mo_scope.specs.Lookup.{base_class as class_of_base, class_behind as classes_behind, class_named as named_class, found_from as found_outwards, walked_class as class_walked};
 ghost use Rattle.mo_scope.specs.Outcome.{Gives};
@@ -15,6 +15,7 @@ ghost use Rattle.mo_names.specs.Bases.{PartExists, base_walked as walked_base, b
 ghost use Rattle.mo_names.specs.Steps.{base_at, class_step as classed_step, first_class as classed_first, next_item};
 
 use crate::circle::{behind_class, found_in, walked};
+use crate::depth::depth_of_lookup;
 use crate::found::{Ask, Classed, Found, Met};
 use crate::join::with_base;
 use crate::own_walk::own_walked;
@@ -112,6 +113,7 @@ fn first_class(
         left: ask.left,
         busy: ask.busy,
         place: part.place,
+        depth: ask.depth,
     };
     let met = found_first(alloc, s, &here, bare, top, scope, &part.name)?;
     classed(s, part.place, &met.found)
@@ -166,6 +168,7 @@ fn class_step(
         left: ask.left,
         busy: ask.busy,
         place: part.place,
+        depth: ask.depth,
     };
     let place = part.place;
     let found = behind_class(alloc, s, &here, place, Some(place), class.frame, &part.name)?;
@@ -231,7 +234,13 @@ fn base_class(
         frame,
         iters: List::new(alloc),
     };
-    let class = class_named(alloc, s, ask, true, &scope, clause.base)?;
+    let here = Ask {
+        left: ask.left,
+        busy: ask.busy,
+        place: ask.place,
+        depth: depth_of_lookup(ask.depth),
+    };
+    let class = class_named(alloc, s, &here, true, &scope, clause.base)?;
     if class.replaceable {
         return Err(stop(24, last_place(clause.base.parts.as_slice())));
     }
@@ -278,6 +287,7 @@ fn base_elements<'t>(
         left: ask.left,
         busy: ask.busy,
         place: last_place(clause.base.parts.as_slice()),
+        depth: ask.depth,
     };
     Ok((base, walked(alloc, s, &here, base)?))
 }

@@ -2,18 +2,18 @@
 #![tactic(auto, using(crate::proofs::Later::later))]
 
 ghost use Rattle.std.specs.Prelude.{◌≡◌, ◌+◌, ◌<◌, ◌∷◌, drop, length, map, option_map, IfOk, IfSome, Some, None};
-ghost use Rattle.mo_scope.specs.Frames.{Top, class_of};
-ghost use Rattle.mo_scope.specs.Lookup.{base_class as class_of_base, base_frame as frame_of_base, behind_class as found_behind_class, class_behind as classes_behind, class_named as named_class, counted as counted_member, found_element as element_found, found_first as first_found, found_from as found_outwards, found_in as found_in_frame, found_by_import as found_by_clause, found_by_star as found_by_its_star, import_behind as names_behind, imported as found_imported, imported_package as package_imported, is_package as is_package_frame, reached as reached_of, through_star as found_through_star, walked as walked_of, walked_class as class_walked};
+ghost use Rattle.mo_scope.specs.Frames.{class_of};
+ghost use Rattle.mo_scope.specs.Lookup.{behind_class as found_behind_class, counted as counted_member, found_element as element_found, found_in as found_in_frame, found_by_import as found_by_clause, found_by_star as found_by_its_star, import_behind as names_behind, imported as found_imported, imported_package as package_imported, is_package as is_package_frame, reached as reached_of, through_star as found_through_star, walked as walked_of};
 ghost use Rattle.mo_scope.specs.Outcome.{Gives};
 ghost use Rattle.mo_scope.specs.Rows.{row_at};
-ghost use Rattle.mo_scope.specs.Sights.{clause_seen, part_seen};
-ghost use Rattle.mo_scope.specs.Worlds.{Grows, IsFrame, frame_at, frames_of, scope_in, table_in};
-ghost use Rattle.mo_names.specs.Sights.{IsFound, IsMember, IsReached, IsWalk, asks, classed_seen, found_in as found_seen, member_of, met_seen, reached_seen, walk_seen};
-ghost use Rattle.mo_names.specs.Parts.{imports_of, parts_of};
-ghost use Rattle.mo_names.specs.Steps.{also_found, before_dot as place_before, base_at, base_walked as walked_base, class_step as classed_step, first_class as classed_first, found_by as found_by_kind, found_by_all, found_by_names_or_stars, imports_met, import_step as found_step, next_item, package_at_top as top_package, package_behind as packages_behind, package_step as stepped_package, part_walked as walked_part, parts_walked as walked_parts_from, star_element as found_star_element};
+ghost use Rattle.mo_scope.specs.Worlds.{Grows, IsFrame, frame_at, frames_of, table_in};
+ghost use Rattle.mo_names.specs.Sights.{IsFound, IsMember, IsReached, IsWalk, asks, found_in as found_seen, member_of, met_seen, reached_seen, walk_seen};
+ghost use Rattle.mo_names.specs.Parts.{imports_of};
+ghost use Rattle.mo_names.specs.Steps.{also_found, before_dot as place_before, found_by as found_by_kind, found_by_all, found_by_names_or_stars, imports_met, import_step as found_step, package_at_top as top_package, package_behind as packages_behind, package_step as stepped_package, star_element as found_star_element};
 
 use crate::bases::walked_class;
 use crate::class_element::met;
+use crate::depth::depth_inside;
 use crate::found::{Ask, Found, Met, Reached};
 use crate::importing::{import_at, import_count, imported_names};
 use crate::own::{are_own_open, is_encapsulated_declared, own_named};
@@ -27,9 +27,6 @@ use crate::walk::Walk;
 use mo_scope::{Member, Scopes};
 use mo_syntax::{FrameId, Import, Place, Stop, Text};
 use std::alloc::Global;
-
-/// How many classes at most have their bases found at once: more is want of memory.
-const DEPTH_LIMIT: usize = 6000;
 
 /// The elements of a frame. A class whose bases are being found breaks rule 18 where they are asked for again.
 #[cycle(names)]
@@ -51,14 +48,13 @@ pub(crate) fn walked<'t>(
     if is_busy(ask.busy, class) {
         return Err(stop(18, ask.place));
     }
-    if ask.busy.len() >= DEPTH_LIMIT {
-        return Err(Stop::NoMemory);
-    }
+    let depth = depth_inside(ask.depth)?;
     let busy = busy_with(alloc, ask.busy, class.0)?;
     let inner = Ask {
         left: ask.left - 1,
         busy: busy.as_slice(),
         place: ask.place,
+        depth,
     };
     walked_class(alloc, s, &inner, frame)
 }

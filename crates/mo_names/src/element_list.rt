@@ -168,6 +168,7 @@ fn base_at<'t>(
         left: class_count(s)?,
         busy: &busy,
         place: Place { file: 0, byte: 0 },
+        depth: 0,
     };
     base_found(alloc, s, &ask, frame, clause)
 }

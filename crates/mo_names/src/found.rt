@@ -54,10 +54,13 @@ pub(crate) struct Classed {
 }
 
 /// How the elements of frames are asked: how many classes may still have their bases found, the classes whose bases are being
-/// found, and the place that asks.
+/// found, the place that asks, and how deep the calls stand.
 #[derive(Clone, Copy)]
 pub(crate) struct Ask<'a> {
     pub left: usize,
     pub busy: &'a [u32],
     pub place: Place,
+    /// One for each class whose bases are being found, and more where a name is looked up on the way; 0 from outside. Only
+    /// want of memory depends on it.
+    pub depth: u32,
 }

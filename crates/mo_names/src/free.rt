@@ -40,6 +40,7 @@ pub(crate) fn elements_at<'t>(
         left: class_count(s)?,
         busy: &[],
         place,
+        depth: 0,
     };
     walked(alloc, s, &ask, frame)
 }
@@ -61,6 +62,7 @@ pub(crate) fn reached_at<'t>(
         left: class_count(s)?,
         busy: &[],
         place,
+        depth: 0,
     };
     reached(alloc, s, &ask, frame, name)
 }
@@ -82,6 +84,7 @@ pub(crate) fn behind_class_at<'t>(
         left: class_count(s)?,
         busy: &[],
         place,
+        depth: 0,
     };
     behind_class(alloc, s, &ask, place, None, frame, name)
 }
@@ -104,6 +107,7 @@ pub(crate) fn first_at<'t>(
         left: class_count(s)?,
         busy: &[],
         place,
+        depth: 0,
     };
     found_first(alloc, s, &ask, false, top, at, name)
 }
@@ -124,6 +128,7 @@ pub(crate) fn class_named_at(
         left: class_count(s)?,
         busy: &[],
         place: Place { file: 0, byte: 0 },
+        depth: 0,
     };
     class_named(alloc, s, &ask, false, at, reference)
 }

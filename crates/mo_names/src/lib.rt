@@ -14,6 +14,7 @@
 mod bases;
 mod circle;
 mod class_element;
+mod depth;
 mod element_list;
 mod entering;
 mod found;
