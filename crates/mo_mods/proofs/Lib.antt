@@ -1,6 +1,7 @@
 pub mod Claims
 pub mod Elements
 pub mod Entering
+pub mod Existing
 pub mod Finding
 pub mod Grouping
 pub mod LeftSources

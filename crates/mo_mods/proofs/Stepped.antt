@@ -37,7 +37,7 @@ redeclared_stays : (index : List ℕ) (merged : Merged) → redeclared_here (ent
 redeclared_stays index (Table_of value redeclared below) = refl
 
 -- at a path the table has what the one that is entered has there
-value_stepped : (index : List ℕ) (merged : Merged) (path : List (List ℕ)) →
+pub value_stepped : (index : List ℕ) (merged : Merged) (path : List (List ℕ)) →
     value_here (at_path (stepped index merged) path) ≡ option_map (entered_value index) (value_here (at_path merged path))
 value_stepped index merged [] = refl
 value_stepped index merged (name ∷ names) =
@@ -45,7 +45,7 @@ value_stepped index merged (name ∷ names) =
     ∙ ap value_here (path_entered index (table_for name (tables_below merged)) names)
     ∙ value_entered index (at_path (table_for name (tables_below merged)) names)
 
-redeclared_stepped : (index : List ℕ) (merged : Merged) (next : List ℕ) (path : List (List ℕ)) →
+pub redeclared_stepped : (index : List ℕ) (merged : Merged) (next : List ℕ) (path : List (List ℕ)) →
     redeclared_here (at_path (stepped index merged) (next ∷ path)) ≡ redeclared_here (at_path merged (next ∷ path))
 redeclared_stepped index merged next path =
     ap (λ table. redeclared_here (at_path table path)) (table_entered index next (tables_below merged))

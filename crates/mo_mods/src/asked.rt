@@ -17,7 +17,7 @@ use std::alloc::Global;
 
 /// A path that an argument gives something for.
 #[derive(Drop)]
-pub(crate) struct Claim<'t> {
+pub struct Claim<'t> {
     pub path: List<&'t Text>,
     /// Where the innermost argument stands.
     pub place: Place,
@@ -130,8 +130,9 @@ fn put_nested<'t>(
     Ok(())
 }
 
-/// The paths that an argument gives something for, whose names these are.
-fn claims_by<'t>(
+/// The paths that an argument gives something for, where these are its names and `final` marks it or not. `NoMemory` is the only
+/// other answer.
+pub fn claims_by<'t>(
     alloc: Global,
     argument: &'t Argument,
     names: &'t [Text],

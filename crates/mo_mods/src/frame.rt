@@ -5,6 +5,7 @@ ghost use Rattle.mo_scope.specs.Frames.{sources_of};
 ghost use Rattle.mo_scope.specs.Outcome.{Gives};
 ghost use Rattle.mo_scope.specs.Worlds.{IsFrame, frame_at, frames_of, table_in};
 ghost use Rattle.mo_mods.specs.Merged.{StandsFor};
+ghost use Rattle.mo_mods.specs.Scopes.{ScopesExist};
 ghost use Rattle.mo_mods.specs.Sights.{merged_in};
 
 use crate::asked::arguments;
@@ -29,11 +30,12 @@ fn pass(scopes: &Scopes<'_>, alloc: Global, frame: FrameId) -> Result<(), Stop>
 }
 
 /// The sources of a frame merged into one table. Breaks rules 21, 22 and 23 where the second pass over the arguments of the
-/// sources does. A path of more than 1,000 names is want of memory.
+/// sources does. A path of more than 256 names is want of memory.
 pub fn merge<'t>(scopes: &Scopes<'t>, alloc: Global, frame: FrameId) -> Result<MergedEnv<'t>, Stop>
     requires { IsFrame scopes.now frame.0 }
     ensures broken { Gives (λ _. tt) result (second_pass (table_in scopes.now) (sources_of (frame_at scopes.now frame.0))) }
     ensures stands { IfOk result (λ made. StandsFor (table_in scopes.now) (merged_in (frames_of scopes.now) made) (sources_of (frame_at scopes.now frame.0))) }
+    ensures exist { IfOk result (λ made. ScopesExist scopes.now made) }
 {
     pass(scopes, alloc, frame)?;
     Ok(merged_sources(scopes, alloc, scopes.sources(frame).as_slice())?)

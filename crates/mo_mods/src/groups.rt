@@ -99,8 +99,8 @@ fn put_rest<'s, 't>(
     }
 }
 
-/// An element that replaces an inherited one.
-pub(crate) fn replacing(item: &Item) -> Option<&Element>
+/// The element with `redeclare` that an item of a class is, None where it is none.
+pub fn replacing(item: &Item) -> Option<&Element>
     ensures { option_to_list (option_copied result) ≡ replacing_in item.now }
 {
     match item {

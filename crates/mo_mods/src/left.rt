@@ -96,7 +96,7 @@ pub(crate) fn said_by<'s, 't>(
 }
 
 /// The list behind the names of an argument, None where names are left or it redeclares.
-pub(crate) fn list_behind(argument: &Argument, passed: usize) -> Option<&[Argument]>
+pub fn list_behind(argument: &Argument, passed: usize) -> Option<&[Argument]>
     ensures { unwrap_or (option_copied result) [] ≡ (held (Argued argument.now passed)).list }
 {
     if passed < argument.name.0.len() {

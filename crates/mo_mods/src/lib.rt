@@ -1,6 +1,8 @@
 //! The modifiers of a frame merged into one table (Modelica Language Specification 3.5, section 7.2).
 //!
-//! - `merge`: the sources of a frame as one table, or the first of rules 21 to 23 that their arguments break.
+//! - `merge`: the sources of a frame as one table, or the first of rules 21 to 23 that their arguments break; `merged_sources`: a
+//!   list of sources as one table. `claims_by`: the paths that an argument gives something for, each as a `Claim`;
+//!   `list_behind`, `replacing` and `is_path` read arguments, items and paths.
 //! - `MergedEnv`: for every path a value, a redeclaration, and the tables below it. `binding` finds the value for a path,
 //!   and `step_in` makes the table for an element, entered at an index.
 //!
@@ -19,5 +21,10 @@ mod passes;
 mod paths;
 mod stepping;
 
+pub use asked::{Claim, claims_by};
 pub use env::{MergedEnv, MergedValue, RedeclaredAt};
 pub use frame::merge;
+pub use groups::replacing;
+pub use left::list_behind;
+pub use merging::merged_sources;
+pub use paths::is_path;

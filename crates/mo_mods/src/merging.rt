@@ -5,9 +5,10 @@
 ghost use Rattle.std.specs.Prelude.{◌≡◌, ℕ, List as Seq, None, map, IfOk};
 ghost use Rattle.mo_scope.specs.Frames.{Frame};
 ghost use Rattle.mo_scope.specs.Sights.{source_seen};
-ghost use Rattle.mo_scope.specs.Worlds.{sources_in, table_in};
+ghost use Rattle.mo_scope.specs.Worlds.{AreFrames, World, sources_in, table_in};
 ghost use Rattle.mo_mods.specs.Left.{IsElementOf, IsMergedOf};
 ghost use Rattle.mo_mods.specs.Merged.{StandsFor, redeclared_here, table_for};
+ghost use Rattle.mo_mods.specs.Scopes.{ScopesExist};
 ghost use Rattle.mo_mods.specs.Sights.{below_seen, left_in, merged_in, said_held, said_in};
 
 use crate::env::{MergedEnv, put};
@@ -19,7 +20,7 @@ use std::alloc::Global;
 use std::collections::BTreeMap;
 
 /// How many names a path may have: each takes a call inside the one before.
-const MOST_NAMES: usize = 1000;
+const MOST_NAMES: usize = 256;
 
 /// The table of an element of which so much is said.
 #[cycle(merging)]
@@ -82,13 +83,15 @@ fn merged<'s, 't>(
     })
 }
 
-/// The table that is merged of sources.
-pub(crate) fn merged_sources<'t>(
+/// Sources merged into one table, whatever their arguments break. A path of more than 256 names is want of memory. `NoMemory`
+/// is the only other answer.
+pub fn merged_sources<'t>(
     scopes: &Scopes<'t>,
     alloc: Global,
     sources: &[Source<'t>],
 ) -> Result<MergedEnv<'t>, NoMemory>
-    ensures { IfOk result (λ made. (frames : Seq Frame) → StandsFor (table_in scopes.now) (merged_in frames made) (sources_in frames (map source_seen sources.now))) }
+    ensures stands { IfOk result (λ made. (frames : Seq Frame) → StandsFor (table_in scopes.now) (merged_in frames made) (sources_in frames (map source_seen sources.now))) }
+    ensures exist { IfOk result (λ made. (world : World) → AreFrames world (map source_seen sources.now) → ScopesExist world made) }
 {
     let lefts = lefts_of(alloc, sources)?;
     merged(scopes, alloc, lefts.as_slice(), MOST_NAMES)

@@ -35,7 +35,7 @@ pub(crate) fn key_of(alloc: Global, path: &[&Text]) -> Result<List<u16>, NoMemor
 }
 
 /// Whether two paths have the same names.
-fn is_path(a: &[&Text], b: &[&Text]) -> bool
+pub fn is_path(a: &[&Text], b: &[&Text]) -> bool
     ensures { result ≡ path_eq (map (λ name. name.now) a.now) (map (λ name. name.now) b.now) }
 {
     if a.len() != b.len() {

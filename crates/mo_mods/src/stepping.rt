@@ -3,7 +3,9 @@ ghost use Rattle.std.specs.Prelude.{◌≡◌, List as Seq, option_map, IfOk};
 ghost use Rattle.std.specs.List.{list_any};
 ghost use Rattle.mo_scope.specs.Frames.{Frame};
 ghost use Rattle.mo_scope.specs.Rows.{Table};
+ghost use Rattle.mo_scope.specs.Worlds.{World};
 ghost use Rattle.mo_mods.specs.Merged.{StepsIn, nothing_merged};
+ghost use Rattle.mo_mods.specs.Scopes.{ScopesExist};
 ghost use Rattle.mo_mods.specs.Sights.{below_seen, merged_in, redeclared_in, value_in};
 ghost use Rattle.mo_mods.specs.Steps.{entered_below as below_entered, entered_table, entered_value as value_entered, rest_of as rest_of_marks, stepped, stepped_in, with_index as pending_with_index};
 
@@ -186,6 +188,7 @@ impl<'t> MergedEnv<'t> {
     ) -> Result<MergedEnv<'t>, NoMemory>
         ensures is { IfOk result (λ made. (frames : Seq Frame) → merged_in frames made ≡ stepped_in (merged_in frames self.now) name.now index.now) }
         ensures stands { IfOk result (λ made. (frames : Seq Frame) → (table : Table) → StepsIn table (merged_in frames self.now) name.now index.now (merged_in frames made)) }
+        ensures exist { IfOk result (λ made. (world : World) → ScopesExist world self.now → ScopesExist world made) }
     {
         self.stepped(alloc, name, index)
     }
