@@ -1,0 +1,9 @@
+pub mod Checking
+pub mod Counting
+pub mod Kept
+pub mod Later
+pub mod Matching
+pub mod Outcomes
+pub mod Pairs
+pub mod Speaking
+pub mod Tables

@@ -1,0 +1,22 @@
+-- The elements by name are those of the walk.
+use Rattle.std.proofs.Common.{◌≡◌, List, map, ap, sym, subst, ◌∙◌}
+use Rattle.mo_scope.specs.Outcome.{Gives}
+use Rattle.mo_scope.specs.Places.{Every}
+use Rattle.mo_scope.specs.Worlds.{frames_of}
+use Rattle.mo_redeclare.specs.Sights.{IsKept, entry_of, named_seen}
+use Rattle.mo_redeclare.proofs.Checking.{walk_is}
+use Rattle.mo_redeclare.proofs.Tables.{all_kept}
+use Rattle.mo_redeclare.proofs.check.walk_checked.Goals as goal
+
+pub each_checked_in-requires-clause-members : goal.each_checked_in-requires-clause-members
+each_checked_in-requires-clause-members c =
+    subst (Every (IsKept c.args.s.now)) (sym (c.in_ok-members.ensures ∙ ap (map entry_of) c.as_slice.ensures)) (all_kept c.args.s.now c.args.walk.now.members c.requires.walk.members)
+
+pub returns-clause-value : goal.returns-clause-value
+returns-clause-value c =
+    subst (Gives {T = Unit {0}} (λ _. tt) c.each_checked_in.result)
+    (walk_is c.args.s.now c.args.walk.now c.args.frame.0 c.in_ok-members.members c.is_some.result c.as_slice-2.result.now
+    (c.in_ok-members.ensures ∙ ap (map entry_of) c.as_slice.ensures)
+    c.is_some.ensures
+    (ap (map (named_seen (frames_of c.args.s.now))) c.as_slice-2.ensures ∙ c.in_ok-redeclared.ensures.are))
+    c.each_checked_in.ensures.value

@@ -1,0 +1,3 @@
+pub mod Sights
+pub mod Steps
+pub mod Ways

@@ -1,0 +1,331 @@
+//! How many dimensions components have (Modelica Language Specification 3.5, sections 4.5.1, 7.3 and 10.1).
+#![tactic(auto, using(crate::proofs::Later::later))]
+
+ghost use Rattle.std.specs.Prelude.{◌≡◌, ◌<◌, ◌∷◌, [], List as Seq, Ok, Some, length, map, nat_eq, option_map, slice_get, IfOk, IfSome};
+ghost use Rattle.mo_scope.specs.Compatible.{dimensions_of};
+ghost use Rattle.mo_scope.specs.Names.{base_frame_of, clauses_of, walk_of as walk_of_frame};
+ghost use Rattle.mo_scope.specs.Outcome.{Gives};
+ghost use Rattle.mo_scope.specs.Rows.{Clause, clauses_in, component_of as component_declared, form_in, row_at};
+ghost use Rattle.mo_scope.specs.Sizes.{count_sizes, declared_sizes, first_base as base_first, is_leaf as is_leaf_walk, leaf_base as base_of_leaf, type_sizes};
+ghost use Rattle.mo_scope.specs.Frames.{Frame, class_of};
+ghost use Rattle.mo_scope.specs.Sights.{declares_seen, part_seen, redeclaration_in};
+ghost use Rattle.mo_scope.specs.Worlds.{Grows, IsFrame, frame_at, frames_of, table_in};
+ghost use Rattle.mo_syntax.specs.declared.class.Body.{out-Body};
+ghost use Rattle.mo_names.specs.Children.{IsChild, child_seen};
+ghost use Rattle.mo_names.specs.Sights.{IsMember, member_of};
+ghost use Rattle.mo_redeclare.specs.Ways.{base_if_leaf as leaf_if_leaf, count_declared, count_redeclared, step_of, step_of_long, step_of_short, step_seen, way_of_form, way_of_row};
+
+use crate::sort::component_of;
+use mo_names::{Child, base_of, walk_of};
+use mo_scope::{Declares, Member, Part, Redeclaration, Scopes};
+use mo_syntax::{Body, FrameId, NoMemory, Stop};
+use std::alloc::Global;
+
+/// How many dimensions stand behind the name and the type's name of what is declared.
+fn declared_count(declares: &Declares) -> Result<usize, NoMemory>
+    ensures { IfOk result (λ count. count ≡ count_declared (component_declared (declares_seen declares.now))) }
+{
+    match component_of(declares) {
+        Some(component) => {
+            let own = component.subs.len();
+            own.checked_add(component.base_subs.len()).ok_or(NoMemory)
+        }
+        None => Ok(0),
+    }
+}
+
+/// How many dimensions a redeclaration has, 0 where there is none.
+fn redeclared_count(redeclared: &Option<Redeclaration>) -> Result<usize, NoMemory>
+    ensures { IfOk result (λ count. count ≡ count_redeclared redeclared.now) }
+{
+    match redeclared {
+        Some(redeclaration) => declared_count(&redeclaration.declares),
+        None => Ok(0),
+    }
+}
+
+/// How many declared dimensions a component has: those of the redeclaration that wins, if that has any, are in place of the
+/// original's.
+fn own_count(member: &Member, child: &Child) -> Result<usize, NoMemory>
+    ensures { (frames : Seq Frame) → IfOk result (λ count. count ≡ count_sizes (declared_sizes (member_of frames member.now) (option_map (redeclaration_in frames) child.now.redeclared))) }
+{
+    let redeclared = redeclared_count(&child.redeclared)?;
+    if redeclared > 0 {
+        return Ok(redeclared);
+    }
+    declared_count(&member.declares)
+}
+
+/// How many clauses of the class of a frame have bases.
+fn clause_count(s: &Scopes, frame: FrameId) -> Result<u32, NoMemory>
+    requires { IsFrame s.now frame.0 }
+    ensures { IfOk result (λ count. count ≡ length (clauses_of (table_in s.now) (frame_at s.now frame.0))) }
+{
+    match s.row(s.class_of(frame)) {
+        Some(row) => base_count(row.parts.as_slice()),
+        None => Ok(0),
+    }
+}
+
+/// How many of some parts are extends clauses.
+fn base_count(parts: &[Part]) -> Result<u32, NoMemory>
+    ensures { IfOk result (λ count. count ≡ length (clauses_in (map part_seen parts.now))) }
+{
+    let mut count = 0u32;
+    for part in parts {
+        count = count.checked_add(base_in(part)).ok_or(NoMemory)?;
+    }
+    Ok(count)
+}
+
+/// 1 for an extends clause, 0 for an element.
+fn base_in(part: &Part) -> u32
+    ensures { result ≡ length (clauses_in (part_seen part.now ∷ [])) }
+{
+    match part {
+        Part::Element(_) => 0,
+        Part::Base(_) => 1,
+    }
+}
+
+/// Whether a frame is one of a leaf type; where its elements break a rule it is none.
+fn is_leaf<'t>(alloc: Global, s: &mut Scopes<'t>, frame: FrameId) -> Result<bool, NoMemory>
+    requires { IsFrame s.old frame.0 }
+    ensures grows { Grows s.old s.new }
+    ensures value { IfOk result (λ is. is ≡ is_leaf_walk (walk_of_frame (table_in s.old) (frame_at s.old frame.0))) }
+{
+    match walk_of(alloc, s, frame) {
+        Ok(walk) => Ok(walk.leaf.is_some()),
+        Err(Stop::Broken(_)) => Ok(false),
+        Err(Stop::NoMemory) => Err(NoMemory),
+    }
+}
+
+/// The base, if it is of leaf type.
+fn base_if_leaf<'t>(
+    alloc: Global,
+    s: &mut Scopes<'t>,
+    base: FrameId,
+) -> Result<Option<FrameId>, NoMemory>
+    requires { IsFrame s.old base.0 }
+    ensures grows { Grows s.old s.new }
+    ensures value { IfOk result (λ found. option_map (λ frame. frame_at s.new frame.0) found ≡ leaf_if_leaf (table_in s.old) (Ok (frame_at s.old base.0))) }
+    ensures stand { IfOk result (λ found. IfSome found (λ frame. IsFrame s.new frame.0)) }
+{
+    if is_leaf(alloc, s, base)? {
+        Ok(Some(base))
+    } else {
+        Ok(None)
+    }
+}
+
+/// The base of an extends clause, if it is of leaf type.
+fn leaf_of_clause<'t>(
+    alloc: Global,
+    s: &mut Scopes<'t>,
+    frame: FrameId,
+    clause: u32,
+) -> Result<Option<FrameId>, NoMemory>
+    requires frame { IsFrame s.old frame.0 }
+    requires clause { clause < length (clauses_of (table_in s.old) (frame_at s.old frame.0)) }
+    ensures grows { Grows s.old s.new }
+    ensures value { IfOk result (λ found. (extends : Clause) → slice_get (clauses_of (table_in s.old) (frame_at s.old frame.0)) clause ≡ Some extends → option_map (λ frame. frame_at s.new frame.0) found ≡ leaf_if_leaf (table_in s.old) (base_frame_of (table_in s.old) (frame_at s.old frame.0) extends)) }
+    ensures stand { IfOk result (λ found. IfSome found (λ frame. IsFrame s.new frame.0)) }
+{
+    match base_of(alloc, s, frame, clause) {
+        Ok(base) => base_if_leaf(alloc, s, base),
+        Err(Stop::Broken(_)) => Ok(None),
+        Err(Stop::NoMemory) => Err(NoMemory),
+    }
+}
+
+/// The first base of leaf type.
+pub fn leaf_base<'t>(
+    alloc: Global,
+    s: &mut Scopes<'t>,
+    frame: FrameId,
+) -> Result<Option<FrameId>, NoMemory>
+    requires { IsFrame s.old frame.0 }
+    ensures grows { Grows s.old s.new }
+    ensures value { IfOk result (λ found. option_map (λ frame. frame_at s.new frame.0) found ≡ base_of_leaf (table_in s.old) (frame_at s.old frame.0) (clauses_of (table_in s.old) (frame_at s.old frame.0))) }
+    ensures stand { IfOk result (λ found. IfSome found (λ frame. IsFrame s.new frame.0)) }
+{
+    for clause in 0..clause_count(s, frame)? {
+        if let Some(base) = leaf_of_clause(alloc, s, frame, clause)? {
+            return Ok(Some(base));
+        }
+    }
+    Ok(None)
+}
+
+/// The base of the first extends clause, the frame itself where there is none.
+pub fn first_base<'t>(alloc: Global, s: &mut Scopes<'t>, frame: FrameId) -> Result<FrameId, Stop>
+    requires { IsFrame s.old frame.0 }
+    ensures grows { Grows s.old s.new }
+    ensures value { Gives (λ base. frame_at s.new base.0) result (base_first (table_in s.old) (frame_at s.old frame.0) (clauses_of (table_in s.old) (frame_at s.old frame.0))) }
+    ensures stand { IfOk result (λ base. IsFrame s.new base.0) }
+{
+    if clause_count(s, frame)? == 0 {
+        return Ok(frame);
+    }
+    base_of(alloc, s, frame, 0)
+}
+
+/// How many dimensions a short class adds, with its base; nothing where the name of its base breaks a rule.
+fn short_step<'t>(
+    alloc: Global,
+    s: &mut Scopes<'t>,
+    frame: FrameId,
+    own: usize,
+) -> Result<Option<(usize, FrameId)>, NoMemory>
+    requires { IsFrame s.old frame.0 }
+    ensures grows { Grows s.old s.new }
+    ensures value { IfOk result (λ way. option_map (step_seen (frames_of s.new)) way ≡ step_of_short own (base_first (table_in s.old) (frame_at s.old frame.0) (clauses_of (table_in s.old) (frame_at s.old frame.0)))) }
+    ensures stand { IfOk result (λ way. IfSome way (λ on. IsFrame s.new on.1.0)) }
+{
+    match first_base(alloc, s, frame) {
+        Ok(base) => Ok(Some((own, base))),
+        Err(Stop::Broken(_)) => Ok(None),
+        Err(Stop::NoMemory) => Err(NoMemory),
+    }
+}
+
+/// The first base of leaf type of a long class, which adds no dimensions.
+fn long_step<'t>(
+    alloc: Global,
+    s: &mut Scopes<'t>,
+    frame: FrameId,
+) -> Result<Option<(usize, FrameId)>, NoMemory>
+    requires { IsFrame s.old frame.0 }
+    ensures grows { Grows s.old s.new }
+    ensures value { IfOk result (λ way. option_map (step_seen (frames_of s.new)) way ≡ step_of_long (table_in s.old) (frame_at s.old frame.0)) }
+    ensures stand { IfOk result (λ way. IfSome way (λ on. IsFrame s.new on.1.0)) }
+{
+    if !is_leaf(alloc, s, frame)? {
+        return Ok(None);
+    }
+    match leaf_base(alloc, s, frame)? {
+        Some(base) => Ok(Some((0, base))),
+        None => Ok(None),
+    }
+}
+
+/// What the dimensions of a type are looked for in.
+#[derive(Clone, Copy)]
+enum Way {
+    /// A short class with so many dimensions of its own.
+    Short(usize),
+    Long,
+    Nowhere,
+}
+
+/// The way that a class's form gives.
+fn way_in(body: &Body) -> Way
+    ensures { result ≡ way_of_form (form_in (out-Body body.now)) }
+{
+    match body {
+        Body::Short {
+            causal: _,
+            base: _,
+            subs,
+            mods: _,
+        } => Way::Short(subs.len()),
+        Body::Long {
+            extending: None,
+            items: _,
+            external: _,
+        } => Way::Long,
+        Body::Long {
+            extending: Some(_),
+            items: _,
+            external: _,
+        } => Way::Nowhere,
+        Body::Enumeration(_) => Way::Nowhere,
+        Body::Der(_, _) => Way::Nowhere,
+    }
+}
+
+/// Where the dimensions of the class of a frame are looked for.
+fn way_of(s: &Scopes, frame: FrameId) -> Way
+    requires { IsFrame s.now frame.0 }
+    ensures { result ≡ way_of_row (row_at (table_in s.now) (class_of (frame_at s.now frame.0))) }
+{
+    match s.row(s.class_of(frame)) {
+        Some(row) => way_in(&row.class.body),
+        None => Way::Nowhere,
+    }
+}
+
+/// How many dimensions the class of a frame adds, with the base that further ones are looked for in.
+fn step<'t>(
+    alloc: Global,
+    s: &mut Scopes<'t>,
+    frame: FrameId,
+) -> Result<Option<(usize, FrameId)>, NoMemory>
+    requires { IsFrame s.old frame.0 }
+    ensures grows { Grows s.old s.new }
+    ensures value { IfOk result (λ way. option_map (step_seen (frames_of s.new)) way ≡ step_of (table_in s.old) (frame_at s.old frame.0)) }
+    ensures stand { IfOk result (λ way. IfSome way (λ on. IsFrame s.new on.1.0)) }
+{
+    match way_of(s, frame) {
+        Way::Short(own) => short_step(alloc, s, frame, own),
+        Way::Long => long_step(alloc, s, frame),
+        Way::Nowhere => Ok(None),
+    }
+}
+
+/// How many dimensions a type has.
+fn type_count<'t>(alloc: Global, s: &mut Scopes<'t>, class: FrameId) -> Result<usize, NoMemory>
+    requires { IsFrame s.old class.0 }
+    ensures grows { Grows s.old s.new }
+    ensures value { IfOk result (λ count. count ≡ count_sizes (type_sizes (table_in s.old) (frame_at s.old class.0))) }
+{
+    let mut left = s.class_count().checked_add(6).ok_or(NoMemory)?;
+    let mut frame = class;
+    let mut count = 0usize;
+    while left > 0 {
+        match step(alloc, s, frame)? {
+            Some(on) => {
+                count = count.checked_add(on.0).ok_or(NoMemory)?;
+                frame = on.1;
+                left -= 1;
+            }
+            None => return Ok(count),
+        }
+    }
+    Ok(count)
+}
+
+/// How many dimensions a component has, those of its type included.
+pub fn dimension_count<'t>(
+    alloc: Global,
+    s: &mut Scopes<'t>,
+    member: &Member<'t>,
+    child: &Child<'t>,
+) -> Result<usize, NoMemory>
+    requires member { IsMember s.old member.now }
+    requires child { IsChild s.old child.now }
+    ensures grows { Grows s.old s.new }
+    ensures value { IfOk result (λ count. count ≡ dimensions_of (table_in s.old) (member_of (frames_of s.old) member.now) (child_seen (frames_of s.old) child.now)) }
+{
+    let own = own_count(member, child)?;
+    let more = type_count(alloc, s, child.class)?;
+    own.checked_add(more).ok_or(NoMemory)
+}
+
+/// Whether a component and its counterpart have as many dimensions.
+pub(crate) fn same_counts<'t>(
+    alloc: Global,
+    s: &mut Scopes<'t>,
+    new: (&Member<'t>, &Child<'t>),
+    wanted: (&Member<'t>, &Child<'t>),
+) -> Result<bool, NoMemory>
+    requires new { IsMember s.old new.0.now × IsChild s.old new.1.now }
+    requires wanted { IsMember s.old wanted.0.now × IsChild s.old wanted.1.now }
+    ensures grows { Grows s.old s.new }
+    ensures value { IfOk result (λ same. same ≡ nat_eq (dimensions_of (table_in s.old) (member_of (frames_of s.old) new.entry.0.now) (child_seen (frames_of s.old) new.entry.1.now)) (dimensions_of (table_in s.old) (member_of (frames_of s.old) wanted.entry.0.now) (child_seen (frames_of s.old) wanted.entry.1.now))) }
+{
+    let count = dimension_count(alloc, s, new.0, new.1)?;
+    let other = dimension_count(alloc, s, wanted.0, wanted.1)?;
+    Ok(count == other)
+}

@@ -1,0 +1,29 @@
+//! Redeclarations (Modelica Language Specification 3.5, sections 6.4 and 7.3).
+//!
+//! - `compatible`: whether one class has what another one has, so that it may stand in its place.
+//! - `check_redeclared`: what the redeclarations among the sources of a frame break.
+//! - `prefix_of`, `dimension_count`: the declared prefixes of a component, and how many dimensions it has; `first_base` and `leaf_base`:
+//!   the bases that dimensions of a type are looked for in.
+//! - `is_class`, `component_of`: what is declared.
+//!
+//! The definitions stand in mo_scope. Each call keeps the frames that exist, after a refusal too.
+#![tactic(auto)]
+
+mod check;
+mod classes;
+mod comparing;
+mod dims;
+mod entering;
+mod known;
+mod names;
+mod prefix;
+mod replaceable;
+mod sort;
+mod spoken;
+mod stops;
+
+pub use check::check_redeclared;
+pub use comparing::compatible;
+pub use dims::{dimension_count, first_base, leaf_base};
+pub use prefix::prefix_of;
+pub use sort::{component_of, is_class};
