@@ -1,12 +1,11 @@
 -- Joining the elements of bases, one after another from the end of a list.
-use Rattle.std.proofs.Common.{◌≡◌, ℕ, zero, suc, ◌+◌, ◌<◌, Bool, true, false, cond, List, [], ◌∷◌, ◌++◌, length, map, reverse, Ok, Err, refl, ap, sym, subst, ◌∙◌, arith, append_assoc}
-use Rattle.std.specs.Prelude.{◌||◌, if◌then◌else◌}
+use Rattle.std.proofs.Common.{◌≡◌, Bool, true, false, cond, List, [], ◌∷◌, ◌++◌, map, reverse, Ok, Err, refl, ap, sym, subst, ◌∙◌, append_assoc}
+use Rattle.std.specs.Prelude.{◌||◌}
 use Rattle.std.specs.List.{list_any}
 use Rattle.std.proofs.lemmas.List.{reverse-append, map-append}
 use Rattle.mo_syntax.specs.declared.place.Broken.{Broken}
 use Rattle.mo_scope.specs.Outcome.{Outcome, and_then}
-use Rattle.mo_scope.specs.Frames.{Frame}
-use Rattle.mo_scope.specs.Lookup.{Inherited, Walked, is_counted, not_counted, with_member, with_members}
+use Rattle.mo_scope.specs.Lookup.{Inherited, Walked, not_counted, with_member, with_members}
 use Rattle.mo_scope.specs.Places.{Every}
 
 -- the last of a list is the first from its end

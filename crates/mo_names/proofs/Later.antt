@@ -1,23 +1,19 @@
 -- Frames keep their numbers, so what the values of the code are stays the same in later worlds.
-use Rattle.std.proofs.Common.{◌≡◌, ℕ, ◌+◌, ◌<◌, List, [], ◌∷◌, ◌++◌, length, map, reverse, Option, Some, None, option_map, refl, ap, sym, subst, ◌∙◌, arith, length-append, append_assoc}
+use Rattle.std.proofs.Common.{◌≡◌, ℕ, ◌<◌, List, [], ◌∷◌, ◌++◌, length, map, reverse, Option, Some, None, option_map, refl, ap, sym, subst, ◌∙◌, arith, length-append, append_assoc}
 use Rattle.mo_syntax.specs.declared.meaning.FrameId.{FrameId}
 use Rattle.mo_scope.specs.declared.row.Member.{Member as MemberAt}
 use Rattle.mo_scope.specs.Rows.{class_number, number_of_classes, table_of}
 use Rattle.mo_scope.specs.Frames.{Frame, Member}
-use Rattle.mo_scope.specs.Lookup.{Component, Class, Element, Other}
+use Rattle.mo_scope.specs.Lookup.{Component, Class}
 use Rattle.mo_scope.specs.Places.{Every}
-use Rattle.mo_scope.specs.Sights.{member_seen, declares_seen}
-use Rattle.mo_scope.specs.Worlds.{World, FrameEntry, Grows, IsFrame, frame_in, frame_at, frames_of, member_in, table_in}
+use Rattle.mo_scope.specs.Sights.{declares_seen}
+use Rattle.mo_scope.specs.Worlds.{World, FrameEntry, Grows, IsFrame, frame_in, frames_of, table_in}
 use Rattle.mo_scope.proofs.Numbered.{frames_stay}
-use Rattle.mo_names.specs.declared.found.Classed.{Classed as ClassedAt}
 use Rattle.mo_names.specs.declared.found.Found.{Found as FoundAt}
 use Rattle.mo_names.specs.declared.found.Found.TheVariants.{Component as component_at, Class as class_at, Literal as literal_at, Iteration as iteration_at, Function as function_at, Time as time_at}
-use Rattle.mo_names.specs.declared.found.Met.{Met as MetAt}
-use Rattle.mo_names.specs.declared.found.Reached.{Reached as ReachedAt}
-use Rattle.mo_names.specs.declared.found.Reached.TheVariants.{Element as element_at, Other as other_at, Absent as absent_at}
 use Rattle.mo_names.specs.declared.walk.Inherited.{Inherited as InheritedAt}
 use Rattle.mo_names.specs.declared.walk.Walk.{Walk}
-use Rattle.mo_names.specs.Sights.{member_of, found_in, reached_seen, met_seen, classed_seen, frames_through, inherited_seen, walk_seen, IsMember, IsFound, IsReached, AreThrough, IsBase, IsInherited, IsLeaf, IsWalk}
+use Rattle.mo_names.specs.Sights.{member_of, found_in, frames_through, inherited_seen, walk_seen, IsMember, IsFound, AreThrough, IsBase, IsInherited, IsLeaf, IsWalk}
 
 -- ---- growing
 

@@ -10,9 +10,11 @@ pub mod MembersExist
 pub mod Naming
 pub mod Outcomes
 pub mod Outwards
+pub mod OwnFirst
 pub mod Owners
 pub mod Owning
 pub mod Paths
 pub mod Reading
 pub mod Redeclaring
+pub mod Tables
 pub mod Walking

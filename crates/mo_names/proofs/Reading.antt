@@ -1,5 +1,5 @@
 -- Reading lists one element after another.
-use Rattle.std.proofs.Common.{◌≡◌, ℕ, ℤ, zero, suc, ◌+◌, ◌<◌, ◌≢◌, Bool, true, false, cond, IsTrue, List, [], ◌∷◌, length, map, drop, get_or, Option, Some, None, refl, sym, ap, ◌∙◌, subst, arith, Bor}
+use Rattle.std.proofs.Common.{◌≡◌, ℕ, ℤ, suc, ◌+◌, ◌<◌, ◌≢◌, Bool, true, false, cond, IsTrue, List, [], ◌∷◌, length, map, drop, get_or, Option, Some, refl, sym, ap, ◌∙◌, arith}
 use Rattle.std.proofs.Math.Seq.{drop-cons}
 use Rattle.std.specs.Prelude.{◌&&◌, slice_get, option_map}
 use Rattle.std.specs.List.{position_from}
@@ -10,7 +10,6 @@ use Rattle.std.proofs.lemmas.Option.{slice_get-map, slice_get_read}
 use Rattle.mo_syntax.specs.ClassTable.{path_eq}
 use Rattle.mo_scope.specs.Frames.{Frame, Iterations, listing_eq, same_listings}
 use Rattle.mo_scope.specs.Lookup.{iteration}
-use Rattle.mo_scope.specs.Sights.{source_seen}
 use Rattle.mo_scope.specs.Worlds.{SourceEntry, sources_in}
 
 -- what is left from an element on

@@ -1,17 +1,17 @@
 -- The classes that redeclarations declare exist.
-use Rattle.std.proofs.Common.{◌≡◌, ℕ, ◌+◌, ◌<◌, Bool, true, false, List, [], ◌∷◌, ◌++◌, drop, Option, Some, None, refl, ap, sym, subst, ◌∙◌}
+use Rattle.std.proofs.Common.{◌≡◌, ℕ, ◌+◌, ◌<◌, Bool, true, false, List, [], ◌∷◌, ◌++◌, Some, refl, subst}
 use Rattle.std.specs.Prelude.{flat_map, if◌then◌else◌}
 use Rattle.std.specs.Str.{bytes_eq}
 use Rattle.mo_syntax.specs.declared.class.ArgumentOf.{ArgumentOf}
 use Rattle.mo_syntax.specs.declared.class.Body.{Body}
-use Rattle.mo_syntax.specs.declared.class.Element.{Element, out-Element}
+use Rattle.mo_syntax.specs.declared.class.Element.{Element}
 use Rattle.mo_syntax.specs.declared.class.FileTree.{FileTree}
 use Rattle.mo_syntax.specs.declared.class.Give.{Give, Give-F, out-Give}
 use Rattle.mo_syntax.specs.declared.class.Item.{Item}
 use Rattle.mo_syntax.specs.declared.class.What.{What}
-use Rattle.mo_scope.specs.Rows.{Table, table_of, class_number, number_of_classes}
+use Rattle.mo_scope.specs.Rows.{table_of, class_number, number_of_classes}
 use Rattle.mo_scope.specs.Frames.{Given, Listed, Argued, Replacing, Listing, Origin, Scope, Source}
-use Rattle.mo_scope.specs.Parts.{Redeclaration, Saying, Modifies, Redeclares, begins_with, names_left, held, declared_in, said, said_behind, said_by_argument, said_in_list, said_further, said_by_element, said_by_elements, said_by_all, redeclarations_in, first_of, redeclared, behind_name, pending_behind}
+use Rattle.mo_scope.specs.Parts.{Redeclaration, Saying, Modifies, Redeclares, begins_with, names_left, held, declared_in, said, said_behind, said_by_argument, said_in_list, said_by_all, redeclarations_in, first_of, redeclared, behind_name, pending_behind}
 use Rattle.mo_scope.specs.Places.{Every}
 use Rattle.mo_scope.proofs.RowsFound.{declared_exists}
 

@@ -1,5 +1,5 @@
 -- Steps of inheritance by name: what each does for the name of a base, for one extends clause, and for one part of a class.
-use Rattle.std.specs.Prelude.{ℕ, ◌+◌, ◌<◌, Bool, List, [], ◌∷◌, Option, Ok}
+use Rattle.std.specs.Prelude.{ℕ, ◌<◌, Bool, List, [], ◌∷◌, Option, Ok}
 use Rattle.mo_syntax.specs.declared.expr.Expr.{Expr}
 use Rattle.mo_syntax.specs.declared.expr.PartOf.{PartOf}
 use Rattle.mo_scope.specs.Outcome.{Outcome, and_then, breaks}

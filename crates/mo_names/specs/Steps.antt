@@ -1,17 +1,13 @@
 -- Steps of the definitions of lookup and inheritance by name: what each does for one element of the list that it goes down.
-use Rattle.std.specs.Prelude.{ℕ, ◌+◌, Bool, true, false, ◌||◌, List, [], ◌∷◌, Option, Some, None, Ok, if◌then◌else◌}
-use Rattle.std.specs.List.{list_any}
-use Rattle.std.specs.Str.{bytes_eq}
+use Rattle.std.specs.Prelude.{ℕ, ◌+◌, Bool, true, false, List, [], ◌∷◌, Option, Some, None, Ok, if◌then◌else◌}
 use Rattle.mo_syntax.specs.declared.expr.Expr.{Expr}
 use Rattle.mo_syntax.specs.declared.expr.PartOf.{PartOf}
-use Rattle.mo_syntax.specs.declared.expr.ReferenceOf.{ReferenceOf}
 use Rattle.mo_syntax.specs.declared.class.Import.{Import}
-use Rattle.mo_syntax.specs.declared.class.Import.TheVariants.{Renamed, Named, Group, All as Star}
 use Rattle.mo_syntax.specs.declared.place.Place.{Place}
 use Rattle.mo_scope.specs.Outcome.{Outcome, and_then, breaks}
-use Rattle.mo_scope.specs.Rows.{Table, Row, row_at, Part, Element_of, Base_of, Declares, Clause, is_class, is_left_out}
-use Rattle.mo_scope.specs.Frames.{Frame, Scope, Member, class_of, outer_of, is_top}
-use Rattle.mo_scope.specs.Lookup.{Found, Reached, Element, Other, Absent, Met, Classed, Inherited, Walked, Asking, met, counted, behind_class, class_wanted, first_at_top, import_behind, or_absent, at_top, predefined, reached, through_star, and_also, found_by_import, found_by_star, found_by_each, found_by_imports, met_far, is_closed, found_in, found_from, found_first, classed, class_behind, last_place, base_class, base_frame, base_of, with_member, with_base, walked_parts, leaf_checked, leaf_of, nothing_walked}
+use Rattle.mo_scope.specs.Rows.{Table, Row, Part, Element_of, Base_of, Declares, Clause, is_class, is_left_out}
+use Rattle.mo_scope.specs.Frames.{Frame, Scope, Member}
+use Rattle.mo_scope.specs.Lookup.{Found, Reached, Element, Met, Classed, Inherited, Walked, Asking, met, counted, behind_class, class_wanted, first_at_top, and_also, found_by_import, found_by_star, found_first, classed, base_frame, base_of, leaf_of, nothing_walked}
 
 -- ---- a name behind a dot
 

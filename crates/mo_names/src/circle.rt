@@ -16,6 +16,7 @@ use crate::class_element::met;
 use crate::depth::depth_inside;
 use crate::found::{Ask, Found, Met, Reached};
 use crate::importing::{import_at, import_count, imported_names};
+use crate::kept::{kept_package, kept_reached, walk_kept};
 use crate::own::{are_own_open, is_encapsulated_declared, own_named};
 use crate::reach::{
     and_also, are_all_open, behind_element, class_wanted, element_met, first_at_top, is_busy,
@@ -59,6 +60,24 @@ pub(crate) fn walked<'t>(
     walked_class(alloc, s, &inner, frame)
 }
 
+/// The elements of a frame, which are kept where no class is having its bases found.
+#[cycle(names)]
+fn walked_and_kept<'t>(
+    alloc: Global,
+    s: &mut Scopes<'t>,
+    ask: &Ask,
+    frame: FrameId,
+) -> Result<Walk<'t>, Stop>
+    requires { IsFrame s.old frame.0 }
+    ensures grows { Grows s.old s.new }
+    ensures value { Gives (walk_seen (frames_of s.new)) result (walked_of (table_in s.old) ask.now.left ask.now.busy.now ask.now.place (frame_at s.old frame.0)) }
+    ensures stand { IfOk result (IsWalk s.new) }
+{
+    let walk = walked(alloc, s, ask, frame)?;
+    walk_kept(alloc, s, ask, frame, &walk)?;
+    Ok(walk)
+}
+
 /// What a name reaches: among the elements of a frame the own ones come first, and its bases are found only where none of them
 /// has the name.
 #[cycle(names)]
@@ -74,10 +93,13 @@ pub(crate) fn reached<'t>(
     ensures value { Gives (reached_seen (frames_of s.new)) result (reached_of (table_in s.old) (asks (table_in s.old) ask.now) ask.now.place (frame_at s.old frame.0) name.now) }
     ensures stand { IfOk result (IsReached s.new) }
 {
+    if let Some(known) = kept_reached(s, ask, frame, name) {
+        return Ok(known);
+    }
     if let Some(member) = own_named(s, frame, name)? {
         return Ok(Reached::Element(member));
     }
-    let walk = walked(alloc, s, ask, frame)?;
+    let walk = walked_and_kept(alloc, s, ask, frame)?;
     Ok(reached_in(s, &walk, name)?)
 }
 
@@ -88,10 +110,13 @@ fn is_package(alloc: Global, s: &mut Scopes, ask: &Ask, frame: FrameId) -> Resul
     ensures grows { Grows s.old s.new }
     ensures value { Gives (λ all. all) result (is_package_frame (table_in s.old) (asks (table_in s.old) ask.now) ask.now.place (frame_at s.old frame.0)) }
 {
+    if let Some(all) = kept_package(s, ask, frame) {
+        return Ok(all);
+    }
     if is_busy(ask.busy, s.class_of(frame)) {
         return Ok(are_own_open(s, frame));
     }
-    let walk = walked(alloc, s, ask, frame)?;
+    let walk = walked_and_kept(alloc, s, ask, frame)?;
     Ok(are_all_open(walk.members.as_slice()))
 }
 

@@ -6,15 +6,16 @@ ghost use Rattle.mo_scope.specs.Names.{base_frame_of, clauses_of, elements_of, w
 ghost use Rattle.mo_scope.specs.Outcome.{Gives};
 ghost use Rattle.mo_scope.specs.Places.{Every};
 ghost use Rattle.mo_scope.specs.Rows.{Clause as Extends, clauses_in};
-ghost use Rattle.mo_scope.specs.Sights.{clause_seen, member_seen, part_seen};
+ghost use Rattle.mo_scope.specs.Sights.{clause_seen, part_seen};
 ghost use Rattle.mo_scope.specs.Worlds.{Grows, IsFrame, frame_at, frames_of, table_in};
 ghost use Rattle.mo_names.specs.Sights.{IsMember, IsWalk, member_of, walk_seen};
 
 use crate::bases::base_found;
 use crate::found::Ask;
 use crate::free::{class_count, elements_at};
-use crate::walk::{Inherited, Walk};
-use mo_scope::{Clause, Member, MemberTable, Part, Scopes, copied};
+use crate::kept::{elements_kept, members_held};
+use crate::walk::Walk;
+use mo_scope::{Clause, Member, Part, Scopes, copied};
 use mo_syntax::{FrameId, List, NoMemory, Place, Stop};
 use std::alloc::Global;
 
@@ -27,17 +28,6 @@ pub fn walk_of<'t>(alloc: Global, s: &mut Scopes<'t>, frame: FrameId) -> Result<
     ensures stand { IfOk result (IsWalk s.new) }
 {
     elements_at(alloc, s, frame, Place { file: 0, byte: 0 })
-}
-
-/// The elements that are held, without the base frames on the way to them.
-fn members_held<'t>(alloc: Global, held: &[Inherited<'t>]) -> Result<List<Member<'t>>, NoMemory>
-    ensures { IfOk result (λ made. made ≡ map (λ inherited. inherited.member) held.now) }
-{
-    let mut made = List::new(alloc);
-    for inherited in held {
-        made.push(inherited.member)?;
-    }
-    Ok(made)
 }
 
 /// The elements of a frame, found by a walk.
@@ -54,33 +44,6 @@ fn elements_found<'t>(
     let walk = walk_of(alloc, s, frame)?;
     let members = members_held(alloc, walk.members.as_slice())?;
     Ok(members)
-}
-
-/// The table of some elements.
-fn table_of<'t>(alloc: Global, members: &[Member<'t>]) -> Result<MemberTable<'t>, NoMemory>
-    ensures { IfOk result (λ made. made ≡ map member_seen members.now) }
-{
-    let mut made = MemberTable::new(alloc);
-    for member in members {
-        made.push(*member)?;
-    }
-    Ok(made)
-}
-
-/// Keeps the elements of a frame.
-fn elements_kept<'t>(
-    alloc: Global,
-    s: &mut Scopes<'t>,
-    frame: FrameId,
-    members: &[Member<'t>],
-) -> Result<(), NoMemory>
-    requires frame { IsFrame s.old frame.0 }
-    requires elements { elements_of (table_in s.old) (frame_at s.old frame.0) ≡ Ok (map (member_of (frames_of s.old)) members.now) }
-    requires members { Every (IsMember s.old) members.now }
-    ensures grows { Grows s.old s.new }
-{
-    let table = table_of(alloc, members)?;
-    s.keep(alloc, frame, table)
 }
 
 /// The elements of a frame by the table that is kept, None where none is.

@@ -21,6 +21,7 @@ mod found;
 mod free;
 mod importing;
 mod join;
+mod kept;
 mod literals;
 mod lookup;
 mod outer;

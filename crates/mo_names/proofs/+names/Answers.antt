@@ -11,7 +11,7 @@ use Rattle.mo_names.specs.Past.{Around, Found_past, past, past_seen}
 use Rattle.mo_names.specs.Sights.{asking_at, walk_seen, asks, found_in, met_seen, classed_seen}
 use Rattle.mo_names.specs.Steps.{before_dot, import_step, package_behind, package_step, package_at_top, also_found, found_by_all, imports_met, met_or, class_step, next_item, started}
 use Rattle.mo_scope.proofs.Numbered.{is_no_top}
-use Rattle.mo_scope.specs.Frames.{Frame, class_of, is_top, Scope}
+use Rattle.mo_scope.specs.Frames.{Frame, class_of, Scope}
 use Rattle.mo_scope.specs.Lookup.{contains, walked_class, Found, import_behind, through_star, Asking, found_element, Met, found_from, found_in as in_one_frame, Classed, class_behind, Walked, leaf_checked}
 use Rattle.mo_scope.specs.Outcome.{and_then, Outcome}
 use Rattle.mo_scope.specs.Rows.{row_at, Part, Row}
@@ -21,7 +21,7 @@ use Rattle.mo_syntax.specs.declared.class.Import.{Import}
 use Rattle.mo_syntax.specs.declared.meaning.FrameId.{FrameId}
 use Rattle.mo_syntax.specs.declared.place.Place.{Place}
 use Rattle.mo_syntax.specs.declared.text.Text.{Text}
-use Rattle.std.proofs.Common.{◌-◌, ◌<◌, ◌++◌, ◌∷◌, [], List, ℕ, ap, arith, false, sym, ◌≡◌, ◌∙◌, ◌+◌, Bor, Option, drop, map, Err, Some, None, subst, Ok, refl}
+use Rattle.std.proofs.Common.{◌-◌, ◌<◌, ◌++◌, ◌∷◌, [], List, ℕ, ap, arith, sym, ◌≡◌, ◌∙◌, ◌+◌, Bor, Option, drop, map, Err, Some, None, subst, Ok, refl}
 use Rattle.std.proofs.lemmas.Result.{err_from_is_err_and}
 use Rattle.std.specs.Prelude.{option_map, slice_get}
 use Rattle.mo_names.proofs.+names.Goals as goal
@@ -45,6 +45,9 @@ circle::walked-returns-clause-value t c =
     ∙ walked_further (table_in c.args.s.now) c.args.ask.now.left c.args.ask.now.busy.now c.args.ask.now.place F some
     (ap (contains c.args.ask.now.busy.now) (sym c.class_of-class.ensures.is) ∙ sym c.is_busy.ensures ∙ c.if-is_busy.false))
     c.walked_class.ensures.value
+
+pub circle::walked_and_kept-returns-clause-stand : goal.circle::walked_and_kept-returns-clause-stand
+circle::walked_and_kept-returns-clause-stand t c = is_walk_later c.walked.new.s c.walk_kept.new.s c.in_ok-walk.walk c.walk_kept.ensures.grows c.in_ok-walk.ensures.stand
 
 pub circle::import_behind-returns-in_err-found-clause-value : goal.circle::import_behind-returns-in_err-found-clause-value
 circle::import_behind-returns-in_err-found-clause-value t c =

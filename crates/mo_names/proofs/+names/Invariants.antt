@@ -66,8 +66,11 @@ invariant-bases::walked_parts-loop-at l = record {
 abbrev pub decreases-circle::walked : goal.decreases-circle::walked
 decreases-circle::walked l = 40 * l.ask.now.left + 0
 
+abbrev pub decreases-circle::walked_and_kept : goal.decreases-circle::walked_and_kept
+decreases-circle::walked_and_kept l = 40 * l.ask.now.left + 1
+
 abbrev pub decreases-circle::reached : goal.decreases-circle::reached
-decreases-circle::reached l = 40 * l.ask.now.left + 1
+decreases-circle::reached l = 40 * l.ask.now.left + 2
 
 abbrev pub decreases-circle::is_package : goal.decreases-circle::is_package
 decreases-circle::is_package l = 40 * l.ask.now.left + 2

@@ -1,5 +1,5 @@
 -- A name that is not the last.
-use Rattle.std.proofs.Common.{◌≡◌, ◌+◌, length, map, arith, List, Bor}
+use Rattle.std.proofs.Common.{◌≡◌, ◌+◌, length, map, arith, Bor}
 use Rattle.std.proofs.lemmas.List.{length-map}
 use Rattle.mo_syntax.specs.declared.text.Text.{Text}
 use Rattle.mo_names.proofs.Ends.{stands_before}

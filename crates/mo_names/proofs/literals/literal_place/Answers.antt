@@ -1,5 +1,5 @@
 -- One literal further.
-use Rattle.std.proofs.Common.{true, false, ap, sym, ◌∙◌, ◌≡◌, ◌+◌, ℕ, drop, arith}
+use Rattle.std.proofs.Common.{true, false, ap, ◌∙◌, ◌≡◌, ◌+◌, ℕ, drop}
 use Rattle.std.specs.List.{position_from}
 use Rattle.std.specs.Str.{bytes_eq}
 use Rattle.mo_names.proofs.Reading.{text_test, place_here, place_further}

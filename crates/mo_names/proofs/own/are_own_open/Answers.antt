@@ -1,11 +1,4 @@
 -- Elements may stand in a package by what declares them.
-use Rattle.std.proofs.Common.{ap, sym, ◌∙◌, ◌≡◌, Some, List}
-use Rattle.std.specs.Prelude.{Option, option_map, option_copied}
-use Rattle.std.specs.List.{list_all}
-use Rattle.mo_scope.specs.Frames.{class_of}
-use Rattle.mo_scope.specs.Lookup.{counts_in_package, own_members}
-use Rattle.mo_scope.specs.Rows.{row_at, Row}
-use Rattle.mo_scope.specs.Sights.{row_seen}
 use Rattle.mo_scope.specs.Worlds.{frame_at, table_in}
 use Rattle.mo_names.proofs.Owning.{open_row}
 use Rattle.mo_names.proofs.own.are_own_open.Goals as goal

@@ -1,10 +1,9 @@
 -- One part further.
-use Rattle.std.proofs.Common.{Some, true, false, ap, sym, ◌∙◌, ◌≡◌}
-use Rattle.mo_scope.specs.Rows.{Part}
+use Rattle.std.proofs.Common.{Some, false, ap, ◌∙◌}
 use Rattle.mo_scope.specs.Sights.{declares_seen, part_seen}
 use Rattle.mo_scope.specs.Worlds.{frame_at}
 use Rattle.mo_names.proofs.Owning.{named_step, named_skip}
-use Rattle.mo_names.proofs.Reading.{text_test, read_element, at_element}
+use Rattle.mo_names.proofs.Reading.{text_test, read_element}
 use Rattle.mo_names.proofs.own.named_part.Goals as goal
 use Rattle.mo_names.proofs.own.named_part.Goals.{in-Element+else-equals+in-Some, in_default}
 

@@ -1,5 +1,5 @@
 -- The first element of a leaf type breaks rule 13.
-use Rattle.std.proofs.Common.{ap, sym, ◌∙◌, map, drop}
+use Rattle.std.proofs.Common.{ap, sym, map, drop}
 use Rattle.std.specs.Prelude.{option_map}
 use Rattle.mo_syntax.specs.declared.meaning.FrameId.{FrameId}
 use Rattle.mo_scope.specs.Worlds.{frame_in, frames_of}

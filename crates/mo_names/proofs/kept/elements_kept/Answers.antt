@@ -1,7 +1,7 @@
 -- The table holds the elements of the frame.
 use Rattle.mo_scope.specs.Worlds.{frames_of}
 use Rattle.mo_names.proofs.Listing.{kept_elements, kept_homes}
-use Rattle.mo_names.proofs.element_list.elements_kept.Goals as goal
+use Rattle.mo_names.proofs.kept.elements_kept.Goals as goal
 
 pub keep-requires-clause-elements : goal.keep-requires-clause-elements
 keep-requires-clause-elements c = kept_elements (frames_of c.args.s.now) c.args.members.now c.in_ok-table.table _ c.requires.elements c.in_ok-table.ensures

@@ -1,0 +1,60 @@
+-- What the table that is kept of a frame tells, where no class is having its bases found.
+use Rattle.std.proofs.Common.{◌≡◌, ℕ, ◌<◌, Bool, true, false, cond, List, [], ◌∷◌, length, map, find, Option, Some, None, Ok, Err, refl, ap, sym, ◌∙◌, arith}
+use Rattle.std.specs.Prelude.{option_map}
+use Rattle.std.specs.List.{list_all}
+use Rattle.std.specs.Str.{bytes_eq}
+use Rattle.mo_syntax.specs.declared.place.Place.{Place}
+use Rattle.mo_scope.specs.Outcome.{Outcome, and_then}
+use Rattle.mo_scope.specs.Rows.{Table, number_of_classes}
+use Rattle.mo_scope.specs.Frames.{Frame, Member}
+use Rattle.mo_scope.specs.Lookup.{Walked, Asking, Element, Absent, asking_of, counts_in_package, is_package, members_in, named, reached}
+use Rattle.mo_scope.specs.Names.{elements_of}
+use Rattle.mo_scope.specs.Worlds.{MemberEntry, member_in}
+use Rattle.mo_names.specs.Sights.{asking_at}
+use Rattle.mo_names.proofs.OwnFirst.{asked_at, reached_none, reached_some}
+
+no_elements : (xs : List ℕ) → length xs ≡ 0 → xs ≡ []
+no_elements [] none = refl
+no_elements (x ∷ xs) none = absurd (omega arith)
+
+-- all classes are left, and none is having its bases found
+pub asks_free : (table : Table) (left : ℕ) (busy : List ℕ) → left ≡ number_of_classes table → length busy ≡ 0 → asking_at table left busy ≡ asking_of table
+asks_free table left busy all none = ap (asking_at table left) (no_elements busy none) ∙ ap (λ (n : ℕ). asking_at table n []) all
+
+-- the elements that are asked for are those that a table lists
+pub asked_elements : (table : Table) (asking : Asking) (place : Place) (frame : Frame) (o : Outcome Walked) → asking ≡ asking_of table → asking.elements place frame ≡ o → elements_of table frame ≡ and_then o (λ walked. Ok (members_in walked))
+asked_elements table asking place frame o free is =
+    ap (λ (w : Outcome Walked). and_then w (λ walked. Ok (members_in walked)))
+    (sym (asked_at table place frame) ∙ ap (λ (a : Asking). a.elements place frame) (sym free) ∙ is)
+
+named_seen : (frames : List Frame) (name : List ℕ) (table : List MemberEntry) → named name (map (member_in frames) table) ≡ option_map (member_in frames) (find (λ member. bytes_eq member.name name) table)
+named_seen frames name [] = refl
+named_seen frames name (x ∷ xs) = by (bytes_eq x.name name) (named_seen frames name xs)
+  where
+    by : (b : Bool) → named name (map (member_in frames) xs) ≡ option_map (member_in frames) (find (λ member. bytes_eq member.name name) xs) →
+        cond b (Some (member_in frames x)) (named name (map (member_in frames) xs)) ≡ option_map (member_in frames) (cond b (Some x) (find (λ member. bytes_eq member.name name) xs))
+    by true rest = refl
+    by false rest = rest
+
+pub kept_element : (table : Table) (asking : Asking) (place : Place) (frame : Frame) (frames : List Frame) (entries : List MemberEntry) (name : List ℕ) (m : MemberEntry) → asking ≡ asking_of table →
+    elements_of table frame ≡ Ok (map (member_in frames) entries) → find (λ member. bytes_eq member.name name) entries ≡ Some m → reached table asking place frame name ≡ Ok (Element (member_in frames m))
+kept_element table asking place frame frames entries name m free elements is =
+    ap (λ (a : Asking). reached table a place frame name) free
+    ∙ reached_some table place frame name (map (member_in frames) entries) (member_in frames m) elements (named_seen frames name entries ∙ ap (option_map (member_in frames)) is)
+
+pub kept_absent : (table : Table) (asking : Asking) (place : Place) (frame : Frame) (frames : List Frame) (entries : List MemberEntry) (name : List ℕ) → asking ≡ asking_of table →
+    elements_of table frame ≡ Ok (map (member_in frames) entries) → find (λ member. bytes_eq member.name name) entries ≡ None → 0 < length entries → reached table asking place frame name ≡ Ok Absent
+kept_absent table asking place frame frames [] name free elements is some = absurd (omega arith)
+kept_absent table asking place frame frames (x ∷ xs) name free elements is some =
+    ap (λ (a : Asking). reached table a place frame name) free
+    ∙ reached_none table place frame name (map (member_in frames) (x ∷ xs)) (member_in frames x) (map (member_in frames) xs) elements refl (named_seen frames name (x ∷ xs) ∙ ap (option_map (member_in frames)) is)
+
+pub kept_package : (table : Table) (asking : Asking) (place : Place) (frame : Frame) (members : List Member) → asking ≡ asking_of table → elements_of table frame ≡ Ok members →
+    is_package table asking place frame ≡ Ok (list_all counts_in_package members)
+kept_package table asking place frame members free elements =
+    ap (λ (a : Asking). is_package table a place frame) free
+    ∙ by ((asking_of table).elements place frame) (sym (asked_elements table (asking_of table) place frame _ refl refl) ∙ elements)
+  where
+    by : (o : Outcome Walked) → and_then o (λ walked. Ok (members_in walked)) ≡ Ok members → and_then o (λ walked. Ok (list_all counts_in_package (members_in walked))) ≡ Ok (list_all counts_in_package members)
+    by (Ok w) is = let same : members_in w ≡ members = cc in ap (λ (ms : List Member). Ok (list_all counts_in_package ms)) same
+    by (Err b) is = absurd cc

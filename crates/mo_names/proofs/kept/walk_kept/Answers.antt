@@ -1,0 +1,18 @@
+-- The elements of the walk, without the base frames, are those of its frame.
+use Rattle.std.proofs.Common.{ap, refl, subst, sym, ◌∙◌}
+use Rattle.mo_scope.specs.Places.{Every}
+use Rattle.mo_scope.specs.Worlds.{frame_at, frames_of, table_in}
+use Rattle.mo_names.specs.Sights.{IsMember, asks, walk_seen}
+use Rattle.mo_names.proofs.Listing.{found_elements, held, held_stand}
+use Rattle.mo_names.proofs.Tables.{asked_elements}
+use Rattle.mo_names.proofs.kept.walk_kept.Goals as goal
+
+pub elements_kept-requires-clause-elements : goal.elements_kept-requires-clause-elements
+elements_kept-requires-clause-elements c =
+    asked_elements (table_in c.args.s.now) (asks (table_in c.args.s.now) c.args.ask.now) c.args.ask.now.place (frame_at c.args.s.now c.args.frame.0) _
+    (c.is_free.ensures c.if-not-is_free.false) c.requires.is
+    ∙ found_elements (frames_of c.args.s.now) c.args.walk.now c.as_slice-2.result.now _ refl (c.as_slice-2.ensures ∙ c.in_ok-members.ensures ∙ ap held c.as_slice.ensures)
+
+pub elements_kept-requires-clause-members : goal.elements_kept-requires-clause-members
+elements_kept-requires-clause-members c =
+    subst (Every (IsMember c.args.s.now)) (sym (c.as_slice-2.ensures ∙ c.in_ok-members.ensures ∙ ap held c.as_slice.ensures)) (held_stand c.args.s.now c.args.walk.now.members c.requires.stands.members)

@@ -1,0 +1,155 @@
+//! The tables that are kept of the elements of frames.
+ghost use Rattle.std.specs.Prelude.{◌≡◌, List as Seq, map, true, IfOk, IfSome, Ok};
+ghost use Rattle.std.specs.List.{list_all};
+ghost use Rattle.mo_scope.specs.Frames.{Frame};
+ghost use Rattle.mo_scope.specs.Lookup.{asking_of, counts_in_package, is_package as is_package_frame, reached as reached_of, walked as walked_of};
+ghost use Rattle.mo_scope.specs.Names.{elements_of};
+ghost use Rattle.mo_scope.specs.Places.{Every};
+ghost use Rattle.mo_scope.specs.Sights.{member_seen};
+ghost use Rattle.mo_scope.specs.Worlds.{AreHomes, Grows, IsFrame, frame_at, frames_of, member_in, table_in};
+ghost use Rattle.mo_names.specs.Sights.{IsMember, IsReached, IsWalk, asks, member_of, reached_seen, walk_seen};
+
+use crate::found::{Ask, Reached};
+use crate::own::is_open;
+use crate::walk::{Inherited, Walk};
+use mo_scope::{Member, MemberTable, Scopes};
+use mo_syntax::{FrameId, List, NoMemory, Text};
+use std::alloc::Global;
+
+/// Whether no class is having its bases found.
+fn is_free(s: &Scopes, ask: &Ask) -> bool
+    ensures { result ≡ true → asks (table_in s.now) ask.now ≡ asking_of (table_in s.now) }
+{
+    if ask.left < 6 {
+        return false;
+    }
+    if ask.left - 6 != s.class_count() {
+        return false;
+    }
+    ask.busy.is_empty()
+}
+
+/// The table of a frame, where one is kept and no class is having its bases found.
+fn kept<'a, 't>(s: &'a Scopes<'t>, ask: &Ask, frame: FrameId) -> Option<&'a MemberTable<'t>>
+    requires { IsFrame s.now frame.0 }
+    ensures free { IfSome result (λ _. asks (table_in s.now) ask.now ≡ asking_of (table_in s.now)) }
+    ensures elements { IfSome result (λ table. elements_of (table_in s.now) (frame_at s.now frame.0) ≡ Ok (map (member_in (frames_of s.now)) table.now)) }
+    ensures homes { IfSome result (λ table. AreHomes s.now table.now) }
+{
+    if !is_free(s, ask) {
+        return None;
+    }
+    s.table(frame)
+}
+
+/// What a name reaches among the elements of a frame, where their table is kept, is not empty and no class is having its bases
+/// found; where the table is empty, there may be literals.
+pub(crate) fn kept_reached<'t>(
+    s: &Scopes<'t>,
+    ask: &Ask,
+    frame: FrameId,
+    name: &Text,
+) -> Option<Reached<'t>>
+    requires { IsFrame s.now frame.0 }
+    ensures is { IfSome result (λ reached. reached_of (table_in s.now) (asks (table_in s.now) ask.now) ask.now.place (frame_at s.now frame.0) name.now ≡ Ok (reached_seen (frames_of s.now) reached)) }
+    ensures exists { IfSome result (IsReached s.now) }
+{
+    let Some(table) = kept(s, ask, frame) else {
+        return None;
+    };
+    if table.members().is_empty() {
+        return None;
+    }
+    match table.find(name) {
+        Some(member) => Some(Reached::Element(*member)),
+        None => Some(Reached::Absent),
+    }
+}
+
+/// Whether all these elements may stand in a package.
+fn are_members_open(members: &[Member]) -> bool
+    ensures { (frames : Seq Frame) → result ≡ list_all counts_in_package (map (member_of frames) members.now) }
+{
+    for member in members {
+        if !is_open(&member.declares) {
+            return false;
+        }
+    }
+    true
+}
+
+/// Whether the class of a frame declares nothing but classes and constants, where its table is kept and no class is having its
+/// bases found.
+pub(crate) fn kept_package(s: &Scopes, ask: &Ask, frame: FrameId) -> Option<bool>
+    requires { IsFrame s.now frame.0 }
+    ensures { IfSome result (λ all. is_package_frame (table_in s.now) (asks (table_in s.now) ask.now) ask.now.place (frame_at s.now frame.0) ≡ Ok all) }
+{
+    match kept(s, ask, frame) {
+        Some(table) => Some(are_members_open(table.members())),
+        None => None,
+    }
+}
+
+/// The elements that are held, without the base frames on the way to them.
+pub(crate) fn members_held<'t>(
+    alloc: Global,
+    held: &[Inherited<'t>],
+) -> Result<List<Member<'t>>, NoMemory>
+    ensures { IfOk result (λ made. made ≡ map (λ inherited. inherited.member) held.now) }
+{
+    let mut made = List::new(alloc);
+    for inherited in held {
+        made.push(inherited.member)?;
+    }
+    Ok(made)
+}
+
+/// The table of some elements.
+fn table_of<'t>(alloc: Global, members: &[Member<'t>]) -> Result<MemberTable<'t>, NoMemory>
+    ensures { IfOk result (λ made. made ≡ map member_seen members.now) }
+{
+    let mut made = MemberTable::new(alloc);
+    for member in members {
+        made.push(*member)?;
+    }
+    Ok(made)
+}
+
+/// Keeps the elements of a frame.
+pub(crate) fn elements_kept<'t>(
+    alloc: Global,
+    s: &mut Scopes<'t>,
+    frame: FrameId,
+    members: &[Member<'t>],
+) -> Result<(), NoMemory>
+    requires frame { IsFrame s.old frame.0 }
+    requires elements { elements_of (table_in s.old) (frame_at s.old frame.0) ≡ Ok (map (member_of (frames_of s.old)) members.now) }
+    requires members { Every (IsMember s.old) members.now }
+    ensures grows { Grows s.old s.new }
+{
+    let table = table_of(alloc, members)?;
+    s.keep(alloc, frame, table)
+}
+
+/// Keeps the elements of a frame that a walk has found, where no class is having its bases found and none are kept.
+pub(crate) fn walk_kept<'t>(
+    alloc: Global,
+    s: &mut Scopes<'t>,
+    ask: &Ask,
+    frame: FrameId,
+    walk: &Walk<'t>,
+) -> Result<(), NoMemory>
+    requires frame { IsFrame s.old frame.0 }
+    requires is { walked_of (table_in s.old) ask.now.left ask.now.busy.now ask.now.place (frame_at s.old frame.0) ≡ Ok (walk_seen (frames_of s.old) walk.now) }
+    requires stands { IsWalk s.old walk.now }
+    ensures grows { Grows s.old s.new }
+{
+    if !is_free(s, ask) {
+        return Ok(());
+    }
+    if s.table(frame).is_some() {
+        return Ok(());
+    }
+    let members = members_held(alloc, walk.members.as_slice())?;
+    elements_kept(alloc, s, frame, members.as_slice())
+}

@@ -1,0 +1,360 @@
+//! Rows: a text, a frame in it, what is asked there, and the answer.
+use crate::asking::answer_text;
+use mo_syntax::NoMemory;
+use std::alloc::Global;
+use std::process::Abort;
+
+/// A text, the frame, the call with its name, and what comes of it.
+type Row<'a> = (&'a str, &'a str, &'a str, &'a str);
+
+/// Inheritance (sections 5.6.1 and 7.1).
+const INHERITED: [(&str, &str, &str, &str); 9] = [
+    (
+        "model A\n  extends B;\nend A;\nmodel B\n  extends A;\nend B;\n",
+        "A",
+        "elements",
+        "rule 18 at 5:11",
+    ),
+    (
+        "model A extends B; Real x; end A; model B Real y; end B;",
+        "A",
+        "elements",
+        "y x ",
+    ),
+    (
+        "model C0 Real x = 1.0; end C0; model L1 extends C0; end L1; model R1 extends C0; end R1; model C1 extends L1; extends R1; end C1; model L2 extends C1; end L2; model R2 extends C1; end R2; model C2 extends L2; extends R2; end C2;",
+        "C2",
+        "elements",
+        "x ",
+    ),
+    (
+        "model C0 Real x = 1.0; end C0; model L extends C0(x=2.0); end L; model R extends C0; end R; model M extends L; extends R; end M;",
+        "M",
+        "elements",
+        "rule 19 at 1:15",
+    ),
+    (
+        "package Lib extends Lib.Icons.Package; package Icons extends Icons.Package; partial package Package end Package; end Icons; model M Real x; end M; end Lib;",
+        "Lib",
+        "elements",
+        "Icons M ",
+    ),
+    (
+        "model A Real x; end A; model B extends A; Real x; end B;",
+        "B",
+        "elements",
+        "rule 19 at 1:48",
+    ),
+    (
+        "model A replaceable model T end T; model M extends T; end M; end A;",
+        "A M",
+        "elements",
+        "rule 24 at 1:52",
+    ),
+    (
+        "type T = Real; model M extends T; Real x; end M;",
+        "M",
+        "elements",
+        "rule 13 at 1:40",
+    ),
+    (
+        "expandable connector X Real x; end X; model M extends X; end M;",
+        "M",
+        "elements",
+        "rule 34 at 1:22",
+    ),
+];
+
+/// The names of types.
+const TYPES: [(&str, &str, &str, &str); 10] = [
+    (
+        "package P\n  model Outer\n  end Outer;\n  encapsulated package Q\n    model M\n      Real x = 1.0;\n      Outer o;\n    end M;\n  end Q;\nend P;\n",
+        "P Q.M",
+        "child o",
+        "rule 12 at 7:7",
+    ),
+    (
+        "package P model Outer end Outer; encapsulated package Q model M Real x; Outer o; end M; end Q; end P;",
+        "P Q.M",
+        "child x",
+        "Real",
+    ),
+    (
+        "package P model Outer end Outer; package Q model M Outer o; end M; end Q; end P;",
+        "P Q.M",
+        "child o",
+        "Outer",
+    ),
+    ("model M a.T a; end M;", "M", "child a", "rule 13 at 1:9"),
+    ("model M T a; type T = Real; end M;", "M", "child a", "T"),
+    (
+        "model M Real a; end M;",
+        "M",
+        "child b",
+        "rule 12 at nowhere",
+    ),
+    (
+        "model N Real x; model T end T; end N; model M N.T a; end M;",
+        "M",
+        "child a",
+        "rule 16 at 1:49",
+    ),
+    (
+        "model N Real x; encapsulated model T end T; end N; model M N.T a; end M;",
+        "M",
+        "child a",
+        "T",
+    ),
+    (
+        "package N protected model T end T; end N; model M N.T a; end M;",
+        "M",
+        "child a",
+        "rule 17 at 1:53",
+    ),
+    (
+        "package P model Outer end Outer; encapsulated package Q model M end M; end Q; end P;",
+        "P Q.M",
+        "type Outer",
+        "rule 12 at 1:1",
+    ),
+];
+
+/// Names in expressions.
+const FOUND: [(&str, &str, &str, &str); 10] = [
+    ("model M Real x; end M;", "M", "find x", "x of M"),
+    (
+        "model M Real x; end M;",
+        "M",
+        "find y",
+        "rule 12 at nowhere",
+    ),
+    (
+        "package P constant Real c = 1; model M Real x; end M; end P;",
+        "P M",
+        "find c",
+        "c of P",
+    ),
+    (
+        "model P Real c; model M Real x; end M; end P;",
+        "P M",
+        "find c",
+        "rule 15 at nowhere",
+    ),
+    ("model M Real x; end M;", "M", "find time", "time"),
+    ("model M Real x; end M;", "M", "find sin", "function"),
+    (
+        "type E = enumeration(a, b); model M end M;",
+        "M",
+        "path E.b",
+        "literal 1 of E",
+    ),
+    (
+        "model A Real x; end A; model M A a; end M;",
+        "M",
+        "path a.x",
+        "x of A",
+    ),
+    (
+        "model A protected Real x; end A; model M A a; end M;",
+        "M",
+        "path a.x",
+        "rule 17 at 1:2",
+    ),
+    (
+        "package A constant Real c = 1; end A; model M Real A; end M;",
+        "M",
+        "path .A.c",
+        "c of A",
+    ),
+];
+
+/// Names behind components, and the same row refused.
+const BEHIND: [(&str, &str, &str, &str); 3] = [
+    (
+        "model A Real x; end A; model M A a; end M;",
+        "M",
+        "path a.y",
+        "rule 12 at 1:2",
+    ),
+    (
+        "model A model B end B; end A; model M A a; end M;",
+        "M",
+        "path a.B",
+        "rule 13 at 1:2",
+    ),
+    ("model M Real a; end M;", "M", "path a.x", "rule 12 at 1:2"),
+];
+
+/// Imports in each of their forms (section 13.2.1).
+const IMPORTED: [(&str, &str, &str, &str); 10] = [
+    (
+        "package P model T end T; end P; model M import P.T; T t; end M;",
+        "M",
+        "child t",
+        "T",
+    ),
+    (
+        "package P model T end T; end P; model M import U = P.T; U t; end M;",
+        "M",
+        "child t",
+        "T",
+    ),
+    (
+        "package P model T end T; end P; model M import P.{T}; T t; end M;",
+        "M",
+        "child t",
+        "T",
+    ),
+    (
+        "package P model T end T; end P; model M import P.*; T t; end M;",
+        "M",
+        "child t",
+        "T",
+    ),
+    (
+        "package P model T end T; end P; model M import P.U; U t; end M;",
+        "M",
+        "child t",
+        "rule 12 at 1:48",
+    ),
+    (
+        "package P protected model T end T; end P; model M import P.*; T t; end M;",
+        "M",
+        "child t",
+        "rule 12 at 1:63",
+    ),
+    (
+        "package P model T end T; end P; package Q model T end T; end Q; model M import P.*; import Q.*; T t; end M;",
+        "M",
+        "child t",
+        "rule 14 at 1:97",
+    ),
+    (
+        "package P model T end T; end P; package Q import P.T; end Q; model M extends Q; T t; end M;",
+        "M",
+        "child t",
+        "rule 12 at 1:81",
+    ),
+    (
+        "model P Real x; model T end T; end P; model M import P.T; T t; end M;",
+        "M",
+        "child t",
+        "rule 16 at 1:54",
+    ),
+    (
+        "package P constant Real c = 1; end P; model M import P.c; Real x; end M;",
+        "M",
+        "find c",
+        "c of P",
+    ),
+];
+
+/// Redeclarations (section 7.3): the class, and what the sources modify, outermost first.
+const REDECLARED: [(&str, &str, &str, &str); 5] = [
+    (
+        "model Base parameter Real k = 1; end Base; model Big extends Base; parameter Real j = 2; end Big; model Host replaceable Base load constrainedby Base(k=5); end Host; model M Host h(redeclare Big load(j=7)); end M;",
+        "M /h",
+        "child load",
+        "Big j k",
+    ),
+    (
+        "model R end R; model C end C; model Base replaceable R load; end Base; model M Base b(redeclare C load); end M;",
+        "M /b",
+        "child load",
+        "C",
+    ),
+    (
+        "model R end R; model C end C; model Base replaceable R load; end Base; model M extends Base(redeclare C load); end M;",
+        "M",
+        "child load",
+        "C",
+    ),
+    (
+        "model R end R; model C end C; model Base replaceable R load; end Base; model M Base b; end M;",
+        "M /b",
+        "child load",
+        "R",
+    ),
+    (
+        "model R end R; model Base replaceable R load; end Base; model M Base b(redeclare model load = R); end M;",
+        "M /b",
+        "child load",
+        "rule 13 at 1:88",
+    ),
+];
+
+/// Outer components (section 5.4).
+const OUTER: [(&str, &str, &str, &str); 4] = [
+    (
+        "model World Real g; end World; model Body outer World w; Real f; end Body; model M inner World w; Body b; end M;",
+        "M /b",
+        "find w",
+        "w of M",
+    ),
+    (
+        "model World Real g; end World; model Body outer World w; Real f; end Body; model M inner World w; Body b; end M;",
+        "M /b",
+        "path w.g",
+        "g of World",
+    ),
+    (
+        "model World Real g; end World; model Body outer World w; Real f; end Body; model M Body b; end M;",
+        "M /b",
+        "find w",
+        "rule 45 at 1:55",
+    ),
+    (
+        "model World Real g; end World; model Body outer World w; model In Real x; end In; end Body; model M inner World w; Body b; end M;",
+        "M /b",
+        "find v",
+        "rule 12 at nowhere",
+    ),
+];
+
+fn has_answer(rt: &impl Abort, alloc: Global, row: &Row) -> Result<(), NoMemory> {
+    let found = answer_text(alloc, row.0, row.1, row.2)?;
+    assert_eq!(rt; found.as_slice(), row.3.as_bytes());
+    Ok(())
+}
+
+fn have_answers(rt: &impl Abort, alloc: Global, rows: &[Row]) -> Result<(), NoMemory> {
+    for row in rows {
+        has_answer(rt, alloc, row)?;
+    }
+    Ok(())
+}
+
+#[test]
+fn inherited(rt: HostRuntime) -> Result<(), NoMemory> {
+    have_answers(&rt, rt.alloc(), &INHERITED)
+}
+
+#[test]
+fn types(rt: HostRuntime) -> Result<(), NoMemory> {
+    have_answers(&rt, rt.alloc(), &TYPES)
+}
+
+#[test]
+fn found(rt: HostRuntime) -> Result<(), NoMemory> {
+    have_answers(&rt, rt.alloc(), &FOUND)
+}
+
+#[test]
+fn behind(rt: HostRuntime) -> Result<(), NoMemory> {
+    have_answers(&rt, rt.alloc(), &BEHIND)
+}
+
+#[test]
+fn imported(rt: HostRuntime) -> Result<(), NoMemory> {
+    have_answers(&rt, rt.alloc(), &IMPORTED)
+}
+
+#[test]
+fn redeclared(rt: HostRuntime) -> Result<(), NoMemory> {
+    have_answers(&rt, rt.alloc(), &REDECLARED)
+}
+
+#[test]
+fn outer(rt: HostRuntime) -> Result<(), NoMemory> {
+    have_answers(&rt, rt.alloc(), &OUTER)
+}
