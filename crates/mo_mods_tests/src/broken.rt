@@ -165,6 +165,18 @@ fn asked(alloc: Global, scopes: &mut Scopes, name: &Text, row: &Row) -> Result<F
     Ok(frame)
 }
 
+// The rule that merging the sources of a frame breaks, with its byte.
+fn broken_by(alloc: Global, scopes: &Scopes, frame: FrameId) -> Result<Option<(u8, u32)>, NoMemory>
+    requires { IsFrame scopes.now frame.0 }
+{
+    let stop = merge(scopes, alloc, frame).err();
+    match stop {
+        None => Ok(None),
+        Some(Stop::Broken(broken)) => Ok(Some((broken.rule.number(), broken.place.byte))),
+        Some(Stop::NoMemory) => Err(NoMemory),
+    }
+}
+
 fn breaks(
     rt: &impl Abort,
     alloc: Global,
@@ -173,14 +185,8 @@ fn breaks(
     row: &Row,
 ) -> Result<(), NoMemory> {
     let frame = asked(alloc, scopes, name, row)?;
-    match merge(scopes, alloc, frame) {
-        Ok(_) => assert!(rt; row.broken.is_none(), "{}", row.text),
-        Err(Stop::Broken(broken)) => {
-            let found = (broken.rule.number(), broken.place.byte);
-            assert_eq!(rt; Some(found), row.broken, "{}", row.text);
-        }
-        Err(Stop::NoMemory) => return Err(NoMemory),
-    }
+    let found = broken_by(alloc, scopes, frame)?;
+    assert_eq!(rt; found, row.broken, "{}", row.text);
     Ok(())
 }
 
