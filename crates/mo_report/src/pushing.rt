@@ -6,8 +6,8 @@ use itoa::Buffer;
 use mo_syntax::{NoMemory, Text};
 
 #[tactic(auto, unfolding(crate::specs::Lines::numbered))]
-/// Puts a word and behind it a number at the end.
-pub(crate) fn push_numbered(out: &mut String, word: &str, number: usize) -> Result<(), NoMemory>
+/// Puts a word and behind it a number at the end. `NoMemory` is the only other answer.
+pub fn push_numbered(out: &mut String, word: &str, number: usize) -> Result<(), NoMemory>
     ensures { OnOk result (string_bytes out.new ≡ string_bytes out.old ++ numbered word.now number) }
 {
     let mut buffer = Buffer::new();
@@ -27,7 +27,7 @@ pub(crate) fn push_named(out: &mut String, word: &str, text: &str) -> Result<(),
 }
 
 /// The number at a place, and 0 past the last.
-pub(crate) fn number_at(numbers: &[u32], at: usize) -> usize
+pub fn number_at(numbers: &[u32], at: usize) -> usize
     ensures { result ≡ slice_index numbers.now at }
 {
     match numbers.get(at) {

@@ -19,7 +19,8 @@ fn write_reasons(out: &mut String, reasons: &[Reason]) -> Result<(), NoMemory>
     Ok(())
 }
 
-fn write_numbers(out: &mut String, numbers: &[u32]) -> Result<(), NoMemory>
+/// Writes numbers, each behind a blank. `NoMemory` is the only other answer.
+pub fn write_numbers(out: &mut String, numbers: &[u32]) -> Result<(), NoMemory>
     ensures { OnOk result (string_bytes out.new ≡ string_bytes out.old ++ flat_map (numbered (32 ∷ [])) numbers.now) }
 {
     for number in numbers {
@@ -40,8 +41,8 @@ fn write_blocks(out: &mut String, blocks: &[Vec<u32>]) -> Result<(), NoMemory>
 }
 
 #[tactic(auto, unfolding(crate::specs::Lines::derivative))]
-/// Writes an unknown's name in as many derivatives as its order says.
-fn write_derivative(
+/// Writes an unknown's name, by its number from 1, in as many derivatives as its order says. `NoMemory` is the only other answer.
+pub fn write_derivative(
     out: &mut String,
     names: &[Text],
     unknown: u32,
@@ -88,7 +89,9 @@ fn write_dummies(
     Ok(())
 }
 
-fn write_states(out: &mut String, names: &[Text], states: &[(u32, u32)]) -> Result<(), NoMemory>
+/// Writes a line for each state, which is an unknown by its number from 1 with the order of a derivative. `NoMemory` is the only other
+/// answer.
+pub fn write_states(out: &mut String, names: &[Text], states: &[(u32, u32)]) -> Result<(), NoMemory>
     ensures { OnOk result (string_bytes out.new ≡ string_bytes out.old ++ flat_map (state_line names.now) states.now) }
 {
     for state in states {
