@@ -10,3 +10,5 @@ mod blocks;
 mod checks;
 #[cfg(test)]
 mod offsets;
+#[cfg(test)]
+mod selections;

@@ -1,0 +1,22 @@
+-- The first attribute that is stateSelect.
+use Rattle.std.proofs.Common.{◌≡◌, ◌≢◌, ℕ, ◌+◌, ◌<◌, inl, inr, List, ◌∷◌, length, get_or, drop}
+use Rattle.std.proofs.lemmas.List.{drop_more}
+use Rattle.std.proofs.lemmas.Bool.Decides.{eqb_tells}
+use Rattle.mo_flat.specs.declared.expr.FlatExpr.{FlatExpr, out-FlatExpr}
+use Rattle.mo_select.specs.Levels.{level_at, level_in}
+
+module _ (attributes : List (ℕ × FlatExpr)) (i : ℕ) (a : ℕ × FlatExpr) (l : i < length attributes) (is : a ≡ get_or attributes i a) (to : level_in (drop i attributes) ≡ level_in attributes) where
+  opened : level_in (a ∷ drop (i + 1) attributes) ≡ level_in attributes
+  opened = rw (drop_more attributes i a l, ← is) at to
+
+  pub level-here : a.0 ≡ 9 → level_at (out-FlatExpr a.1) ≡ level_in attributes
+  level-here nine = elim (eqb_tells a.0 9) [
+    | inl e ↦ rw e.0 at opened
+    | inr e ↦ absurd (e.1 nine)
+  ]
+
+  pub level-skip : a.0 ≢ 9 → level_in (drop (i + 1) attributes) ≡ level_in attributes
+  level-skip other = elim (eqb_tells a.0 9) [
+    | inl e ↦ absurd (other e.1)
+    | inr e ↦ rw e.0 at opened
+  ]

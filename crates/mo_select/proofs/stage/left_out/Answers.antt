@@ -1,0 +1,24 @@
+use Rattle.std.proofs.Common.{◌≡◌, ℕ, ap, ◌∙◌, arith}
+use Rattle.mo_incidence.specs.Given.{given}
+use Rattle.mo_incidence.specs.Offsets.{by_place, by_number}
+use Rattle.mo_select.proofs.Opening.{left-out-are, left-out-known}
+use Rattle.mo_select.proofs.stage.left_out.Goals as goal
+
+pub numbers_at-requires-clause-known : goal.numbers_at-requires-clause-known
+numbers_at-requires-clause-known c =
+    let of : c.new-counted.result ≡ given c.args.inc.now.unknowns c.deref.result.now = c.new-counted.ensures ∙ c.in-Ok.ensures.ok ∙ ap (λ (n : ℕ). given n c.deref.result.now) c.unknowns.ensures in
+    rw (c.as_slice.ensures.value, c.deficit.ensures.equations) (left-out-known c.args.inc.now c.args.active.now c.deref.result.now (rw c.deref.ensures.value c.in_ok-rows.ensures.count) _ _ _ (rw of at c.assign-assigned.ensures.deficit))
+
+pub returns : goal.returns
+returns c =
+    let of : c.new-counted.result ≡ given c.args.inc.now.unknowns c.deref.result.now = c.new-counted.ensures ∙ c.in-Ok.ensures.ok ∙ ap (λ (n : ℕ). given n c.deref.result.now) c.unknowns.ensures in
+    left-out-are c.args.inc.now (by_place c.args.c.now) (by_number c.args.d.now) c.args.active.now c.args._order.now c.args.rank.now c.args.end c.requires.ranks c.requires.end c.deref.result.now
+    (rw c.deref.ensures.value c.in_ok-rows.ensures.count) (rw c.deref.ensures.value c.in_ok-rows.ensures.rows) c.assign-assigned.new.work.assignment c.assign-assigned.new.work.deficient c.assign-assigned.new.work.mentioned
+    _ _ (rw of at c.assign-assigned.ensures.largest) (rw of at c.assign-assigned.ensures.missing) (rw of at c.assign-assigned.ensures.deficit)
+    (rw (c.as_slice.ensures.value, c.deficit.ensures.equations) at c.in_ok-numbers.ensures)
+
+pub assign-assigned-requires : goal.assign-assigned-requires
+assign-assigned-requires c = rw (c.in_ok-work.ensures, c.new-counted.ensures) (record { equations = c.equations.ensures.count; unknowns = c.unknowns-2.ensures; entries = c.entries.ensures })
+
+pub numbers_at-requires-clause-small : goal.numbers_at-requires-clause-small
+numbers_at-requires-clause-small c = λ e l. omega (arith, c.requires.active e l, c.equations-equations.ensures.sound.few_equations)

@@ -1,0 +1,6 @@
+use Rattle.mo_incidence.specs.Offsets.{by_place, by_number}
+use Rattle.mo_select.specs.Ties.{entries_in, HasTies}
+use Rattle.mo_select.proofs.ties.tie.Given as goal
+
+abbrev pub invariant-loop-k : goal.invariant-loop-k
+invariant-loop-k l = HasTies l.inc (by_place l.c) (by_number l.d) l.active l._order (entries_in l.rows.items) l.e l.k

@@ -1,0 +1,123 @@
+//! The selection of a model, stage after stage.
+ghost use Rattle.std.specs.Prelude.{◌≡◌, ℕ, ◌+◌, ◌<◌, ◌≤◌, length, map, slice_index, IfOk, OnOk};
+ghost use Rattle.std.proofs.Common.{suc};
+ghost use Rattle.mo_incidence.specs.Counting.{sum_below};
+ghost use Rattle.mo_incidence.specs.Signature.{equations};
+ghost use Rattle.mo_incidence.specs.Assignment.{Assigns, CoversAll};
+ghost use Rattle.mo_incidence.specs.Offsets.{IsTight, by_place, by_number, sum_unknowns};
+ghost use Rattle.mo_incidence.specs.Dummies.{states_to};
+ghost use Rattle.mo_select.specs.Levels.{levels_of};
+ghost use Rattle.mo_select.specs.Selection.{levels, IsStage, AreStages, AreNested, dummies_from};
+ghost use Rattle.mo_select.specs.Staging.{AreUnknowns, CanAssign, AreWhole};
+
+use crate::candidates::{forget_ranks, in_order, keep, note_ranks, numbers, places};
+use crate::levels::levels_of;
+use crate::selection::{Selection, Stage};
+use crate::stage::ranked_stage;
+use crate::states::states;
+use mo_flat::FlatModel;
+use mo_incidence::{Incidence, Offsets};
+use mo_syntax::{List, NoMemory};
+use std::alloc::Global;
+
+/// The unknowns of a list of pairs.
+fn unknowns_of(alloc: Global, chosen: &[(u32, u32)]) -> Result<Vec<u32>, NoMemory>
+    ensures { IfOk result (λ unknowns. unknowns.items ≡ map (λ x. x.0) chosen.now) }
+{
+    let mut unknowns = Vec::new(alloc);
+    for pair in chosen {
+        unknowns.push(pair.0)?;
+    }
+    Ok(unknowns)
+}
+
+/// The stage with these equations and candidates. All ranks are 0 before and after.
+fn stage(
+    alloc: Global,
+    inc: &Incidence,
+    c: &[u32],
+    d: &[u32],
+    level: &[u32],
+    active: &[u32],
+    candidates: &[u32],
+    rank: &mut [usize],
+) -> Result<Stage, NoMemory>
+    requires sizes { (length c.now ≡ equations inc.now) × (length d.now ≡ inc.now.unknowns) × (length rank.old ≡ suc inc.now.unknowns) }
+    requires low { (j : ℕ) → by_number level.now j < levels }
+    requires active { (e : ℕ) → e < length active.now → slice_index active.now e < equations inc.now }
+    requires few { length active.now ≤ 50000 }
+    requires unknowns { AreUnknowns inc.now.unknowns candidates.now }
+    requires can { CanAssign inc.now (by_place c.now) (by_number d.now) active.now candidates.now }
+    requires clear { (j : ℕ) → slice_index rank.old j ≡ 0 }
+    ensures stage { IfOk result (IsStage inc.now (by_place c.now) (by_number d.now) (by_number level.now) active.now candidates.now) }
+    ensures clear { OnOk result ((j : ℕ) → slice_index rank.new j ≡ 0) }
+{
+    let _equations = inc.equations();
+    let (order, ends) = in_order(alloc, level, candidates)?;
+    note_ranks(&order, rank);
+    let made = ranked_stage(alloc, inc, c, d, active, candidates, &order, &ends, rank)?;
+    forget_ranks(&order, rank);
+    Ok(made)
+}
+
+/// All stages. All ranks are 0 before.
+fn stages(
+    alloc: Global,
+    inc: &Incidence,
+    c: &[u32],
+    d: &[u32],
+    _pairs: &[u32],
+    level: &[u32],
+    rank: &mut [usize],
+) -> Result<List<Stage>, NoMemory>
+    requires sizes { (length c.now ≡ equations inc.now) × (length d.now ≡ inc.now.unknowns) × (length rank.old ≡ suc inc.now.unknowns) }
+    requires low { (j : ℕ) → by_number level.now j < levels }
+    requires tight { Assigns (IsTight inc.now (by_place c.now) (by_number d.now)) (equations inc.now) (by_place _pairs.now) }
+    requires all { CoversAll inc.now (by_place _pairs.now) }
+    requires clear { (j : ℕ) → slice_index rank.old j ≡ 0 }
+    ensures { IfOk result (AreWhole inc.now (by_place c.now) (by_number d.now) (by_number level.now)) }
+{
+    let _equations = inc.equations();
+    let mut stages = List::new(alloc);
+    let mut candidates = numbers(alloc, inc.unknowns())?;
+    let all = places(alloc, inc.equations())?;
+    let mut active = keep(alloc, c, &all, 0)?;
+    let mut done = 0;
+    'on: while !active.is_empty() {
+        let made = stage(alloc, inc, c, d, level, &active, &candidates, rank)?;
+        candidates = unknowns_of(alloc, made.chosen.as_slice())?;
+        stages.push(made)?;
+        done += 1;
+        active = keep(alloc, c, &active, done)?;
+    }
+    Ok(stages)
+}
+
+/// Chooses the dummy derivatives of a system by the attribute stateSelect of its unknowns, stage after stage, and lists the states that they
+/// leave (S. E. Mattsson and G. Söderlind, Index reduction in differential-algebraic equations using dummy derivatives, SIAM J. Sci. Comput.
+/// 14, 1993). At each stage the chosen candidates are those that have, in every prefix of the candidates by level and then number, as many
+/// members as any to which equations of the stage can be assigned by tight entries. The incidence has to be that of the model, with offsets
+/// whose pairs are an assignment of all equations by tight entries; where it has more unknowns than the model, these have level 0.
+/// `NoMemory` is the only other answer.
+pub fn select(
+    alloc: Global,
+    m: &FlatModel,
+    inc: &Incidence,
+    off: &Offsets,
+) -> Result<Selection, NoMemory>
+    requires lengths { (length off.now.c.items ≡ equations inc.now) × (length off.now.d.items ≡ inc.now.unknowns) × (length off.now.pairs.items ≡ equations inc.now) }
+    requires tight { Assigns (IsTight inc.now (by_place off.now.c.items) (by_number off.now.d.items)) (equations inc.now) (by_place off.now.pairs.items) }
+    requires all { CoversAll inc.now (by_place off.now.pairs.items) }
+    ensures stages { IfOk result (λ selection. AreStages inc.now (by_place off.now.c.items) (by_number off.now.d.items) (by_number (levels_of m.now.vars)) selection.stages) }
+    ensures nested { IfOk result (λ selection. AreNested selection.stages) }
+    ensures states { IfOk result (λ selection. selection.states ≡ states_to (dummies_from (by_number off.now.d.items) 1 selection.stages) (by_number off.now.d.items) inc.now.unknowns) }
+    ensures dummies_count { IfOk result (λ selection. length (dummies_from (by_number off.now.d.items) 1 selection.stages) ≡ sum_below (by_place off.now.c.items) (equations inc.now)) }
+    ensures states_count { IfOk result (λ selection. length selection.states + sum_below (by_place off.now.c.items) (equations inc.now) ≡ sum_unknowns inc.now (by_number off.now.d.items)) }
+{
+    let _equations = inc.equations();
+    let level = levels_of(alloc, m.vars.as_slice())?;
+    let mut rank = vec![in alloc; 0usize; inc.unknowns() as usize + 1]?;
+    let stages = stages(alloc, inc, &off.c, &off.d, &off.pairs, &level, &mut rank)?;
+    let states = states(alloc, &off.d, stages.as_slice())?;
+    Ok(Selection { stages, states })
+}
