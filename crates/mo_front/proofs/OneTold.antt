@@ -1,5 +1,5 @@
 -- What is told of one input is one thing: one status and one text.
-use Rattle.std.proofs.Common.{◌≡◌, ℕ, if◌then◌else◌, List, [], ◌∷◌, Option, Some, None, is_some, unwrap_or, nat_le, refl, ap, sym, ◌∙◌, subst}
+use Rattle.std.proofs.Common.{◌≡◌, ℕ, Bool, true, false, if◌then◌else◌, List, [], ◌∷◌, Option, Some, None, is_some, unwrap_or, nat_le, refl, ap, sym, ◌∙◌, subst}
 use Rattle.std.specs.Prelude.{flat_map}
 use Rattle.mo_syntax.specs.declared.place.Broken.{Broken}
 use Rattle.mo_syntax.specs.declared.place.Place.{Place}
@@ -14,13 +14,23 @@ use Rattle.mo_report.specs.Same.{SaySame, deficit_lists, offset_lists}
 use Rattle.mo_report.proofs.OneReport.{one-report}
 use Rattle.mo_report.proofs.SameLines.{same-lines, offsets-are, offsets-none, none-offsets, both-none, none-both}
 use Rattle.mo_json.proofs.SameData.{same-line}
+use Rattle.mo_incidence.specs.Model.{incidence_of}
+use Rattle.mo_incidence.specs.Offsets.{by_number, by_place}
+use Rattle.mo_select.specs.declared.selection.Selection.{Selection}
+use Rattle.mo_select.specs.Levels.{levels_of}
+use Rattle.mo_select.proofs.LowLevels.{levels-low}
+use Rattle.mo_select.proofs.SameText.{same-text}
+use Rattle.mo_select.proofs.Unique.{one-selection}
 use Rattle.mo_front.specs.declared.status.Status.{Status}
 use Rattle.mo_front.specs.declared.table.Part.{Part}
 use Rattle.mo_front.specs.declared.table.Part.TheVariants as part
 use Rattle.mo_front.specs.declared.table.Phase.{Phase}
 use Rattle.mo_front.specs.declared.table.Phase.TheVariants as phase
+use Rattle.mo_front.specs.declared.status.Status.TheVariants.{Done, Singular}
 use Rattle.mo_front.specs.declared.words.Emit.{Emit}
-use Rattle.mo_front.specs.Emitted.{PhaseBreaks, PhasesBreak, all_passed, this_one, later, ReducedBreaks, no_offsets, given, large, nothing, Writes, flat_text, analysed, Refuses, no_incidence, no_text as no_part, asked_by, derivatives_size, report_refusal, reduced_part, part_text, status_of}
+use Rattle.mo_front.specs.declared.words.Emit.TheVariants as emit
+use Rattle.mo_front.specs.Emitted.{PhaseBreaks, PhasesBreak, all_passed, this_one, later, ReducedBreaks, no_offsets, given, large, nothing, Writes, flat_text, analysed, Refuses, no_incidence, no_text as no_part, asked_by, derivatives_size, report_refusal, reduced_part, part_text, status_of, is_singular, IsSelected, no_selection, selection, Selects}
+use Rattle.mo_front.specs.States.{IsSelectionOf, selected_lines}
 use Rattle.mo_front.specs.Told.{Outcome, flat, broken, WritesGiven, Breaks, no_model, no_text, TellsOf, written, refused}
 
 some-is : {A : Type 0} (a b : A) → Some a ≡ Some b → a ≡ b
@@ -79,25 +89,52 @@ module _ (m : FlatModel) where
 
     -- ---- the text and the status
 
-    same-part : (p : Part) → part_text m r p ≡ part_text m s p
-    same-part part.Flat = refl
-    same-part part.Reduced = ap (λ (t : Option (List ℕ)). unwrap_or t []) (same-reduced r.offsets s.offsets say.offsets)
-    same-part part.ReducedOrReport = rw (same-reduced r.offsets s.offsets say.offsets, same-lines r s say) refl
-    same-part part.Report = same-lines r s say
-    same-part part.Json = same-line r s say
-
-    same-parts : (parts : List Part) → flat_map (part_text m r) parts ≡ flat_map (part_text m s) parts
-    same-parts [] = refl
-    same-parts (p ∷ parts) = rw (same-part p, same-parts parts) refl
-
     same-test : (x y : Option Deficit) → deficit_lists x ≡ deficit_lists y → is_some x ≡ is_some y
     same-test None None e = refl
     same-test None (Some y) e = absurd (none-both y e)
     same-test (Some x) None e = absurd (both-none x e)
     same-test (Some x) (Some y) e = refl
 
+    same-singular : is_singular r ≡ is_singular s
+    same-singular = rw (same-test r.deficit s.deficit say.deficit, say.equations, say.unknowns) refl
+
+    one-selected : (x y : Option Selection) → IsSelected m r x → IsSelected m s y → selected_lines r x r.offsets ≡ selected_lines s y s.offsets
+    one-selected None None (no_selection holds) (no_selection holds') = same-lines r s say
+    one-selected None (Some b) (no_selection holds) (selection p fails p_is b_is) = let never : true ≡ false = sym holds ∙ same-singular ∙ fails in absurd cc
+    one-selected (Some a) None (selection o fails o_is a_is) (no_selection holds) = let never : true ≡ false = sym holds ∙ sym same-singular ∙ fails in absurd cc
+    one-selected (Some a) (Some b) (selection o fails o_is a_is) (selection p fails' p_is b_is) =
+        let lists : offset_lists (Some o) ≡ offset_lists (Some p) = rw (o_is, p_is) at say.offsets in
+        let are = offsets-are o p lists in
+        let there : IsSelectionOf m o b = rw (are.0, are.1) b_is in
+        let same = one-selection (incidence_of m) (by_place o.c.items) (by_number o.d.items) (by_number (levels_of m.vars)) a b (levels-low m.vars) a_is there in
+        rw (o_is, p_is, say.name, say.unknowns) (same-text s.name s.unknowns o p a b are.0 are.1 same)
+
+    none-selected : (x y : Option Selection) → x ≡ None → y ≡ None → selected_lines r x r.offsets ≡ selected_lines s y s.offsets
+    none-selected x y e e' = rw (e, e') (same-lines r s say)
+
+    one-selects : (emit : Emit) (x y : Option Selection) → Selects emit m r x → Selects emit m s y → selected_lines r x r.offsets ≡ selected_lines s y s.offsets
+    one-selects emit.Flat x y a b = none-selected x y a b
+    one-selects emit.Reduced x y a b = none-selected x y a b
+    one-selects emit.Report x y a b = none-selected x y a b
+    one-selects emit.All x y a b = none-selected x y a b
+    one-selects emit.Json x y a b = none-selected x y a b
+    one-selects emit.States x y a b = one-selected x y a b
+
+    module _ (x y : Option Selection) (lines : selected_lines r x r.offsets ≡ selected_lines s y s.offsets) where
+      same-part : (p : Part) → part_text m r x p ≡ part_text m s y p
+      same-part part.Flat = refl
+      same-part part.Reduced = ap (λ (t : Option (List ℕ)). unwrap_or t []) (same-reduced r.offsets s.offsets say.offsets)
+      same-part part.ReducedOrReport = rw (same-reduced r.offsets s.offsets say.offsets, same-lines r s say) refl
+      same-part part.Report = same-lines r s say
+      same-part part.Json = same-line r s say
+      same-part part.StatesOrReport = lines
+
+      same-parts : (parts : List Part) → flat_map (part_text m r x) parts ≡ flat_map (part_text m s y) parts
+      same-parts [] = refl
+      same-parts (p ∷ parts) = rw (same-part p, same-parts parts) refl
+
     same-status : status_of r ≡ status_of s
-    same-status = rw (same-test r.deficit s.deficit say.deficit, say.equations, say.unknowns) refl
+    same-status = ap (λ (b : Bool). if b then Singular else Done) same-singular
 
   module _ (emit : Emit) where
     one-written : (status other : Status) (text more : List ℕ) → Writes emit m status text → Writes emit m other more → (status ≡ other) × (text ≡ more)
@@ -106,7 +143,8 @@ module _ (m : FlatModel) where
     one-written status other text more (analysed r not accepted right passes status_is text_is) (flat_text is done whole) = absurd (not is)
     one-written status other text more (analysed r not accepted right passes status_is text_is) (analysed s not' accepted' right' passes' status_is' text_is') =
         let say = one-report m r s right right' in
-        (status_is ∙ (same-status r s say ∙ sym status_is'), text_is ∙ (same-parts r s say (asked_by emit).parts ∙ sym text_is'))
+        let lines = one-selects r s say emit text_is.selected text_is'.selected text_is.selects text_is'.selects in
+        (status_is ∙ (same-status r s say ∙ sym status_is'), text_is.is ∙ (same-parts r s say text_is.selected text_is'.selected lines (asked_by emit).parts ∙ sym text_is'.is))
 
     one-refusal : (b c : Broken) → Refuses emit m b → Refuses emit m c → b ≡ c
     one-refusal b c (no_incidence not is) (no_incidence not' is') = some-is b c (sym is ∙ is')

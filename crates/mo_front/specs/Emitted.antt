@@ -1,7 +1,8 @@
 -- What is written of a flat model, by what is asked for: its text, its reduced model (S. E. Mattsson and G. Söderlind, Index
 -- reduction in differential-algebraic equations using dummy derivatives, SIAM J. Sci. Comput. 14, 1993), the report on its
--- structure (J. D. Pryce, A simple structural analysis method for DAEs, BIT 41, 2001), as lines or as JSON, or all three.
-use Rattle.std.specs.Prelude.{◌≡◌, ◌≢◌, ℕ, ◌==◌, ◌||◌, Bool, List, [], ◌∷◌, flat_map, Option, Some, None, is_some, length, nat_le, nat_lt, unwrap_or, if◌then◌else◌}
+-- structure (J. D. Pryce, A simple structural analysis method for DAEs, BIT 41, 2001), as lines or as JSON, or all three; or the states that
+-- stateSelect prefers (Modelica Language Specification 3.5, section 4.8.7.1).
+use Rattle.std.specs.Prelude.{◌≡◌, ◌≢◌, ℕ, ◌==◌, ◌||◌, Bool, true, false, List, [], ◌∷◌, flat_map, Option, Some, None, is_some, length, nat_le, nat_lt, unwrap_or, if◌then◌else◌}
 use Rattle.mo_syntax.specs.declared.place.Broken.{Broken}
 use Rattle.mo_syntax.specs.declared.place.Place.{Place}
 use Rattle.mo_flat.specs.declared.model.FlatModel.{FlatModel}
@@ -15,6 +16,7 @@ use Rattle.mo_report.specs.Lines.{report_lines}
 use Rattle.mo_report.specs.Right.{IsRightReport}
 use Rattle.mo_report.specs.Size.{report_limit, report_size}
 use Rattle.mo_json.specs.Values.{json_line}
+use Rattle.mo_select.specs.declared.selection.Selection.{Selection}
 use Rattle.mo_front.specs.declared.status.Status.{Status}
 use Rattle.mo_front.specs.declared.status.Status.TheVariants.{Done, Singular}
 use Rattle.mo_front.specs.declared.words.Emit.{Emit}
@@ -23,6 +25,7 @@ use Rattle.mo_front.specs.declared.table.Phase.{Phase}
 use Rattle.mo_front.specs.declared.table.Phase.TheVariants as phase
 use Rattle.mo_front.specs.declared.table.Part.{Part}
 use Rattle.mo_front.specs.declared.table.Part.TheVariants as part
+use Rattle.mo_front.specs.States.{IsSelectionOf, selected_lines}
 
 -- ---- what is asked for
 
@@ -38,6 +41,7 @@ asked_by emit.Reduced = record { phases = phase.Reduction ∷ []; parts = part.R
 asked_by emit.Report = record { phases = phase.Size ∷ []; parts = part.Report ∷ [] }
 asked_by emit.All = record { phases = phase.Size ∷ phase.Reduction ∷ []; parts = part.Flat ∷ part.Reduced ∷ part.Report ∷ [] }
 asked_by emit.Json = record { phases = phase.Size ∷ []; parts = part.Json ∷ [] }
+asked_by emit.States = record { phases = phase.Size ∷ []; parts = part.StatesOrReport ∷ [] }
 
 -- ---- the rules that the phases behind the incidence break, which go by a right report
 
@@ -78,13 +82,14 @@ abbrev pub reduced_part : FlatModel → Option Offsets → Option (List ℕ)
 reduced_part m None = None
 reduced_part m (Some offsets) = Some (reduced_text m (reduced_lines m.vars m.equations offsets.c.items))
 
--- one of the texts that may be written of the model
-abbrev pub part_text : FlatModel → Report → Part → List ℕ
-part_text m r part.Flat = model_text m
-part_text m r part.Reduced = unwrap_or (reduced_part m r.offsets) []
-part_text m r part.ReducedOrReport = unwrap_or (reduced_part m r.offsets) (report_lines r)
-part_text m r part.Report = report_lines r
-part_text m r part.Json = json_line r
+-- one of the texts that may be written of the model, with the states that are selected where they are asked for
+abbrev pub part_text : FlatModel → Report → Option Selection → Part → List ℕ
+part_text m r s part.Flat = model_text m
+part_text m r s part.Reduced = unwrap_or (reduced_part m r.offsets) []
+part_text m r s part.ReducedOrReport = unwrap_or (reduced_part m r.offsets) (report_lines r)
+part_text m r s part.Report = report_lines r
+part_text m r s part.Json = json_line r
+part_text m r s part.StatesOrReport = selected_lines r s r.offsets
 
 -- not every equation or not every unknown can be assigned
 abbrev pub is_singular : Report → Bool
@@ -93,12 +98,30 @@ is_singular r = is_some r.deficit || nat_lt r.equations (length r.unknowns)
 abbrev pub status_of : Report → Status
 status_of r = if is_singular r then Singular else Done
 
+-- ---- the states
+
+-- the selection of a model with that report: none where not every equation or not every unknown can be assigned
+pub data IsSelected (m : FlatModel) (r : Report) : Option Selection → Type 0 where
+  no_selection : is_singular r ≡ true → IsSelected m r None
+  selection : {selected : Selection} (offsets : Offsets) → is_singular r ≡ false → r.offsets ≡ Some offsets → IsSelectionOf m offsets selected → IsSelected m r (Some selected)
+
+-- states are selected where they are asked for
+abbrev pub Selects : Emit → FlatModel → Report → Option Selection → Type 0
+Selects emit.States m r s = IsSelected m r s
+Selects asked m r s = s ≡ None
+
+-- the texts that are asked for, one behind the other
+pub record IsTextOf (asked : Emit) (m : FlatModel) (r : Report) (text : List ℕ) : Type 0 where
+  pub selected : Option Selection
+  pub selects : Selects asked m r selected
+  pub is : text ≡ flat_map (part_text m r selected) (asked_by asked).parts
+
 -- ---- the whole
 
 -- the text that is written of the model, with its status
 pub data Writes (asked : Emit) (m : FlatModel) (status : Status) (text : List ℕ) : Type 0 where
   flat_text : asked ≡ emit.Flat → status ≡ Done → text ≡ model_text m → Writes asked m status text
-  analysed : (r : Report) → asked ≢ emit.Flat → refusal_of m ≡ None → IsRightReport m r → PhasesBreak m r (asked_by asked).phases None → status ≡ status_of r → text ≡ flat_map (part_text m r) (asked_by asked).parts
+  analysed : (r : Report) → asked ≢ emit.Flat → refusal_of m ≡ None → IsRightReport m r → PhasesBreak m r (asked_by asked).phases None → status ≡ status_of r → IsTextOf asked m r text
       → Writes asked m status text
 
 -- the first rule that is broken instead: those of the incidence before those of the other phases

@@ -8,6 +8,7 @@ pub mod Loading
 pub mod Names
 pub mod Refusal
 pub mod Run
+pub mod States
 pub mod Structure
 pub mod Told
 pub mod Words

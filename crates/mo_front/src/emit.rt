@@ -3,21 +3,26 @@ ghost use Rattle.std.specs.Prelude.{◌≡◌, ◌≢◌, ◌++◌, Some, None, 
 ghost use Rattle.mo_lexer.specs.Lexing.{IfBroken};
 ghost use Rattle.mo_flat.specs.Sound.{IsSoundModel};
 ghost use Rattle.mo_flat.specs.Text.{model_text};
-ghost use Rattle.mo_incidence.specs.Model.{refusal_of};
+ghost use Rattle.mo_incidence.specs.Model.{incidence_of, refusal_of};
 ghost use Rattle.mo_symdiff.specs.Reduced.{too_large};
 ghost use Rattle.mo_report.specs.Lines.{report_lines};
 ghost use Rattle.mo_json.specs.Values.{json_line};
 ghost use Rattle.mo_report.specs.Right.{IsRightReport};
 ghost use Rattle.mo_report.specs.Size.{report_limit};
-ghost use Rattle.mo_front.specs.Emitted.{PhaseBreaks, PhasesBreak, ReducedBreaks, Refuses, Writes, asked_by, derivatives_size, is_singular, part_text, reduced_part, status_of};
+ghost use Rattle.mo_select.specs.Text.{selection_lines};
+ghost use Rattle.mo_front.specs.States.{selected_lines};
+ghost use Rattle.mo_front.specs.Emitted.{IsTextOf, PhaseBreaks, PhasesBreak, ReducedBreaks, Refuses, Selects, Writes, asked_by, derivatives_size, is_singular, part_text, reduced_part, status_of};
 
+use crate::states::selection_of;
 use crate::status::Status;
-use crate::structure::report_of;
+use crate::structure::{Analysis, analysis_of, is_singular};
 use crate::table::{Part, Phase, parts, phases};
 use crate::words::Emit;
 use mo_flat::{FlatModel, flat_text};
+use mo_incidence::Offsets;
 use mo_json::report_json;
 use mo_report::{Report, report_fits, report_text};
+use mo_select::{Selection, selection_text};
 use mo_symdiff::{reduced, reduced_text};
 use mo_syntax::{Broken, NoMemory, Rule, Stop, Text};
 use std::alloc::Global;
@@ -42,9 +47,9 @@ fn analysed(alloc: Global, emit: Emit, m: &FlatModel) -> Result<(Status, Text), 
     ensures written { IfOk result (λ w. Writes emit m.now w.0 w.1) }
     ensures refused { IfBroken result (λ b. Refuses emit m.now b) }
 {
-    match report_of(alloc, m) {
-        Ok(report) => match text_of(alloc, emit, m, &report) {
-            Ok(text) => Ok((status_of(&report), text)),
+    match analysis_of(alloc, m) {
+        Ok(analysis) => match text_of(alloc, emit, m, &analysis) {
+            Ok(text) => Ok((status_of(&analysis.report), text)),
             Err(stop) => Err(stop),
         },
         Err(stop) => Err(stop),
@@ -55,23 +60,44 @@ fn analysed(alloc: Global, emit: Emit, m: &FlatModel) -> Result<(Status, Text), 
 fn status_of(r: &Report) -> Status
     ensures { result ≡ status_of r.now }
 {
-    if r.deficit.is_some() || (r.equations as usize) < r.unknowns.len() {
+    if is_singular(r) {
         Status::Singular
     } else {
         Status::Done
     }
 }
 
-/// The text of a model with that report, or the rule that a phase behind the incidence breaks.
-fn text_of(alloc: Global, emit: Emit, m: &FlatModel, r: &Report) -> Result<Text, Stop>
-    requires right { IsRightReport m.now r.now }
-    ensures passed { OnOk result (PhasesBreak m.now r.now (asked_by emit).phases None) }
-    ensures text { IfOk result (λ text. text ≡ flat_map (part_text m.now r.now) (asked_by emit).parts) }
-    ensures refused { IfBroken result (λ b. PhasesBreak m.now r.now (asked_by emit).phases (Some b)) }
+/// The text of a model with that incidence and report, or the rule that a phase behind the incidence breaks.
+fn text_of(alloc: Global, emit: Emit, m: &FlatModel, a: &Analysis) -> Result<Text, Stop>
+    requires incidence { a.now.incidence ≡ incidence_of m.now }
+    requires right { IsRightReport m.now a.now.report }
+    ensures passed { OnOk result (PhasesBreak m.now a.now.report (asked_by emit).phases None) }
+    ensures text { IfOk result (IsTextOf emit m.now a.now.report) }
+    ensures refused { IfBroken result (λ b. PhasesBreak m.now a.now.report (asked_by emit).phases (Some b)) }
 {
-    match passed(alloc, m, r, phases(emit)) {
-        Ok(made) => Ok(all_parts(alloc, m, r, &made, parts(emit))?),
+    match passed(alloc, m, &a.report, phases(emit)) {
+        Ok(made) => {
+            let selected = selected(alloc, emit, m, a)?;
+            Ok(all_parts(alloc, m, &a.report, &selected, &made, parts(emit))?)
+        }
         Err(stop) => Err(stop),
+    }
+}
+
+/// The states that are selected, where they are asked for.
+fn selected(
+    alloc: Global,
+    emit: Emit,
+    m: &FlatModel,
+    a: &Analysis,
+) -> Result<Option<Selection>, NoMemory>
+    requires incidence { a.now.incidence ≡ incidence_of m.now }
+    requires right { IsRightReport m.now a.now.report }
+    ensures { IfOk result (Selects emit m.now a.now.report) }
+{
+    match emit {
+        Emit::States => selection_of(alloc, m, &a.incidence, &a.report),
+        Emit::Flat | Emit::Reduced | Emit::Report | Emit::All | Emit::Json => Ok(None),
     }
 }
 
@@ -154,14 +180,15 @@ fn all_parts(
     alloc: Global,
     m: &FlatModel,
     r: &Report,
+    selected: &Option<Selection>,
     reduced: &Option<Option<Text>>,
     parts: &[Part],
 ) -> Result<Text, NoMemory>
     requires { IfSome reduced.now (λ part. part ≡ reduced_part m.now r.now.offsets) }
-    ensures { IfOk result (λ text. text ≡ flat_map (part_text m.now r.now) parts.now) }
+    ensures { IfOk result (λ text. text ≡ flat_map (part_text m.now r.now selected.now) parts.now) }
 {
     let mut out = String::new(alloc);
-    write_parts(alloc, &mut out, m, r, reduced, parts)?;
+    write_parts(alloc, &mut out, m, r, selected, reduced, parts)?;
     Ok(Text::from_string(out))
 }
 
@@ -171,14 +198,15 @@ fn write_parts(
     out: &mut String,
     m: &FlatModel,
     r: &Report,
+    selected: &Option<Selection>,
     reduced: &Option<Option<Text>>,
     parts: &[Part],
 ) -> Result<(), NoMemory>
     requires { IfSome reduced.now (λ part. part ≡ reduced_part m.now r.now.offsets) }
-    ensures { OnOk result (string_bytes out.new ≡ string_bytes out.old ++ flat_map (part_text m.now r.now) parts.now) }
+    ensures { OnOk result (string_bytes out.new ≡ string_bytes out.old ++ flat_map (part_text m.now r.now selected.now) parts.now) }
 {
     for part in parts {
-        write_part(alloc, out, m, r, reduced, *part)?;
+        write_part(alloc, out, m, r, selected, reduced, *part)?;
     }
     Ok(())
 }
@@ -189,11 +217,12 @@ fn write_part(
     out: &mut String,
     m: &FlatModel,
     r: &Report,
+    selected: &Option<Selection>,
     reduced: &Option<Option<Text>>,
     part: Part,
 ) -> Result<(), NoMemory>
     requires { IfSome reduced.now (λ part. part ≡ reduced_part m.now r.now.offsets) }
-    ensures { OnOk result (string_bytes out.new ≡ string_bytes out.old ++ part_text m.now r.now part) }
+    ensures { OnOk result (string_bytes out.new ≡ string_bytes out.old ++ part_text m.now r.now selected.now part) }
 {
     match part {
         Part::Flat => write_flat(alloc, out, m),
@@ -209,7 +238,42 @@ fn write_part(
             Some(None) => write_report(alloc, out, r),
             None => Err(NoMemory),
         },
+        Part::StatesOrReport => write_selected(alloc, out, r, selected),
     }
+}
+
+/// Writes the states that are selected, or the report where none are.
+fn write_selected(
+    alloc: Global,
+    out: &mut String,
+    r: &Report,
+    selected: &Option<Selection>,
+) -> Result<(), NoMemory>
+    ensures { OnOk result (string_bytes out.new ≡ string_bytes out.old ++ selected_lines r.now selected.now r.now.offsets) }
+{
+    match selected {
+        Some(selection) => match &r.offsets {
+            Some(offsets) => write_selection(alloc, out, r, offsets, selection),
+            None => write_report(alloc, out, r),
+        },
+        None => write_report(alloc, out, r),
+    }
+}
+
+fn write_selection(
+    alloc: Global,
+    out: &mut String,
+    r: &Report,
+    offsets: &Offsets,
+    selection: &Selection,
+) -> Result<(), NoMemory>
+    ensures { OnOk result (string_bytes out.new ≡ string_bytes out.old ++ selection_lines r.now.name r.now.unknowns offsets.now selection.now) }
+{
+    let names = r.unknowns.as_slice();
+    write_text(
+        out,
+        &selection_text(alloc, &r.name, names, offsets, selection)?,
+    )
 }
 
 fn write_text(out: &mut String, text: &Text) -> Result<(), NoMemory>

@@ -1,5 +1,5 @@
 //! The program from words and files to bytes: it reads the files, finds the class in their trees, and writes its flat
-//! text, its reduced model and the report on its structure, or the line that names the first broken rule.
+//! text, its reduced model, the report on its structure or the states that stateSelect prefers, or the line that names the first broken rule.
 //!
 //! - `run`: the program over any shelf and sink.
 //! - `files_give_one` and `files_tell_one` are the laws that files give one thing only, and that one text is told of it.
@@ -20,6 +20,7 @@ mod phases;
 mod program;
 mod refusal;
 mod size;
+mod states;
 mod status;
 mod structure;
 mod table;

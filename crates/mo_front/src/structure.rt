@@ -6,10 +6,11 @@ ghost use Rattle.mo_incidence.specs.Signature.{equations};
 ghost use Rattle.mo_incidence.specs.Assignment.{IsAssignment, CoversAll, IsDeficit, IsUndetermined, ListsWhere};
 ghost use Rattle.mo_incidence.specs.Offsets.{by_place, by_number};
 ghost use Rattle.mo_incidence.specs.Reasons.{AreReasonsOf};
-ghost use Rattle.mo_incidence.specs.Model.{refusal_of};
+ghost use Rattle.mo_incidence.specs.Model.{incidence_of, refusal_of};
 ghost use Rattle.mo_match.specs.Results.{IsMadeFor};
 ghost use Rattle.mo_report.specs.Right.{IsRightReport, AreLeastOffsets};
 ghost use Rattle.mo_report.specs.Size.{unknown_names};
+ghost use Rattle.mo_front.specs.Emitted.{is_singular};
 ghost use Rattle.mo_front.specs.Structure.{IsReportOn, IsEmptyReport};
 
 use crate::degrees::{freedom, index, orders};
@@ -23,20 +24,38 @@ use mo_report::Report;
 use mo_syntax::{List, NoMemory, Role, Stop, Text};
 use std::alloc::Global;
 
-/// The report on the structure of a sound flat model: the deficit, where not every equation can have an unknown of its own;
+/// The incidence of a model and the report on it.
+#[derive(Drop)]
+pub(crate) struct Analysis {
+    pub(crate) incidence: Incidence,
+    pub(crate) report: Report,
+}
+
+/// Whether not every equation or not every unknown can be assigned.
+pub(crate) fn is_singular(r: &Report) -> bool
+    ensures { result ≡ is_singular r.now }
+{
+    r.deficit.is_some() || (r.equations as usize) < r.unknowns.len()
+}
+
+/// The incidence of a sound flat model, and the report on its structure: the deficit, where not every equation can have an unknown of its own;
 /// otherwise the least offsets, with the undetermined unknowns where there are fewer equations than unknowns, and in a square
 /// system with reasons, blocks, dummies, index and freedom.
 ///
 /// Breaks rule 43 at the first equation in which a given variable would be differentiated, and then rule 42 at the model where
 /// there are more than 1,000,000 entries.
-pub(crate) fn report_of(alloc: Global, m: &FlatModel) -> Result<Report, Stop>
+pub(crate) fn analysis_of(alloc: Global, m: &FlatModel) -> Result<Analysis, Stop>
     requires sound { IsSoundModel m.now }
-    ensures right { IfOk result (λ r. IsRightReport m.now r) }
+    ensures incidence { IfOk result (λ a. a.incidence ≡ incidence_of m.now) }
+    ensures right { IfOk result (λ a. IsRightReport m.now a.report) }
     ensures accepted { OnOk result (refusal_of m.now ≡ None) }
     ensures refused { IfBroken result (λ b. refusal_of m.now ≡ Some b) }
 {
     match incidence(alloc, m) {
-        Ok(inc) => Ok(of_incidence(alloc, m, &inc)?),
+        Ok(incidence) => {
+            let report = of_incidence(alloc, m, &incidence)?;
+            Ok(Analysis { incidence, report })
+        }
         Err(Stop::Broken(broken)) => Err(Stop::Broken(broken)),
         Err(Stop::NoMemory) => Err(Stop::NoMemory),
     }

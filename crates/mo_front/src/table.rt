@@ -26,6 +26,8 @@ pub(crate) enum Part {
     Report,
     /// The report as JSON, and a line feed.
     Json,
+    /// The states that are selected, or the report where there is no selection.
+    StatesOrReport,
 }
 
 /// The phases behind the incidence, in order.
@@ -38,6 +40,7 @@ pub(crate) fn phases(emit: Emit) -> &'static [Phase]
         Emit::Report => &[Phase::Size],
         Emit::All => &[Phase::Size, Phase::Reduction],
         Emit::Json => &[Phase::Size],
+        Emit::States => &[Phase::Size],
     }
 }
 
@@ -51,5 +54,6 @@ pub(crate) fn parts(emit: Emit) -> &'static [Part]
         Emit::Report => &[Part::Report],
         Emit::All => &[Part::Flat, Part::Reduced, Part::Report],
         Emit::Json => &[Part::Json],
+        Emit::States => &[Part::StatesOrReport],
     }
 }

@@ -30,6 +30,8 @@ pub enum Emit {
     All,
     /// The report as JSON.
     Json,
+    /// The states that stateSelect prefers.
+    States,
 }
 
 /// What the words ask for.
@@ -156,6 +158,7 @@ fn emit_named(word: Option<&str>) -> Option<Emit>
         "report" => Some(Emit::Report),
         "all" => Some(Emit::All),
         "json" => Some(Emit::Json),
+        "states" => Some(Emit::States),
         _ => None,
     }
 }

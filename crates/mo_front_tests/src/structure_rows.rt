@@ -141,6 +141,39 @@ const REDUCED: [Asked; 3] = [
     ),
 ];
 
+const STATES: [Asked; 5] = [
+    (
+        "states",
+        PENDULUM,
+        Status::Done,
+        "select M\nstage 1 equations 1 2 5\ndummy der(der(x)) stage 1\ndummy der(der(y)) stage 1\ndummy der(vx) stage 1\nnever 0 without 1 2 5\navoid 0 without 1 2 5\ndefault 3\nprefer 3\nalways 3\nstage 2 equations 5\ndummy der(x) stage 2\nnever 0 without 5\navoid 0 without 5\ndefault 1\nprefer 1\nalways 1\nstate y\nstate vy\n",
+    ),
+    (
+        "states",
+        MASS,
+        Status::Done,
+        "select M\nstate x\nstate der(x)\n",
+    ),
+    (
+        "states",
+        "model M Real x; equation x = 1.0; end M;",
+        Status::Done,
+        "select M\n",
+    ),
+    (
+        "states",
+        "model M Real x; Real y; equation x = 1.0; x = 2.0; end M;",
+        Status::Singular,
+        "report M\nequations 2 unknowns 2\ndeficit 2 equations 1 unknowns\nin 1\nin 2\nmentions x\n",
+    ),
+    (
+        "states",
+        "model M Real x; Real y; equation x + y = 1.0; end M;",
+        Status::Singular,
+        "report M\nequations 1 unknowns 2\nequation 1 c 0 pairs x order 0\nunknown x d 0\nunknown y d 0\nundetermined x\nundetermined y\n",
+    ),
+];
+
 fn holds(rt: &impl Abort, alloc: Global, row: &Asked) -> Result<(), NoMemory> {
     let ran = run_class(alloc, "M", &["--emit", row.0], row.1, None)?;
     assert_eq!(rt; ran.text.as_str(), row.3);
@@ -165,7 +198,8 @@ fn writes_what_is_asked_for(rt: HostRuntime) -> Result<(), Fail> {
 #[test]
 fn differentiates_what_has_to_be(rt: HostRuntime) -> Result<(), Fail> {
     all_hold(&rt, rt.alloc(), &REPORTS)?;
-    Ok(all_hold(&rt, rt.alloc(), &REDUCED)?)
+    all_hold(&rt, rt.alloc(), &REDUCED)?;
+    Ok(all_hold(&rt, rt.alloc(), &STATES)?)
 }
 
 #[test]
