@@ -26,44 +26,8 @@ use Rattle.mo_typing.specs.Outcome.{breaks}
 use Rattle.mo_eval.specs.Virtuals.{Ask, Making, make_from}
 use Rattle.mo_eval.specs.declared.context.Context.{Context}
 use Rattle.mo_eval.specs.Contexts.{Part}
+use Rattle.mo_eval.specs.steps.Parts.{Former, made_below, made_arguments, made_argument, as_part, as_term, as_factor, as_branch, as_identifier, as_reference, as_callee}
 use Rattle.mo_eval.specs.Resolving.{made, made_node, made_expr, argument_of, arguments_of, is_empty, all_arguments}
-
--- a form, resolved at a place
-abbrev pub Former : Type 0
-Former = Place → Context → Making ArrayExpr
-
-abbrev pub made_below : Table → Ask → Scope → Node → Former
-made_below table ask scope =
-    para-Node (Option Part) Former (Option (List Part)) (Context → Making ArrayExpr) argument_of (made_node table ask scope) arguments_of made_expr
-
-abbrev pub made_arguments : Table → Ask → Scope → Args → Option (List Part)
-made_arguments table ask scope =
-    para-Args (Option Part) Former (Option (List Part)) (Context → Making ArrayExpr) argument_of (made_node table ask scope) arguments_of made_expr
-
--- parts of a form, each with how it is resolved
-abbrev pub as_part : Table → Ask → Scope → Expr → Part
-as_part table ask scope e = (e, made table ask scope e)
-
-abbrev pub as_term : (Expr → Part) → TermOf Expr → TermOf Part
-as_term part term = record { minus = term.minus; dotted = term.dotted; value = part term.value }
-
-abbrev pub as_factor : (Expr → Part) → FactorOf Expr → FactorOf Part
-as_factor part factor = record { divide = factor.divide; dotted = factor.dotted; value = part factor.value }
-
-abbrev pub as_branch : (Expr → Part) → BranchOf Expr → BranchOf Part
-as_branch part branch = record { condition = part branch.condition; value = part branch.value }
-
-abbrev pub as_identifier : (Expr → Part) → PartOf Expr → PartOf Part
-as_identifier part identifier = record { name = identifier.name; place = identifier.place; subs = map (option_map part) identifier.subs }
-
-abbrev pub as_reference : (Expr → Part) → ReferenceOf Expr → ReferenceOf Part
-as_reference part reference = record { top = reference.top; parts = map (as_identifier part) reference.parts }
-
-abbrev pub as_callee : (Expr → Part) → CalleeOf Expr → CalleeOf Part
-as_callee part (Named reference) = Named (as_reference part reference)
-as_callee part Der = Der
-as_callee part Initial = Initial
-as_callee part Pure = Pure
 
 maps_alike : {A B : Type 0} (f g : A → B) → ((x : A) → f x ≡ g x) → (xs : List A) → map f xs ≡ map g xs
 maps_alike f g same [] = refl
@@ -78,10 +42,6 @@ nothing_mapped : {A B C D T : Type 0} (f : A → B) (g : C → D) (xs : List A) 
 nothing_mapped f g [] [] t e = refl
 nothing_mapped f g [] (y ∷ ys) t e = refl
 nothing_mapped f g (x ∷ xs) ys t e = refl
-
-abbrev pub made_argument : Table → Ask → Scope → Arg → Option Part
-made_argument table ask scope =
-    para-Arg (Option Part) Former (Option (List Part)) (Context → Making ArrayExpr) argument_of (made_node table ask scope) arguments_of made_expr
 
 module _ (table : Table) (ask : Ask) (scope : Scope) where
   pub at_expr : (place : Place) (node : Node) → made table ask scope (roll-Expr (record { place = place; node = node })) ≡ made_below table ask scope node place

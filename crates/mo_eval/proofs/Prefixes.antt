@@ -1,5 +1,5 @@
 -- What is read of virtual variables, and what that says of those before one of them.
-use Rattle.std.proofs.Common.{◌≡◌, ℕ, zero, suc, ◌-◌, ◌<◌, ◌≤◌, List, [], ◌∷◌, ◌++◌, map, take, length, Option, Some, None, Ok, refl, ap, sym, ◌∙◌, append_assoc, ⊎_elim, arith}
+use Rattle.std.proofs.Common.{◌≡◌, ℕ, zero, suc, ◌+◌, ◌-◌, ◌<◌, ◌≤◌, List, [], ◌∷◌, ◌++◌, map, take, length, length-append, Option, Some, None, Ok, refl, ap, sym, ◌∙◌, append_assoc, ⊎_elim, arith}
 use Rattle.std.specs.Prelude.{fold, slice_get}
 use Rattle.std.specs.Option.{option_map}
 use Rattle.std.proofs.Math.ListN.{set, replicate}
@@ -133,3 +133,25 @@ none_read known count counted = record { each = λ n. ⊎_elim (inside n) (outsi
 
     outside : (n : ℕ) → count ≤ n - 1 → IsRead (slice_get (replicate count None) (n - 1)) (numbered known n)
     outside n all = rw (slice_get_past known (n - 1) (omega arith), slice_get_past (replicate {A = Option (Outcome Known)} count None) (n - 1) (rw length-replicate all)) refl
+
+-- how many are not read yet
+abbrev pub unread_among : Reads → ℕ
+unread_among [] = 0
+unread_among (None ∷ reads) = suc (unread_among reads)
+unread_among (Some told ∷ reads) = unread_among reads
+
+pub fewer_unread : (reads : Reads) (k : ℕ) (outcome : Outcome Known) → slice_get reads k ≡ Some None → unread_among (set reads k (Some outcome)) < unread_among reads
+fewer_unread [] k outcome is = absurd (let e : ◌≡◌ {A = Option (Option (Outcome Known))} None (Some None) = is in cc)
+fewer_unread (None ∷ reads) zero outcome is = omega arith
+fewer_unread (Some told ∷ reads) zero outcome is = absurd (let e : ◌≡◌ {A = Option (Option (Outcome Known))} (Some (Some told)) (Some None) = is in cc)
+fewer_unread (None ∷ reads) (suc k) outcome is = let h = fewer_unread reads k outcome is in omega arith
+fewer_unread (Some told ∷ reads) (suc k) outcome is = fewer_unread reads k outcome is
+
+known_grows : (read : Element → Outcome Known) (before : List (Outcome Known)) (vs : List Virtual) →
+    length (fold (λ before virtual. before ++ known_of_virtual read before virtual ∷ []) before vs) ≡ length before + length vs
+known_grows read before [] = omega arith
+known_grows read before (v ∷ vs) =
+    known_grows read (before ++ known_of_virtual read before v ∷ []) vs ∙ omega (arith, length-append before (known_of_virtual read before v ∷ []))
+
+pub length-known : (read : Element → Outcome Known) (vs : List Virtual) → length (known_of_virtuals read vs) ≡ length vs
+length-known read vs = known_grows read [] vs ∙ omega arith

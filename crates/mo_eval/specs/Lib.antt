@@ -5,6 +5,7 @@ pub mod Walk
 pub mod Told
 pub mod Seen
 pub mod Sequence
+pub mod Sites
 pub mod steps
 pub mod Contexts
 pub mod References
@@ -13,3 +14,4 @@ pub mod Resolving
 pub mod Components
 pub mod Values
 pub mod Heights
+pub mod Keeping

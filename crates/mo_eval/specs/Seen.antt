@@ -1,8 +1,9 @@
--- What virtual variables of the code are as data, where frames have these numbers.
-use Rattle.std.specs.Prelude.{List, map}
+-- What virtual variables of the code are as data, where frames have these numbers, and when their components exist.
+use Rattle.std.specs.Prelude.{◌≡◌, ℕ, List, Some, map, slice_get}
 use Rattle.mo_scope.specs.Frames.{Frame}
-use Rattle.mo_scope.specs.Worlds.{member_in}
+use Rattle.mo_scope.specs.Worlds.{World, member_in}
 use Rattle.mo_scope.specs.Sights.{member_seen}
+use Rattle.mo_names.specs.Sights.{IsMember}
 use Rattle.mo_eval.specs.declared.virtuals.Element.{Element as ElementAt}
 use Rattle.mo_eval.specs.declared.virtuals.Virtual.{Virtual as VirtualAt}
 use Rattle.mo_eval.specs.declared.virtuals.Virtual.TheVariants.{Component, Division as division_at}
@@ -27,3 +28,7 @@ virtuals_seen frames virtuals = map (virtual_seen frames) virtuals
 
 abbrev pub resolved_seen : List Frame → ResolvedAt → Resolved
 resolved_seen frames resolved = record { expression = resolved.expression; virtuals = virtuals_seen frames resolved.virtuals }
+
+-- the components of virtual variables exist
+pub record AreThere (world : World) (virtuals : List VirtualAt) : Type 0 where
+  pub each : (k : ℕ) (element : ElementAt) → slice_get virtuals k ≡ Some (Component element) → IsMember world element.member

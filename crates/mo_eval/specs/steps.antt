@@ -1,1 +1,13 @@
 pub mod Chains
+pub mod Parts
+pub mod Choosing
+pub mod Asking
+pub mod Calling
+pub mod Subscripting
+pub mod Dividing
+pub mod Types
+pub mod Sizing
+pub mod Naming
+pub mod Selecting
+pub mod Measuring
+pub mod Spelling

@@ -120,7 +120,7 @@ pub(crate) fn sizes(alloc: Global, e: &ArrayExpr) -> Result<List<u32>, Stop>
 }
 
 /// Whether an index has one number for each dimension, from 1 to its size.
-fn is_index(dims: &[u32], index: &[u32]) -> bool
+pub(crate) fn is_index(dims: &[u32], index: &[u32]) -> bool
     ensures { result ≡ is_index dims.now index.now }
 {
     match dims {

@@ -7,6 +7,8 @@
 //!   not known ([`Halt`]).
 //! - [`Context`]: what an expression is resolved for.
 //! - [`Resolved`], [`Virtual`] and [`Element`]: a resolved expression, and what its variables stand for.
+//! - [`Reader`]: reads the values and the dimensions of expressions, resolves expressions of the flat model, and says whether a
+//!   component is there and which dimensions it has; [`MOST_REFERENCES`] is how many references may be read, one within the other.
 //! - [`next`]: what comes next ([`Step`]) where an element of a resolved expression is wanted and its variables are read one after
 //!   another, only where they are needed; [`unread`] and [`mark`] keep what is read of them.
 //!
@@ -14,24 +16,44 @@
 //! value are then those of the resolved expression. The definitions stand in specs/.
 #![tactic(auto)]
 
+mod alone;
 mod answers;
 mod arithmetic;
+mod below;
+mod callee;
+mod calls;
 mod chains;
+mod choice;
+mod components;
 mod context;
+mod dimensions;
+mod division;
 mod elements;
 mod halt;
 mod layers;
+mod literals;
 mod making;
+mod names;
+mod operands;
 mod operations;
+mod reader;
 mod reading;
+mod references;
 mod relations;
+mod resolve;
 mod selecting;
+mod selections;
+mod sizes;
+mod subscripts;
+mod types;
 mod value;
+mod variables;
 mod virtuals;
 mod walk;
 
 pub use context::Context;
 pub use halt::{Halt, Told};
+pub use reader::{MOST_REFERENCES, Reader};
 pub use reading::{Step, mark, next, unread};
 pub use value::{Reckoned, Scalar, Value};
 pub use virtuals::{Element, Resolved, Virtual};

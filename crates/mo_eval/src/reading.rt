@@ -1,5 +1,5 @@
 //! How the variables of a resolved expression are read one after another, only where they are needed.
-ghost use Rattle.std.specs.Prelude.{◌≡◌, ◌-◌, [], ℕ, List, MatchOption, IfOk, length, slice_get};
+ghost use Rattle.std.specs.Prelude.{◌≡◌, ◌-◌, [], ℕ, List, MatchOption, IfOk, Some, length, slice_get, set};
 ghost use Rattle.mo_scope.specs.Frames.{Frame};
 ghost use Rattle.mo_typing.specs.Outcome.{Outcome, and_then};
 ghost use Rattle.mo_eval.specs.Scalars.{Known, division};
@@ -118,7 +118,8 @@ pub fn unread(alloc: Global, count: usize) -> Result<Vec<Told>, NoMemory>
 /// Puts down what the variable of that number has, which was not read.
 pub fn mark(reads: &mut Vec<Told>, n: u32, outcome: Result<Option<Scalar>, Broken>)
     requires { IsUnread reads.old.items n }
-    ensures { (known : List (Outcome Known)) → AreRead reads.old.items (numbered known) → slice_get known (n - 1) ≡ Some outcome → AreRead reads.new.items (numbered known) }
+    ensures put { reads.new.items ≡ set reads.old.items (n - 1) (Some outcome) }
+    ensures read { (known : List (Outcome Known)) → AreRead reads.old.items (numbered known) → slice_get known (n - 1) ≡ Some outcome → AreRead reads.new.items (numbered known) }
 {
     reads[n.saturating_sub(1) as usize] = Some(outcome);
 }

@@ -6,8 +6,9 @@ ghost use Rattle.mo_typing.specs.Subscripts.{subscript, subscripts, is_within};
 ghost use Rattle.std.specs.List.{list_all};
 ghost use Rattle.mo_eval.specs.References.{selected_numbers, selected, emptied};
 
+use crate::operations::broken;
 use mo_flat::Subscript;
-use mo_syntax::{List, NoMemory};
+use mo_syntax::{Broken, List, NoMemory};
 use mo_typing::is_within;
 use mo_typing::shapes::size_of;
 use std::alloc::Global;
@@ -148,6 +149,37 @@ pub(crate) fn are_inside(dims: &[u32], subs: &[Subscript]) -> bool
         [n, more @ ..] => match subs {
             [] => true,
             [sub, others @ ..] => is_inside(*n, sub) && are_inside(more, others),
+        },
+    }
+}
+
+/// Asks that a subscript lies within a dimension of that size.
+fn subscript_within(size: u32, sub: &Subscript) -> Result<(), Broken>
+    ensures { result ≡ subscript size sub.now }
+{
+    if is_inside(size, sub) {
+        return Ok(());
+    }
+    match sub {
+        Subscript::All => Ok(()),
+        Subscript::One(place, _) => Err(broken(32, *place)),
+        Subscript::Many(place, _) => Err(broken(32, *place)),
+    }
+}
+
+/// Asks that all subscripts lie within their dimensions: rule 32 at the first one that does not.
+#[cycle(within)]
+pub(crate) fn within(dims: &[u32], subs: &[Subscript]) -> Result<(), Broken>
+    ensures { result ≡ subscripts dims.now subs.now }
+{
+    match dims {
+        [] => Ok(()),
+        [n, more @ ..] => match subs {
+            [] => Ok(()),
+            [sub, others @ ..] => {
+                subscript_within(*n, sub)?;
+                within(more, others)
+            }
         },
     }
 }

@@ -1,2 +1,20 @@
+pub mod Later
+pub mod Lists
+pub mod Walking
+pub mod Adding
+pub mod Asking
+pub mod Framing
+pub mod Speaking
+pub mod Passing
+pub mod Owning
+pub mod Outers
+pub mod Named
+pub mod Firsts
+pub mod Inputs
+pub mod Choosing
+pub mod Checking
+pub mod Members
+pub mod Trees
+pub mod Rooting
 pub mod Rows
 mod Refusals

@@ -28,13 +28,14 @@ abbrev pub is_attribute : Option Frame → List ℕ → Bool
 is_attribute None name = false
 is_attribute (Some leaf) name = list_any (λ number. bytes_eq (attribute_name number) name) (attributes_of (kind_of_leaf leaf))
 
+abbrev pub attribute_as : ℕ → Option Chosen → List (ℕ × Chosen)
+attribute_as number None = []
+attribute_as number (Some value) = (number, value) ∷ []
+
+-- the attribute of that number, if it is given
+abbrev pub chosen_attribute : Table → Frame → ℕ → List (ℕ × Chosen)
+chosen_attribute table leaf number = attribute_as number (picked table (sources_of leaf) (attribute_name number ∷ []))
+
 -- The attributes that are given at the end of the bases, in their order: what extends clauses and short classes add is there.
 abbrev pub chosen_attributes : Table → Frame → List (ℕ × Chosen)
-chosen_attributes table leaf = flat_map chosen (attributes_of (kind_of_leaf leaf))
-  where
-    chosen_as : ℕ → Option Chosen → List (ℕ × Chosen)
-    chosen_as number None = []
-    chosen_as number (Some value) = (number, value) ∷ []
-
-    chosen : ℕ → List (ℕ × Chosen)
-    chosen number = chosen_as number (picked table (sources_of leaf) (attribute_name number ∷ []))
+chosen_attributes table leaf = flat_map (chosen_attribute table leaf) (attributes_of (kind_of_leaf leaf))

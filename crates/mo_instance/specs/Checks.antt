@@ -19,13 +19,13 @@ use Rattle.mo_instance.specs.Passes.{first_pass, inherits}
 
 -- ---- partial classes
 
+abbrev pub whole_row : Place → Option Row → Checked
+whole_row place None = fine
+whole_row place (Some row) = if row.class.flags.partial then breaks 26 place else fine
+
 -- The class of the frame itself decides; rule 26 stands where the class is named.
 abbrev pub whole_class : Table → Place → Frame → Checked
-whole_class table place frame = whole_by (row_at table (class_of frame))
-  where
-    whole_by : Option Row → Checked
-    whole_by None = fine
-    whole_by (Some row) = if row.class.flags.partial then breaks 26 place else fine
+whole_class table place frame = whole_row place (row_at table (class_of frame))
 
 -- ---- what is left out
 
@@ -37,45 +37,48 @@ is_function kind = false
 abbrev pub is_inner_or_outer : Declares → Bool
 is_inner_or_outer declares = declares.flags.inner || declares.flags.outer
 
+abbrev pub earlier_of : Declares → Option Declares → Option Declares
+earlier_of declares None = Some declares
+earlier_of declares (Some other) = if nat_lt other.place.byte declares.place.byte then Some other else Some declares
+
 -- the one that stands first in the text
 abbrev pub first_in_text : List Declares → Option Declares
 first_in_text [] = None
-first_in_text (declares ∷ others) = before (first_in_text others)
-  where
-    before : Option Declares → Option Declares
-    before None = Some declares
-    before (Some other) = if nat_lt other.place.byte declares.place.byte then Some other else Some declares
+first_in_text (declares ∷ others) = earlier_of declares (first_in_text others)
 
 -- classes, and elements with `redeclare`, that a class declares with `inner` or `outer`
 abbrev pub wrongly_inner : Table → Row → List Declares
 wrongly_inner table row = filter is_inner_or_outer (filter is_class (elements_in row.parts) ++ map (declared_in table) row.replacing)
 
+abbrev pub unless_any : Option Declares → Checked
+unless_any None = fine
+unless_any (Some declares) = breaks 34 declares.place
+
+abbrev pub row_in_profile : Table → Row → Checked
+row_in_profile table row =
+    if is_function row.class.kind then breaks 34 row.class.place else unless_any (first_in_text (wrongly_inner table row))
+
+abbrev pub profile_of : Table → Option Row → Checked
+profile_of table None = fine
+profile_of table (Some row) = row_in_profile table row
+
 -- A function or an operator is left out, and so is `inner` or `outer` on a class or an element with `redeclare`.
 abbrev pub in_profile : Table → Frame → Checked
-in_profile table frame = profile_of (row_at table (class_of frame))
-  where
-    unless_any : Option Declares → Checked
-    unless_any None = fine
-    unless_any (Some declares) = breaks 34 declares.place
-
-    profile_of : Option Row → Checked
-    profile_of None = fine
-    profile_of (Some row) =
-        if is_function row.class.kind then breaks 34 row.class.place else unless_any (first_in_text (wrongly_inner table row))
+in_profile table frame = profile_of table (row_at table (class_of frame))
 
 -- ---- a frame and its bases
 
+abbrev pub unless_bases : Table → List Clause → List Element → Checked
+unless_bases table [] (element ∷ others) = breaks 20 (declared_in table element).place
+unless_bases table clauses replacing = fine
+
+abbrev pub replaces_by : Table → Option Row → Checked
+replaces_by table None = fine
+replaces_by table (Some row) = unless_bases table (clauses_in row.parts) row.replacing
+
 -- The elements with `redeclare` of a class without bases replace nothing: rule 20 at the first one.
 abbrev pub replaces_inherited : Table → Frame → Checked
-replaces_inherited table frame = replaces_by (row_at table (class_of frame))
-  where
-    unless_bases : List Clause → List Element → Checked
-    unless_bases [] (element ∷ others) = breaks 20 (declared_in table element).place
-    unless_bases clauses replacing = fine
-
-    replaces_by : Option Row → Checked
-    replaces_by None = fine
-    replaces_by (Some row) = unless_bases (clauses_in row.parts) row.replacing
+replaces_inherited table frame = replaces_by table (row_at table (class_of frame))
 
 -- The elements of a frame, its arguments and its redeclarations. The first pass takes the sources that were added.
 abbrev pub frame_passed : Table → (is_replaced : List ℕ → Bool) → (added : List Source) → Frame → Outcome Walked
@@ -97,6 +100,7 @@ before_last frame [] = frame
 before_last frame (base ∷ []) = frame
 before_last frame (base ∷ next ∷ bases) = before_last base (next ∷ bases)
 
+-- the checks of a base, where this is the frame that it is a base of
 abbrev pub base_passed : Table → Frame → (base : Frame) → Checked
 base_passed table frame base =
     and_then (walk_of table frame) (λ walked.

@@ -1,5 +1,5 @@
 -- One element of a component (Modelica Language Specification 3.5, sections 4.4, 4.8, 7.2 and 10.1): its frame, and what it is as a leaf.
-use Rattle.std.specs.Prelude.{ℕ, Bool, true, false, List, [], Option, Some, None, Ok, if◌then◌else◌, nat_lt, length}
+use Rattle.std.specs.Prelude.{ℕ, Bool, true, false, ◌&&◌, not, List, [], Option, Some, None, Ok, if◌then◌else◌, nat_lt, length}
 use Rattle.mo_syntax.specs.declared.class.ComponentOf.{ComponentOf}
 use Rattle.mo_syntax.specs.declared.class.Give.{Give}
 use Rattle.mo_syntax.specs.declared.class.Vary.{Vary}
@@ -38,12 +38,12 @@ around_parts table around member type = record {
 
 -- ---- the frame
 
+abbrev pub type_place : Place → Option (ComponentOf Give) → Place
+type_place place None = place
+type_place place (Some component) = last_place component.base.parts
+
 abbrev pub place_of_type : Declares → Place
-place_of_type declares = place_in (component_of declares)
-  where
-    place_in : Option (ComponentOf Give) → Place
-    place_in None = declares.place
-    place_in (Some component) = last_place component.base.parts
+place_of_type declares = type_place declares.place (component_of declares)
 
 -- where the class is named: in the redeclaration, or in the declaration
 abbrev pub class_place : Member → Option Redeclaration → Place
@@ -60,33 +60,31 @@ abbrev pub is_real : Kind → Bool
 is_real Real = true
 is_real kind = false
 
+abbrev pub leaf_made : Table → Around → Frame → (leaf : Frame) → Leaf
+leaf_made table around frame leaf = record {
+  kind = kind_of_leaf leaf;
+  role = role_of around.vary around.given;
+  attributes = chosen_attributes table leaf;
+  binding = picked table (sources_of frame) [];
+}
+
 -- A variable that is neither parameter nor constant is a Real.
 abbrev pub leaf_by : Table → Around → Member → Frame → (leaf : Frame) → Outcome (Option Leaf)
 leaf_by table around member frame leaf =
-    if is_free around.vary then (if is_real kind then Ok (Some made) else breaks 34 member.declares.place) else Ok (Some made)
-  where
-    kind : Kind
-    kind = kind_of_leaf leaf
-
-    made : Leaf
-    made = record {
-      kind = kind;
-      role = role_of around.vary around.given;
-      attributes = chosen_attributes table leaf;
-      binding = picked table (sources_of frame) [];
-    }
+    if is_free around.vary && not (is_real (kind_of_leaf leaf)) then breaks 34 member.declares.place
+    else Ok (Some (leaf_made table around frame leaf))
 
 -- A component that is no leaf has no binding.
 abbrev pub no_leaf : Option Chosen → Outcome (Option Leaf)
 no_leaf None = Ok None
 no_leaf (Some binding) = breaks 34 (out-Expr binding.value).place
 
+abbrev pub leaf_in : Table → Around → Member → Frame → Option Frame → Outcome (Option Leaf)
+leaf_in table around member frame None = no_leaf (picked table (sources_of frame) [])
+leaf_in table around member frame (Some leaf) = leaf_by table around member frame leaf
+
 abbrev pub leaf_of : Table → Around → Member → Frame → Walked → Outcome (Option Leaf)
-leaf_of table around member frame walked = leaf_in walked.leaf
-  where
-    leaf_in : Option Frame → Outcome (Option Leaf)
-    leaf_in None = no_leaf (picked table (sources_of frame) [])
-    leaf_in (Some leaf) = leaf_by table around member frame leaf
+leaf_of table around member frame walked = leaf_in table around member frame walked.leaf
 
 -- ---- instances
 

@@ -90,17 +90,17 @@ abbrev pub is_under : List (List ℕ) → Home → Bool
 is_under path (Under other) = path_eq path other
 is_under path home = false
 
+abbrev pub is_placed : List (List ℕ) → List ℕ → Row → Bool
+is_placed before name row = bytes_eq row.class.name name && is_under before row.home
+
+abbrev pub inside : Frame → Option Row → Frame
+inside outer None = outer
+inside outer (Some row) = looked_up row.number [] outer
+
 -- The frames around a class, each looked up in the one around it and modified by nothing.
 abbrev pub enclosing : Table → Frame → (before : List (List ℕ)) → List (List ℕ) → Frame
 enclosing table outer before [] = outer
-enclosing table outer before (name ∷ names) = enclosing table (inside (find is_named table)) (before ++ name ∷ []) names
-  where
-    is_named : Row → Bool
-    is_named row = bytes_eq row.class.name name && is_under before row.home
-
-    inside : Option Row → Frame
-    inside None = outer
-    inside (Some row) = looked_up row.number [] outer
+enclosing table outer before (name ∷ names) = enclosing table (inside outer (find (is_placed before name) table)) (before ++ name ∷ []) names
 
 abbrev pub enclosing_of : Table → Home → Frame
 enclosing_of table (Under path) = enclosing table Top [] path
@@ -120,10 +120,10 @@ instances_in table row =
     and_then (frame_checked table row.class.place (root_frame table row)) (λ walked.
     parts_entered table (deeper table most_names) (around_root row) walked (root_instance table row ∷ []))
 
+abbrev pub instances_by : Table → Option Row → Outcome (List Instance)
+instances_by table None = Ok []
+instances_by table (Some row) = instances_in table row
+
 -- The instances of the class with that number: the class itself, then its components, each before its parts.
 abbrev pub instances_of : Table → (class : ℕ) → Outcome (List Instance)
-instances_of table class = instances_by (row_at table class)
-  where
-    instances_by : Option Row → Outcome (List Instance)
-    instances_by None = Ok []
-    instances_by (Some row) = instances_in table row
+instances_of table class = instances_by table (row_at table class)

@@ -20,12 +20,12 @@ use Rattle.mo_instance.specs.Prefixes.{is_discrete}
 
 -- ---- what an outer component may not have
 
+abbrev pub condition_in : Option (ComponentOf Give) → Bool
+condition_in None = false
+condition_in (Some component) = is_some component.condition
+
 abbrev pub has_condition : Member → Bool
-has_condition member = has_in (component_of member.declares)
-  where
-    has_in : Option (ComponentOf Give) → Bool
-    has_in None = false
-    has_in (Some component) = is_some component.condition
+has_condition member = condition_in (component_of member.declares)
 
 abbrev pub is_left_out_prefix : Prefix → Bool
 is_left_out_prefix prefix = prefix.stream || is_discrete prefix.vary

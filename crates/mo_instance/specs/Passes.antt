@@ -30,21 +30,23 @@ abbrev pub is_own_of : Place → Origin → Bool
 is_own_of place (Own_of other) = place_eq place other
 is_own_of place origin = false
 
+abbrev pub argument_claims : ArgumentOf Give → List Claim
+argument_claims argument = claims_of argument.give argument.name.0 argument.place argument.last
+
 -- the paths of a short class that is declared at the place
 abbrev pub short_claims : Place → Option Row → List Claim
 short_claims place None = []
 short_claims place (Some row) =
-    if place_eq place row.class.place then flat_map claims_by (short_modifiers row.class.body).list else []
-  where
-    claims_by : ArgumentOf Give → List Claim
-    claims_by argument = claims_of argument.give argument.name.0 argument.place argument.last
+    if place_eq place row.class.place then flat_map argument_claims (short_modifiers row.class.body).list else []
+
+abbrev pub source_claims : Table → Place → Source → List Claim
+source_claims table place source =
+    if is_own_of place source.piece.origin then flat_map (λ spoken. spoken.claims) (spoken_of table source) else []
 
 -- the paths of the own modifiers of the declaration at the place, among the sources of a frame or those of its short class
 abbrev pub own_claims : Table → Frame → Place → List Claim
-own_claims table frame place = flat_map claims_in (sources_of frame) ++ short_claims place (row_at table (class_of frame))
-  where
-    claims_in : Source → List Claim
-    claims_in source = if is_own_of place source.piece.origin then flat_map (λ spoken. spoken.claims) (spoken_of table source) else []
+own_claims table frame place =
+    flat_map (source_claims table place) (sources_of frame) ++ short_claims place (row_at table (class_of frame))
 
 abbrev pub broken_against : List Claim → List Claim → List Broken
 broken_against own claims = flat_map (λ one. breach_if (list_any (λ other. path_eq other.path one.path) own) 21 one.place) claims
@@ -59,23 +61,23 @@ abbrev pub broken_member : Spoken → Member → List Broken
 broken_member spoken member =
     breach_if (spoken.source.piece.outside && member.hidden) 17 spoken.place ++ breach_if member.declares.flags.last 22 spoken.place
 
+abbrev pub is_inherited : List ℕ → Inherited → Bool
+is_inherited name inherited = not (is_nothing inherited.through) && bytes_eq inherited.member.name name
+
 -- whether an element that is inherited from one of the bases, or an attribute, has the name
 abbrev pub inherits : Walked → List ℕ → Bool
-inherits walked name = list_any is_inherited walked.members || is_attribute walked.leaf name
-  where
-    is_inherited : Inherited → Bool
-    is_inherited inherited = not (is_nothing inherited.through) && bytes_eq inherited.member.name name
+inherits walked name = list_any (is_inherited name) walked.members || is_attribute walked.leaf name
+
+abbrev pub is_known : (List ℕ → Bool) → Walked → Spoken → Bool
+is_known is_replaced walked spoken = if spoken.replacing then is_replaced spoken.name else is_attribute walked.leaf spoken.name
+
+abbrev pub broken_found : (List ℕ → Bool) → Walked → Spoken → Option Member → List Broken
+broken_found is_replaced walked spoken (Some member) = broken_member spoken member
+broken_found is_replaced walked spoken None = if is_known is_replaced walked spoken then [] else breach 20 spoken.place ∷ []
 
 -- An element with `redeclare` of a class is asked for among what all bases of that class have.
 abbrev pub broken_name : (List ℕ → Bool) → Walked → Spoken → List Broken
-broken_name is_replaced walked spoken = broken_by (named spoken.name (members_in walked))
-  where
-    is_known : Bool
-    is_known = if spoken.replacing then is_replaced spoken.name else is_attribute walked.leaf spoken.name
-
-    broken_by : Option Member → List Broken
-    broken_by (Some member) = broken_member spoken member
-    broken_by None = if is_known then [] else breach 20 spoken.place ∷ []
+broken_name is_replaced walked spoken = broken_found is_replaced walked spoken (named spoken.name (members_in walked))
 
 abbrev pub broken_spoken : Table → Frame → (List ℕ → Bool) → Walked → Spoken → Option Broken
 broken_spoken table frame is_replaced walked spoken =

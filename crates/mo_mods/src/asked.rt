@@ -9,9 +9,7 @@ ghost use Rattle.mo_scope.specs.Worlds.{source_in, sources_in, table_in};
 ghost use Rattle.mo_mods.specs.Passes.{nested_claims};
 ghost use Rattle.mo_mods.specs.PathSights.{asked_seen, claim_seen};
 
-use crate::groups::replacing;
-use crate::left::list_behind;
-use mo_scope::{Declares, Given, Listing, Scopes, Source, copied};
+use mo_scope::{Declares, Given, Listing, Scopes, Source, copied, nested_list, replacing};
 use mo_syntax::{Argument, Give, Item, List, NoMemory, Place, Text, pushed, single};
 use std::alloc::Global;
 
@@ -220,10 +218,7 @@ fn put_rest<'s, 't>(
     ensures { OnOk result ((frames : Seq Frame) → map asked_seen made.new ≡ map asked_seen made.old ++ (asked_rest (source_in frames (source_seen source.now)) argument.now (names_left argument.now passed) ++ map (argument_asked (source_in frames (source_seen source.now))) (held (Argued argument.now passed)).list)) }
 {
     put_left(alloc, source, argument, passed, made)?;
-    match list_behind(argument, passed) {
-        Some(list) => put_list(alloc, source, list, made),
-        None => Ok(()),
-    }
+    put_list(alloc, source, nested_list(argument, passed), made)
 }
 
 /// An element with `redeclare` of a class.

@@ -1,6 +1,5 @@
 //! What is said of each element, by its name.
-ghost use Rattle.std.specs.Prelude.{◌≡◌, ◌+◌, ◌++◌, ◌∷◌, [], ℕ, List as Seq, flat_map, map, option_copied, if◌then◌else◌, IfOk, OnOk};
-ghost use Rattle.std.specs.Option.{option_to_list};
+ghost use Rattle.std.specs.Prelude.{◌≡◌, ◌+◌, ◌++◌, ◌∷◌, [], ℕ, List as Seq, flat_map, map, if◌then◌else◌, IfOk, OnOk};
 ghost use Rattle.std.specs.Str.{bytes_eq};
 ghost use Rattle.mo_scope.specs.Frames.{Argued, Frame};
 ghost use Rattle.mo_scope.specs.Parts.{begins_with, declared_in, held, names_left};
@@ -9,8 +8,8 @@ ghost use Rattle.mo_scope.specs.Worlds.{table_in};
 ghost use Rattle.mo_mods.specs.Left.{all_say, element_says, elements_say, left_behind as left_behind_name, left_says, list_says, rest_says, said_by as said_by_argument};
 ghost use Rattle.mo_mods.specs.Sights.{left_in, said_held, said_in, said_or_none};
 
-use crate::left::{Left, Said, left_behind, list_behind, said_by};
-use mo_scope::{Given, Scopes};
+use crate::left::{Left, Said, left_behind, said_by};
+use mo_scope::{Given, Scopes, nested_list, replacing};
 use mo_syntax::{Argument, Element, Item, List, NoMemory};
 use std::alloc::Global;
 use std::collections::BTreeMap;
@@ -93,29 +92,7 @@ fn put_rest<'s, 't>(
     ensures { OnOk result ((frames : Seq Frame) → (other : Seq ℕ) → said_held frames groups.new other ≡ said_held frames groups.old other ++ (rest_says (table_in scopes.now) other (left_in frames left.now) argument.now passed ++ list_says (table_in scopes.now) other (left_in frames left.now) (held (Argued argument.now passed)).list)) }
 {
     put_argument(scopes, alloc, groups, left, argument, passed, false)?;
-    match list_behind(argument, passed) {
-        Some(list) => put_list(scopes, alloc, groups, left, list),
-        None => Ok(()),
-    }
-}
-
-/// The element with `redeclare` that an item of a class is, None where it is none.
-pub fn replacing(item: &Item) -> Option<&Element>
-    ensures { option_to_list (option_copied result) ≡ replacing_in item.now }
-{
-    match item {
-        Item::Member(element) => {
-            if element.flags.redeclare {
-                Some(element)
-            } else {
-                None
-            }
-        }
-        Item::Import(_) => None,
-        Item::Extends(_) => None,
-        Item::Equations(_, _) => None,
-        Item::Algorithm(_, _) => None,
-    }
+    put_list(scopes, alloc, groups, left, nested_list(argument, passed))
 }
 
 /// Puts an element with `redeclare` under its name.

@@ -1,7 +1,7 @@
 //! What is left of modifiers on the way to a path.
-ghost use Rattle.std.specs.Prelude.{◌≡◌, ◌++◌, ◌∷◌, [], List as Seq, true, map, option_copied, option_map, unwrap_or, if◌then◌else◌, IfOk, OnOk};
+ghost use Rattle.std.specs.Prelude.{◌≡◌, ◌++◌, ◌∷◌, [], List as Seq, true, map, option_copied, option_map, if◌then◌else◌, IfOk, OnOk};
 ghost use Rattle.std.specs.Option.{option_to_list};
-ghost use Rattle.mo_scope.specs.Frames.{Argued, Frame};
+ghost use Rattle.mo_scope.specs.Frames.{Frame};
 ghost use Rattle.mo_scope.specs.Parts.{held, is_nothing as holds_nothing, nested, or_own};
 ghost use Rattle.mo_scope.specs.Sights.{declares_seen, given_seen, modifiers_seen};
 ghost use Rattle.mo_scope.specs.Worlds.{table_in};
@@ -92,20 +92,6 @@ pub(crate) fn said_by<'s, 't>(
         Give::Modify(_, _) => Said::GoesOn(left),
         Give::Redeclare(element) => Said::Anew(scopes.declared(element), left),
         Give::Replaceable(element) => Said::Anew(scopes.declared(element), left),
-    }
-}
-
-/// The list behind the names of an argument, None where names are left or it redeclares.
-pub fn list_behind(argument: &Argument, passed: usize) -> Option<&[Argument]>
-    ensures { unwrap_or (option_copied result) [] ≡ (held (Argued argument.now passed)).list }
-{
-    if passed < argument.name.0.len() {
-        return None;
-    }
-    match &argument.give {
-        Give::Modify(mods, _) => Some(mods.0.as_slice()),
-        Give::Redeclare(_) => None,
-        Give::Replaceable(_) => None,
     }
 }
 

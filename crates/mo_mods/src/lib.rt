@@ -2,7 +2,7 @@
 //!
 //! - `merge`: the sources of a frame as one table, or the first of rules 21 to 23 that their arguments break; `merged_sources`: a
 //!   list of sources as one table. `claims_by`: the paths that an argument gives something for, each as a `Claim`;
-//!   `list_behind`, `replacing` and `is_path` read arguments, items and paths.
+//!   `is_path` reads paths.
 //! - `MergedEnv`: for every path a value, a redeclaration, and the tables below it. `binding` finds the value for a path,
 //!   and `step_in` makes the table for an element, entered at an index.
 //!
@@ -24,7 +24,5 @@ mod stepping;
 pub use asked::{Claim, claims_by};
 pub use env::{MergedEnv, MergedValue, RedeclaredAt};
 pub use frame::merge;
-pub use groups::replacing;
-pub use left::list_behind;
 pub use merging::merged_sources;
 pub use paths::is_path;

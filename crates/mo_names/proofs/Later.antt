@@ -5,6 +5,7 @@ use Rattle.mo_scope.specs.declared.row.Member.{Member as MemberAt}
 use Rattle.mo_scope.specs.Rows.{class_number, number_of_classes, table_of}
 use Rattle.mo_scope.specs.Frames.{Frame, Member}
 use Rattle.mo_scope.specs.Lookup.{Component, Class}
+use Rattle.mo_scope.specs.Own.{IsOwnElement}
 use Rattle.mo_scope.specs.Places.{Every}
 use Rattle.mo_scope.specs.Sights.{declares_seen}
 use Rattle.mo_scope.specs.Worlds.{World, FrameEntry, Grows, IsFrame, frame_in, frames_of, table_in}
@@ -42,16 +43,17 @@ is_frame_later u v n g at = omega (arith, ap length g.entries, length-append u.e
 
 -- ---- elements
 
-pub is_member_later : (u v : World) (m : MemberAt) → Grows u v → IsMember u m → IsMember v m
-is_member_later u v m g is = record {
-  home = is_frame_later u v m.home.0 g is.home;
-  class = subst (λ t. class_number (declares_seen m.declares) < number_of_classes t) (sym (table_later u v g)) is.class;
-}
-
 pub member_later : (u v : World) (m : MemberAt) → Grows u v → IsMember u m → member_of (frames_of v) m ≡ member_of (frames_of u) m
 member_later u v m g is =
     ap (λ (home : Frame). record { name = m.name.now; home = home; item = m.item; hidden = m.hidden; declares = declares_seen m.declares })
     (frame_later u v m.home.0 g is.home)
+
+pub is_member_later : (u v : World) (m : MemberAt) → Grows u v → IsMember u m → IsMember v m
+is_member_later u v m g is = record {
+  home = is_frame_later u v m.home.0 g is.home;
+  class = subst (λ t. class_number (declares_seen m.declares) < number_of_classes t) (sym (table_later u v g)) is.class;
+  own = subst (λ t. IsOwnElement t (member_of (frames_of v) m)) (sym (table_later u v g)) (subst (IsOwnElement (table_in u)) (sym (member_later u v m g is)) is.own);
+}
 
 -- ---- what is found
 

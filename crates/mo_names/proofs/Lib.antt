@@ -10,6 +10,7 @@ pub mod MembersExist
 pub mod Naming
 pub mod Outcomes
 pub mod Outwards
+pub mod OwnElements
 pub mod OwnFirst
 pub mod Owners
 pub mod Owning

@@ -1,5 +1,5 @@
 -- The elements that classes declare themselves.
-use Rattle.std.proofs.Common.{◌≡◌, ℕ, ◌+◌, ◌<◌, Bool, false, cond, List, [], ◌∷◌, length, map, drop, get_or, Option, Some, refl, ap, sym, ◌∙◌}
+use Rattle.std.proofs.Common.{◌≡◌, ℕ, ◌+◌, ◌<◌, Bool, true, false, cond, List, [], ◌∷◌, length, map, drop, get_or, Option, Some, refl, ap, sym, ◌∙◌}
 use Rattle.std.specs.Prelude.{◌&&◌}
 use Rattle.std.specs.List.{list_all}
 use Rattle.std.specs.Str.{bytes_eq}
@@ -10,9 +10,9 @@ use Rattle.mo_scope.specs.declared.row.Part.{Part as PartAt}
 use Rattle.mo_scope.specs.declared.row.Part.TheVariants.{Element as element_at, Base as base_at}
 use Rattle.mo_scope.specs.Frames.{Frame, Member, class_of}
 use Rattle.mo_scope.specs.Lookup.{counts_in_package, members_from, named, own_members}
+use Rattle.mo_scope.specs.Open.{is_open_declares}
 use Rattle.mo_scope.specs.Rows.{Table, Row, row_at, Declares, elements_in}
 use Rattle.mo_scope.specs.Sights.{declares_seen, part_seen, row_seen}
-use Rattle.mo_names.specs.Parts.{is_open_declares}
 use Rattle.mo_names.proofs.Reading.{at_element}
 
 -- whether elements may stand in a package is told by what declares them
@@ -23,6 +23,16 @@ open_members frame item (x ∷ xs) = ap (λ (b : Bool). is_open_declares x && b)
 -- the first element of that name, from a place among the parts on
 abbrev pub named_from : List PartAt → Frame → List ℕ → ℕ → ℕ → Option Member
 named_from parts frame name i item = named name (members_from frame item (elements_in (map part_seen (drop i parts))))
+
+-- an element of that name
+pub named_here : (parts : List PartAt) (frame : Frame) (name : List ℕ) (i item : ℕ) (part : PartAt) (declares : DeclaresAt) (all : Option Member) → i < length parts → part ≡ get_or parts i part →
+    part ≡ element_at declares → bytes_eq declares.name.now name ≡ true → named_from parts frame name i item ≡ all →
+    all ≡ Some (record { name = declares.name.now; home = frame; item = item; hidden = declares.flags.hidden; declares = declares_seen declares })
+named_here parts frame name i item part declares all below read is same rest =
+    sym rest
+    ∙ ap (λ (xs : List PartAt). named name (members_from frame item (elements_in (map part_seen xs)))) (at_element parts i part below read)
+    ∙ ap (λ (p : PartAt). named name (members_from frame item (elements_in (map part_seen (p ∷ drop (i + 1) parts))))) is
+    ∙ ap (λ b. cond b (Some (record { name = declares.name.now; home = frame; item = item; hidden = declares.flags.hidden; declares = declares_seen declares })) (named_from parts frame name (i + 1) (item + 1))) same
 
 -- an element of another name
 pub named_step : (parts : List PartAt) (frame : Frame) (name : List ℕ) (i item next : ℕ) (part : PartAt) (declares : DeclaresAt) (all : Option Member) → i < length parts → part ≡ get_or parts i part →

@@ -1,6 +1,6 @@
 -- What the table that is kept of a frame tells, where no class is having its bases found.
-use Rattle.std.proofs.Common.{◌≡◌, ℕ, ◌<◌, Bool, true, false, cond, List, [], ◌∷◌, length, map, find, Option, Some, None, Ok, Err, refl, ap, sym, ◌∙◌, arith}
-use Rattle.std.specs.Prelude.{option_map}
+use Rattle.std.proofs.Common.{◌≡◌, ℕ, ◌<◌, Bool, true, false, cond, List, [], ◌∷◌, length, map, find, Some, None, Ok, Err, refl, ap, sym, subst, ◌∙◌, arith}
+use Rattle.std.specs.Prelude.{◌&&◌, option_map}
 use Rattle.std.specs.List.{list_all}
 use Rattle.std.specs.Str.{bytes_eq}
 use Rattle.mo_syntax.specs.declared.place.Place.{Place}
@@ -8,8 +8,10 @@ use Rattle.mo_scope.specs.Outcome.{Outcome, and_then}
 use Rattle.mo_scope.specs.Rows.{Table, number_of_classes}
 use Rattle.mo_scope.specs.Frames.{Frame, Member}
 use Rattle.mo_scope.specs.Lookup.{Walked, Asking, Element, Absent, asking_of, counts_in_package, is_package, members_in, named, reached}
-use Rattle.mo_scope.specs.Names.{elements_of}
+use Rattle.mo_scope.specs.Names.{elements_of, is_inner_for}
+use Rattle.mo_scope.specs.Open.{are_open, is_open_declares}
 use Rattle.mo_scope.specs.Worlds.{MemberEntry, member_in}
+use Rattle.mo_names.specs.Children.{first_inner, inner_in_frame}
 use Rattle.mo_names.specs.Sights.{asking_at}
 use Rattle.mo_names.proofs.OwnFirst.{asked_at, reached_none, reached_some}
 
@@ -58,3 +60,47 @@ kept_package table asking place frame members free elements =
     by : (o : Outcome Walked) → and_then o (λ walked. Ok (members_in walked)) ≡ Ok members → and_then o (λ walked. Ok (list_all counts_in_package (members_in walked))) ≡ Ok (list_all counts_in_package members)
     by (Ok w) is = let same : members_in w ≡ members = cc in ap (λ (ms : List Member). Ok (list_all counts_in_package ms)) same
     by (Err b) is = absurd cc
+
+-- whether all elements of a table may stand in a package
+pub open_entries : (frames : List Frame) (entries : List MemberEntry) → list_all counts_in_package (map (member_in frames) entries) ≡ are_open entries
+open_entries frames [] = refl
+open_entries frames (x ∷ xs) = ap (λ (b : Bool). is_open_declares x.declares && b) (open_entries frames xs)
+
+-- ---- the inner component
+
+pub kept_inner : (table : Table) (place : Place) (frame : Frame) (outer : Member) (members : List Member) → elements_of table frame ≡ Ok members → inner_in_frame table place outer frame ≡ Ok (find (is_inner_for outer) members)
+kept_inner table place frame outer members elements =
+    by ((asking_of table).elements place frame) (sym (asked_elements table (asking_of table) place frame _ refl refl) ∙ elements)
+  where
+    by : (o : Outcome Walked) → and_then o (λ walked. Ok (members_in walked)) ≡ Ok members → and_then o (λ walked. Ok (first_inner outer walked.members)) ≡ Ok (find (is_inner_for outer) members)
+    by (Ok w) is = let same : members_in w ≡ members = cc in ap (λ (ms : List Member). Ok (find (is_inner_for outer) ms)) same
+    by (Err b) is = absurd cc
+
+inner_has_name : (outer member : Member) → bytes_eq member.name outer.name ≡ false → is_inner_for outer member ≡ false
+inner_has_name outer member other = rw other refl
+
+pub inner_first : (frames : List Frame) (outer : Member) (entries : List MemberEntry) (first : MemberEntry) → find (λ member. bytes_eq member.name outer.name) entries ≡ Some first → is_inner_for outer (member_in frames first) ≡ true →
+    find (is_inner_for outer) (map (member_in frames) entries) ≡ Some (member_in frames first)
+inner_first frames outer [] first is inner = absurd cc
+inner_first frames outer (x ∷ xs) first is inner = by (bytes_eq x.name outer.name) refl (λ at. inner_first frames outer xs first at inner) is
+  where
+    by : (b : Bool) → bytes_eq x.name outer.name ≡ b → (find (λ member. bytes_eq member.name outer.name) xs ≡ Some first → find (is_inner_for outer) (map (member_in frames) xs) ≡ Some (member_in frames first)) →
+        cond b (Some x) (find (λ member. bytes_eq member.name outer.name) xs) ≡ Some first → find (is_inner_for outer) (map (member_in frames) (x ∷ xs)) ≡ Some (member_in frames first)
+    by true same rest at =
+        let here : x ≡ first = cc in
+        let found : is_inner_for outer (member_in frames x) ≡ true = subst (λ (e : MemberEntry). is_inner_for outer (member_in frames e) ≡ true) (sym here) inner in
+        rw found (ap (λ (e : MemberEntry). Some (member_in frames e)) here)
+    by false other rest at =
+        let skipped : is_inner_for outer (member_in frames x) ≡ false = inner_has_name outer (member_in frames x) other in
+        rw skipped (rest at)
+
+pub inner_nowhere : (frames : List Frame) (outer : Member) (entries : List MemberEntry) → find (λ member. bytes_eq member.name outer.name) entries ≡ None → None ≡ find (is_inner_for outer) (map (member_in frames) entries)
+inner_nowhere frames outer [] is = refl
+inner_nowhere frames outer (x ∷ xs) is = by (bytes_eq x.name outer.name) refl (inner_nowhere frames outer xs) is
+  where
+    by : (b : Bool) → bytes_eq x.name outer.name ≡ b → (find (λ member. bytes_eq member.name outer.name) xs ≡ None → None ≡ find (is_inner_for outer) (map (member_in frames) xs)) →
+        cond b (Some x) (find (λ member. bytes_eq member.name outer.name) xs) ≡ None → None ≡ find (is_inner_for outer) (map (member_in frames) (x ∷ xs))
+    by true same rest at = absurd cc
+    by false other rest at =
+        let skipped : is_inner_for outer (member_in frames x) ≡ false = inner_has_name outer (member_in frames x) other in
+        rw skipped (rest at)

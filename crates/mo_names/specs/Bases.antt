@@ -1,10 +1,11 @@
 -- Steps of inheritance by name: what each does for the name of a base, for one extends clause, and for one part of a class.
-use Rattle.std.specs.Prelude.{ℕ, ◌<◌, Bool, List, [], ◌∷◌, Option, Ok}
+use Rattle.std.specs.Prelude.{◌≡◌, ℕ, ◌<◌, Bool, List, [], ◌∷◌, Option, Some, Ok, slice_get}
 use Rattle.mo_syntax.specs.declared.expr.Expr.{Expr}
 use Rattle.mo_syntax.specs.declared.expr.PartOf.{PartOf}
 use Rattle.mo_scope.specs.Outcome.{Outcome, and_then, breaks}
 use Rattle.mo_scope.specs.Rows.{Row, Table, Part, Element_of, Base_of, Clause, class_number}
 use Rattle.mo_scope.specs.Frames.{Frame, Scope}
+use Rattle.mo_scope.specs.Own.{own_declared}
 use Rattle.mo_scope.specs.Lookup.{Classed, Walked, Asking, last_place, with_member, with_base}
 use Rattle.mo_names.specs.Steps.{base_at, first_class, next_item, own_inherited}
 
@@ -34,6 +35,11 @@ abbrev pub parts_walked : Table → Asking → Frame → Option Row → (item : 
 parts_walked table asking frame row item [] so_far = Ok so_far
 parts_walked table asking frame row item (part ∷ parts) so_far =
     and_then (part_walked table asking frame row item part so_far) (parts_walked table asking frame row (next_item part item) parts)
+
+-- an element that the class of a frame declares itself is the one with that number
+abbrev pub IsOwnPart : Table → Frame → (item : ℕ) → Part → Type 0
+IsOwnPart table frame item (Element_of declares) = slice_get (own_declared table frame) item ≡ Some declares
+IsOwnPart table frame item (Base_of clause) = Unit {0}
 
 -- the class that a part declares exists
 abbrev pub PartExists : ℕ → Part → Type 0

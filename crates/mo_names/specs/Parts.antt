@@ -1,8 +1,8 @@
 -- The parts and imports of rows.
-use Rattle.std.specs.Prelude.{ℕ, Bool, true, false, ◌||◌, List, [], Option, Some, None, Ok, if◌then◌else◌}
+use Rattle.std.specs.Prelude.{ℕ, Bool, true, false, List, [], Option, Some, None, Ok, if◌then◌else◌}
 use Rattle.mo_syntax.specs.declared.class.Import.{Import}
 use Rattle.mo_scope.specs.Outcome.{Outcome, breaks}
-use Rattle.mo_scope.specs.Rows.{Table, Row, Form, Enumeration_class, Part, Declares, is_class, is_constant, class_number}
+use Rattle.mo_scope.specs.Rows.{Table, Row, Form, Enumeration_class, Part, is_class, class_number}
 use Rattle.mo_scope.specs.Frames.{Frame, Member, looked_up}
 use Rattle.mo_scope.specs.Parts.{Redeclaration, class_sources}
 
@@ -19,10 +19,6 @@ imports_of (Some row) = row.imports
 abbrev pub none_listed : Option (List (List ℕ)) → List (List ℕ)
 none_listed None = []
 none_listed (Some literals) = literals
-
--- a class or a constant
-abbrev pub is_open_declares : Declares → Bool
-is_open_declares declares = is_class declares || is_constant declares
 
 -- an element that a redeclaration gives, entered
 abbrev pub entered_by_redeclaration : Table → Member → Redeclaration → Outcome Frame

@@ -7,7 +7,8 @@ use Rattle.mo_scope.specs.Frames.{Frame, Member}
 use Rattle.mo_scope.specs.Lookup.{Found, Component, Class, Literal, Iteration, Function, Time, Reached, Element, Other, Absent, Met, Classed, Inherited, Walked, Asking, walked}
 use Rattle.mo_scope.specs.Places.{Every}
 use Rattle.mo_scope.specs.Sights.{member_seen, declares_seen}
-use Rattle.mo_scope.specs.Worlds.{World, IsFrame, frame_in, member_in, table_in}
+use Rattle.mo_scope.specs.Own.{IsOwnElement}
+use Rattle.mo_scope.specs.Worlds.{World, IsFrame, frame_in, frames_of, member_in, table_in}
 use Rattle.mo_names.specs.declared.found.Ask.{Ask}
 use Rattle.mo_names.specs.declared.found.Classed.{Classed as ClassedAt}
 use Rattle.mo_names.specs.declared.found.Found.{Found as FoundAt}
@@ -59,10 +60,11 @@ walk_seen frames walk = record {
 
 -- ---- what exists
 
--- the frame whose class declares the element, and the class that it declares
+-- the frame whose class declares the element, the class that it declares, and which of the elements of that frame's class it is
 pub record IsMember (world : World) (member : MemberAt) : Type 0 where
   pub home : IsFrame world member.home.0
   pub class : class_number (declares_seen member.declares) < number_of_classes (table_in world)
+  pub own : IsOwnElement (table_in world) (member_of (frames_of world) member)
 
 abbrev pub IsFound : World → FoundAt → Type 0
 IsFound world (component_at frame member) = IsFrame world frame.0 × IsMember world member

@@ -11,7 +11,7 @@ ghost use Rattle.mo_scope.specs.Worlds.{Grows, IsFrame, frame_at, frames_of, sco
 ghost use Rattle.mo_names.specs.Sights.{IsFound, IsWalk, asks, classed_seen, met_seen, walk_seen};
 ghost use Rattle.mo_names.specs.Parts.{parts_of};
 ghost use Rattle.mo_names.specs.Past.{first_met};
-ghost use Rattle.mo_names.specs.Bases.{PartExists, base_walked as walked_base, base_with_elements, first_of_parts, part_walked as walked_part, parts_walked as walked_parts_from};
+ghost use Rattle.mo_names.specs.Bases.{IsOwnPart, PartExists, base_walked as walked_base, base_with_elements, first_of_parts, part_walked as walked_part, parts_walked as walked_parts_from};
 ghost use Rattle.mo_names.specs.Steps.{base_at, class_step as classed_step, first_class as classed_first, next_item};
 
 use crate::circle::{behind_class, found_in, walked};
@@ -327,6 +327,7 @@ fn part_walked<'t>(
     requires frame { IsFrame s.old frame.0 }
     requires so_far { IsWalk s.old so_far.old }
     requires part { PartExists (number_of_classes (table_in s.old)) (part_seen part.now) }
+    requires own { IsOwnPart (table_in s.old) (frame_at s.old frame.0) item (part_seen part.now) }
     ensures grows { Grows s.old s.new }
     ensures value { Gives (λ _. walk_seen (frames_of s.new) so_far.new) result (walked_part (table_in s.old) (asks (table_in s.old) ask.now) (frame_at s.old frame.0) (row_at (table_in s.old) (class_of (frame_at s.old frame.0))) item (part_seen part.now) (walk_seen (frames_of s.old) so_far.old)) }
     ensures item { IfOk result (λ next. next ≡ next_item (part_seen part.now) item) }

@@ -17,7 +17,7 @@ use crate::depth::depth_inside;
 use crate::found::{Ask, Found, Met, Reached};
 use crate::importing::{import_at, import_count, imported_names};
 use crate::kept::{kept_package, kept_reached, walk_kept};
-use crate::own::{are_own_open, is_encapsulated_declared, own_named};
+use crate::own::{are_own_open, own_named};
 use crate::reach::{
     and_also, are_all_open, behind_element, class_wanted, element_met, first_at_top, is_busy,
     reached_in, reached_own,
@@ -25,7 +25,7 @@ use crate::reach::{
 use crate::start::busy_with;
 use crate::stops::stop;
 use crate::walk::Walk;
-use mo_scope::{Member, Scopes};
+use mo_scope::{Member, Scopes, is_encapsulated};
 use mo_syntax::{FrameId, Import, Place, Stop, Text};
 use std::alloc::Global;
 
@@ -62,7 +62,7 @@ pub(crate) fn walked<'t>(
 
 /// The elements of a frame, which are kept where no class is having its bases found.
 #[cycle(names)]
-fn walked_and_kept<'t>(
+pub(crate) fn walked_and_kept<'t>(
     alloc: Global,
     s: &mut Scopes<'t>,
     ask: &Ask,
@@ -138,7 +138,7 @@ fn counted<'t>(
     if is_package(alloc, s, ask, frame)? {
         return Ok(());
     }
-    if is_encapsulated_declared(&member.declares) {
+    if is_encapsulated(&member.declares) {
         return Ok(());
     }
     Err(stop(16, place))

@@ -6,15 +6,14 @@ ghost use Rattle.mo_scope.specs.Outcome.{Gives};
 ghost use Rattle.mo_scope.specs.Parts.{class_sources};
 ghost use Rattle.mo_scope.specs.Rows.{class_number as number_of_class, number_of_classes};
 ghost use Rattle.mo_scope.specs.Sights.{declares_seen, redeclaration_in};
-ghost use Rattle.mo_scope.specs.Worlds.{Grows, IsFrame, frame_at, frame_in, frames_of, table_in};
+ghost use Rattle.mo_scope.specs.Worlds.{Grows, IsFrame, frame_at, frames_of, table_in};
 ghost use Rattle.mo_names.specs.Sights.{IsFound, IsMember, found_in, member_of};
 ghost use Rattle.mo_names.specs.Parts.{entered_by_redeclaration};
 
 use crate::found::Found;
-use crate::own::is_class_declared;
 use crate::stops::stop;
 use crate::top::looked_up_class;
-use mo_scope::{Declares, Member, Redeclaration, Scopes, Sort};
+use mo_scope::{Declares, Member, Redeclaration, Scopes, Sort, is_class};
 use mo_syntax::{ClassId, FrameId, NoMemory, Stop};
 use std::alloc::Global;
 
@@ -67,7 +66,7 @@ fn entered_redeclared<'t>(
     ensures value { Gives (λ frame. frame_at s.new frame.0) result (entered_by_redeclaration (table_in s.old) (member_of (frames_of s.old) member.now) (redeclaration_in (frames_of s.old) redeclaration.now)) }
     ensures stand { IfOk result (λ frame. IsFrame s.new frame.0) }
 {
-    if !is_class_declared(&redeclaration.declares) {
+    if !is_class(&redeclaration.declares) {
         return Err(stop(13, redeclaration.place));
     }
     Ok(entered_as(
@@ -115,7 +114,7 @@ pub(crate) fn met<'t>(
     ensures value { Gives (found_in (frames_of s.new)) result (found_element (table_in s.old) (frame_at s.old frame.0) (member_of (frames_of s.old) member.now)) }
     ensures stand { IfOk result (IsFound s.new) }
 {
-    if is_class_declared(&member.declares) {
+    if is_class(&member.declares) {
         let class = entered_class(alloc, s, member)?;
         Ok(Found::Class(class, member.declares.flags.replaceable))
     } else {

@@ -1,8 +1,6 @@
 //! How deep the calls stand that find the bases of classes: each class whose bases are being found takes some of the stack.
+use mo_scope::DEPTH_LIMIT;
 use mo_syntax::NoMemory;
-
-/// How deep they stand at most: more is want of memory.
-const DEPTH_LIMIT: u32 = 2000;
 
 /// How much deeper they stand where the name of a base is looked up, in units of a class whose bases are found without that.
 const LOOKUP_DEPTH: u32 = 5;

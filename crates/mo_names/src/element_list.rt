@@ -131,7 +131,7 @@ fn base_at<'t>(
         left: class_count(s)?,
         busy: &busy,
         place: Place { file: 0, byte: 0 },
-        depth: 0,
+        depth: s.depth(),
     };
     base_found(alloc, s, &ask, frame, clause)
 }

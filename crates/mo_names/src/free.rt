@@ -10,7 +10,7 @@ ghost use Rattle.mo_names.specs.Past.{first_met};
 ghost use Rattle.mo_names.specs.Sights.{IsFound, IsReached, IsWalk, classed_seen, found_in, met_seen, reached_seen, walk_seen};
 
 use crate::bases::{class_named, found_first};
-use crate::circle::{behind_class, reached, walked};
+use crate::circle::{behind_class, reached, walked, walked_and_kept};
 use crate::found::{Ask, Classed, Found, Met, Reached};
 use crate::walk::Walk;
 use mo_scope::{ScopeAt, Scopes};
@@ -40,9 +40,30 @@ pub(crate) fn elements_at<'t>(
         left: class_count(s)?,
         busy: &[],
         place,
-        depth: 0,
+        depth: s.depth(),
     };
     walked(alloc, s, &ask, frame)
+}
+
+/// The same; the elements are kept, if none are.
+pub(crate) fn elements_kept_at<'t>(
+    alloc: Global,
+    s: &mut Scopes<'t>,
+    frame: FrameId,
+    place: Place,
+) -> Result<Walk<'t>, Stop>
+    requires { IsFrame s.old frame.0 }
+    ensures grows { Grows s.old s.new }
+    ensures value { Gives (walk_seen (frames_of s.new)) result ((asking_of (table_in s.old)).elements place (frame_at s.old frame.0)) }
+    ensures stand { IfOk result (IsWalk s.new) }
+{
+    let ask = Ask {
+        left: class_count(s)?,
+        busy: &[],
+        place,
+        depth: s.depth(),
+    };
+    walked_and_kept(alloc, s, &ask, frame)
 }
 
 /// What a name reaches among the elements of a frame.
@@ -62,7 +83,7 @@ pub(crate) fn reached_at<'t>(
         left: class_count(s)?,
         busy: &[],
         place,
-        depth: 0,
+        depth: s.depth(),
     };
     reached(alloc, s, &ask, frame, name)
 }
@@ -84,7 +105,7 @@ pub(crate) fn behind_class_at<'t>(
         left: class_count(s)?,
         busy: &[],
         place,
-        depth: 0,
+        depth: s.depth(),
     };
     behind_class(alloc, s, &ask, place, None, frame, name)
 }
@@ -107,7 +128,7 @@ pub(crate) fn first_at<'t>(
         left: class_count(s)?,
         busy: &[],
         place,
-        depth: 0,
+        depth: s.depth(),
     };
     found_first(alloc, s, &ask, false, top, at, name)
 }
@@ -128,7 +149,7 @@ pub(crate) fn class_named_at(
         left: class_count(s)?,
         busy: &[],
         place: Place { file: 0, byte: 0 },
-        depth: 0,
+        depth: s.depth(),
     };
     class_named(alloc, s, &ask, false, at, reference)
 }

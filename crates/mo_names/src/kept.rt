@@ -1,8 +1,6 @@
 //! The tables that are kept of the elements of frames.
-ghost use Rattle.std.specs.Prelude.{◌≡◌, List as Seq, map, true, IfOk, IfSome, Ok};
-ghost use Rattle.std.specs.List.{list_all};
-ghost use Rattle.mo_scope.specs.Frames.{Frame};
-ghost use Rattle.mo_scope.specs.Lookup.{asking_of, counts_in_package, is_package as is_package_frame, reached as reached_of, walked as walked_of};
+ghost use Rattle.std.specs.Prelude.{◌≡◌, map, true, IfOk, IfSome, Ok};
+ghost use Rattle.mo_scope.specs.Lookup.{asking_of, is_package as is_package_frame, reached as reached_of, walked as walked_of};
 ghost use Rattle.mo_scope.specs.Names.{elements_of};
 ghost use Rattle.mo_scope.specs.Places.{Every};
 ghost use Rattle.mo_scope.specs.Sights.{member_seen};
@@ -10,7 +8,6 @@ ghost use Rattle.mo_scope.specs.Worlds.{AreHomes, Grows, IsFrame, frame_at, fram
 ghost use Rattle.mo_names.specs.Sights.{IsMember, IsReached, IsWalk, asks, member_of, reached_seen, walk_seen};
 
 use crate::found::{Ask, Reached};
-use crate::own::is_open;
 use crate::walk::{Inherited, Walk};
 use mo_scope::{Member, MemberTable, Scopes};
 use mo_syntax::{FrameId, List, NoMemory, Text};
@@ -66,18 +63,6 @@ pub(crate) fn kept_reached<'t>(
     }
 }
 
-/// Whether all these elements may stand in a package.
-fn are_members_open(members: &[Member]) -> bool
-    ensures { (frames : Seq Frame) → result ≡ list_all counts_in_package (map (member_of frames) members.now) }
-{
-    for member in members {
-        if !is_open(&member.declares) {
-            return false;
-        }
-    }
-    true
-}
-
 /// Whether the class of a frame declares nothing but classes and constants, where its table is kept and no class is having its
 /// bases found.
 pub(crate) fn kept_package(s: &Scopes, ask: &Ask, frame: FrameId) -> Option<bool>
@@ -85,7 +70,7 @@ pub(crate) fn kept_package(s: &Scopes, ask: &Ask, frame: FrameId) -> Option<bool
     ensures { IfSome result (λ all. is_package_frame (table_in s.now) (asks (table_in s.now) ask.now) ask.now.place (frame_at s.now frame.0) ≡ Ok all) }
 {
     match kept(s, ask, frame) {
-        Some(table) => Some(are_members_open(table.members())),
+        Some(table) => Some(table.is_open()),
         None => None,
     }
 }

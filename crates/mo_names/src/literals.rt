@@ -1,9 +1,9 @@
 //! Literals of enumerations (Modelica Language Specification 3.5, section 4.8.5).
-ghost use Rattle.std.specs.Prelude.{◌≡◌, ◌+◌, ◌≤◌, length, map, option_map, IfOk, IfSome};
+ghost use Rattle.std.specs.Prelude.{◌≡◌, ◌+◌, ◌≤◌, length, map, option_map, slice_get, IfOk, IfSome};
 ghost use Rattle.mo_tables.specs.Words.{code_in};
 ghost use Rattle.mo_scope.specs.Lookup.{literal_of, literals_at, predefined_literals};
 ghost use Rattle.mo_scope.specs.Rows.{form_in, literals_in};
-ghost use Rattle.mo_scope.specs.Worlds.{IsFrame, frame_at, frames_of, frame_in, table_in};
+ghost use Rattle.mo_scope.specs.Worlds.{frames_of, frame_in, table_in};
 ghost use Rattle.mo_syntax.specs.declared.class.Body.{out-Body};
 ghost use Rattle.mo_names.specs.Sights.{IsFound, IsLeaf, found_in};
 ghost use Rattle.mo_names.specs.Parts.{none_listed};
@@ -92,6 +92,71 @@ fn class_place(s: &Scopes, class: ClassId, name: &Text) -> Result<Option<u32>, N
     match s.row(class) {
         Some(row) => body_place(&row.class.body, name),
         None => Ok(predefined_place(class, name)),
+    }
+}
+
+/// The word at a place, from 0.
+pub(crate) fn word_at(words: &[&'static str], place: u32) -> Option<&'static str>
+    ensures { option_map (λ word. word.now) result ≡ slice_get (map (λ word. word.now) words.now) place }
+{
+    match words.get(place as usize) {
+        Some(word) => Some(*word),
+        None => None,
+    }
+}
+
+/// The name of the literal at a place of a predefined enumeration.
+fn predefined_literal(class: ClassId, place: u32) -> Option<&'static str>
+    ensures { option_map (λ name. name.now) result ≡ slice_get (predefined_literals class.0) place }
+{
+    if class.0 == 4 {
+        return word_at(&STATE_SELECT, place);
+    }
+    if class.0 == 5 {
+        return word_at(&ASSERTION_LEVEL, place);
+    }
+    None
+}
+
+/// The name at a place among literals.
+fn listed_literal(literals: &[Text], place: u32) -> Option<&str>
+    ensures { option_map (λ name. name.now) result ≡ slice_get literals.now place }
+{
+    match literals.get(place as usize) {
+        Some(literal) => Some(literal.as_str()),
+        None => None,
+    }
+}
+
+/// The name of the literal at a place of an enumeration's body.
+fn body_literal(body: &Body, place: u32) -> Option<&str>
+    ensures { option_map (λ name. name.now) result ≡ slice_get (none_listed (literals_in (form_in (out-Body body.now)))) place }
+{
+    match body {
+        Body::Enumeration(Some(literals)) => listed_literal(literals.as_slice(), place),
+        Body::Enumeration(None) => None,
+        Body::Long {
+            extending: _,
+            items: _,
+            external: _,
+        } => None,
+        Body::Short {
+            causal: _,
+            base: _,
+            subs: _,
+            mods: _,
+        } => None,
+        Body::Der(_, _) => None,
+    }
+}
+
+/// The name of the literal at a place of a class, from 0; None where the class has no such literal.
+pub fn literal_name<'t>(s: &Scopes<'t>, class: ClassId, place: u32) -> Option<&'t str>
+    ensures { option_map (λ name. name.now) result ≡ slice_get (literals_at (table_in s.now) class.0) place }
+{
+    match s.row(class) {
+        Some(row) => body_literal(&row.class.body, place),
+        None => predefined_literal(class, place),
     }
 }
 

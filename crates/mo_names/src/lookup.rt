@@ -12,9 +12,8 @@ ghost use Rattle.mo_names.specs.Sights.{IsFound, IsReached, found_in, reached_se
 use crate::found::{Found, Reached};
 use crate::free::{first_at, reached_at};
 use crate::outer::stands_for;
-use crate::own::is_constant_declared;
 use crate::stops::stop;
-use mo_scope::{ScopeAt, Scopes};
+use mo_scope::{ScopeAt, Scopes, is_constant};
 use mo_syntax::{FrameId, Place, Stop, Text};
 use std::alloc::Global;
 
@@ -41,7 +40,7 @@ fn constant_or_near(s: &Scopes, near: bool, found: &Found, place: Place) -> Resu
 {
     match found {
         Found::Component(_, member) => {
-            if near || is_constant_declared(&member.declares) {
+            if near || is_constant(&member.declares) {
                 Ok(())
             } else {
                 Err(stop(15, place))

@@ -1,24 +1,23 @@
 //! Components that are declared `outer` (Modelica Language Specification 3.5, section 5.4).
 #![tactic(auto, using(crate::proofs::Later::later))]
 
-ghost use Rattle.std.specs.Prelude.{◌≡◌, ◌&&◌, map, option_map, IfOk, IfSome};
+ghost use Rattle.std.specs.Prelude.{◌≡◌, ◌&&◌, find, map, option_map, IfOk, IfSome, Ok};
 ghost use Rattle.std.specs.Str.{bytes_eq};
 ghost use Rattle.mo_scope.specs.Frames.{at_eq, indexed_eq, is_same_element as is_one_element, numbers_eq};
 ghost use Rattle.mo_scope.specs.Lookup.{Component as found_component};
-ghost use Rattle.mo_scope.specs.Names.{inner_of as inner_component, is_inner_for, stands_for as stood_for};
+ghost use Rattle.mo_scope.specs.Names.{elements_of, inner_of as inner_component, is_inner_for, stands_for as stood_for};
 ghost use Rattle.mo_scope.specs.Outcome.{Gives};
 ghost use Rattle.mo_scope.specs.Places.{Every};
-ghost use Rattle.mo_scope.specs.Worlds.{Grows, IsFrame, frame_at, frames_of, table_in};
+ghost use Rattle.mo_scope.specs.Worlds.{AreHomes, Grows, IsFrame, frame_at, frames_of, member_in, table_in};
 ghost use Rattle.mo_names.specs.Children.{IsComponent, component_seen, first_inner, inner_in_frame};
 ghost use Rattle.mo_names.specs.Sights.{IsFound, IsInherited, IsMember, found_in, inherited_seen, member_of};
 
 use crate::found::Found;
-use crate::free::elements_at;
-use crate::own::is_class_declared;
+use crate::free::elements_kept_at;
 use crate::same::is_same_class;
 use crate::stops::stop;
 use crate::walk::Inherited;
-use mo_scope::{Member, Scopes};
+use mo_scope::{Member, MemberTable, Scopes, is_class};
 use mo_syntax::{FrameId, InstancePath, List, Place, Stop, Text};
 use std::alloc::Global;
 
@@ -85,7 +84,7 @@ fn is_inner(s: &Scopes, outer: &Member, member: &Member) -> bool
     if !member.declares.flags.inner {
         return false;
     }
-    if is_class_declared(&member.declares) {
+    if is_class(&member.declares) {
         return false;
     }
     !is_same_element(s, member, outer)
@@ -110,6 +109,63 @@ fn inner_among<'t>(
     None
 }
 
+/// The first of some elements, without the base frames on the way to them, that is the inner one for an outer component.
+fn inner_of_all<'t>(
+    s: &Scopes<'t>,
+    outer: &Member<'t>,
+    members: &[Member<'t>],
+) -> Option<Member<'t>>
+    requires outer { IsMember s.now outer.now }
+    requires members { Every (IsMember s.now) members.now }
+    ensures is { option_map (member_of (frames_of s.now)) result ≡ find (is_inner_for (member_of (frames_of s.now) outer.now)) (map (member_of (frames_of s.now)) members.now) }
+    ensures exists { IfSome result (IsMember s.now) }
+{
+    for member in members {
+        if is_inner(s, outer, member) {
+            return Some(*member);
+        }
+    }
+    None
+}
+
+/// The inner component in a table of the elements of a frame: most often it is the first element of its name, found by its key.
+fn inner_in_table<'t>(
+    s: &Scopes<'t>,
+    outer: &Member<'t>,
+    frame: FrameId,
+    table: &MemberTable<'t>,
+) -> Option<Member<'t>>
+    requires outer { IsMember s.now outer.now }
+    requires elements { elements_of (table_in s.now) (frame_at s.now frame.0) ≡ Ok (map (member_in (frames_of s.now)) table.now) }
+    requires homes { AreHomes s.now table.now }
+    ensures is { option_map (member_of (frames_of s.now)) result ≡ find (is_inner_for (member_of (frames_of s.now) outer.now)) (map (member_in (frames_of s.now)) table.now) }
+    ensures exists { IfSome result (IsMember s.now) }
+{
+    match table.find(outer.name) {
+        Some(first) => {
+            if is_inner(s, outer, first) {
+                Some(*first)
+            } else {
+                inner_of_all(s, outer, table.members())
+            }
+        }
+        None => None,
+    }
+}
+
+/// The inner component among the elements of a frame by the table that is kept, None where none is kept.
+fn inner_kept<'t>(s: &Scopes<'t>, outer: &Member<'t>, owner: FrameId) -> Option<Option<Member<'t>>>
+    requires outer { IsMember s.now outer.now }
+    requires owner { IsFrame s.now owner.0 }
+    ensures is { IfSome result (λ inner. (place : Place) → inner_in_frame (table_in s.now) place (member_of (frames_of s.now) outer.now) (frame_at s.now owner.0) ≡ Ok (option_map (member_of (frames_of s.now)) inner)) }
+    ensures exists { IfSome result (λ inner. IfSome inner (IsMember s.now)) }
+{
+    match s.table(owner) {
+        Some(table) => Some(inner_in_table(s, outer, owner, table)),
+        None => None,
+    }
+}
+
 /// The inner component among the elements of a frame.
 fn inner_in<'t>(
     alloc: Global,
@@ -124,7 +180,10 @@ fn inner_in<'t>(
     ensures value { Gives (option_map (member_of (frames_of s.new))) result (inner_in_frame (table_in s.old) place (member_of (frames_of s.old) outer.now) (frame_at s.old owner.0)) }
     ensures stand { IfOk result (λ member. IfSome member (IsMember s.new)) }
 {
-    let walk = elements_at(alloc, s, owner, place)?;
+    if let Some(inner) = inner_kept(s, outer, owner) {
+        return Ok(inner);
+    }
+    let walk = elements_kept_at(alloc, s, owner, place)?;
     Ok(inner_among(s, outer, walk.members.as_slice()))
 }
 

@@ -1,70 +1,16 @@
 //! The elements that classes declare themselves.
-ghost use Rattle.std.specs.Prelude.{◌≡◌, map, option_map, option_copied, slice_get, IfOk, IfSome, length};
+ghost use Rattle.std.specs.Prelude.{◌≡◌, map, option_map, IfOk, IfSome};
 ghost use Rattle.std.specs.List.{list_all};
 ghost use Rattle.mo_scope.specs.Lookup.{counts_in_package, members_from, named, own_members};
-ghost use Rattle.mo_scope.specs.Rows.{elements_in, is_class, is_constant, is_encapsulated, is_constant_prefix as constant_prefix, number_of_classes, row_at};
-ghost use Rattle.mo_scope.specs.Sights.{declares_seen, part_seen};
+ghost use Rattle.mo_scope.specs.Open.{is_open_declares};
+ghost use Rattle.mo_scope.specs.Own.{own_declared};
+ghost use Rattle.mo_scope.specs.Rows.{elements_in, number_of_classes};
+ghost use Rattle.mo_scope.specs.Sights.{part_seen};
 ghost use Rattle.mo_scope.specs.Worlds.{IsFrame, PartsExist, frame_at, frames_of, table_in};
 ghost use Rattle.mo_names.specs.Sights.{IsMember, member_of};
-ghost use Rattle.mo_names.specs.Parts.{is_open_declares, parts_of};
 
-use mo_scope::{Declares, Member, Part, Scopes, Sort};
-use mo_syntax::{ClassId, FrameId, NoMemory, Text, Vary};
-
-/// Whether a class is declared.
-pub(crate) fn is_class_declared(declares: &Declares) -> bool
-    ensures { result ≡ is_class (declares_seen declares.now) }
-{
-    match declares.sort {
-        Sort::Class {
-            number: _,
-            encapsulated: _,
-        } => true,
-        Sort::Component(_) => false,
-    }
-}
-
-fn is_constant_prefix(vary: Vary) -> bool
-    ensures { result ≡ constant_prefix vary }
-{
-    match vary {
-        Vary::Constant => true,
-        Vary::Free | Vary::Discrete | Vary::Parameter => false,
-    }
-}
-
-/// Whether a constant is declared.
-pub(crate) fn is_constant_declared(declares: &Declares) -> bool
-    ensures { result ≡ is_constant (declares_seen declares.now) }
-{
-    match declares.sort {
-        Sort::Class {
-            number: _,
-            encapsulated: _,
-        } => false,
-        Sort::Component(component) => is_constant_prefix(component.prefix.vary),
-    }
-}
-
-/// Whether an encapsulated class is declared.
-pub(crate) fn is_encapsulated_declared(declares: &Declares) -> bool
-    ensures { result ≡ is_encapsulated (declares_seen declares.now) }
-{
-    match declares.sort {
-        Sort::Class {
-            number: _,
-            encapsulated,
-        } => encapsulated,
-        Sort::Component(_) => false,
-    }
-}
-
-/// Whether a package may declare that: a class or a constant.
-pub(crate) fn is_open(declares: &Declares) -> bool
-    ensures { result ≡ is_open_declares (declares_seen declares.now) }
-{
-    is_class_declared(declares) || is_constant_declared(declares)
-}
+use mo_scope::{Member, Part, Scopes, is_open};
+use mo_syntax::{FrameId, NoMemory, Text};
 
 /// The first of some parts that declares an element of that name, where a frame's class has these parts.
 fn named_part<'t>(
@@ -75,6 +21,7 @@ fn named_part<'t>(
 ) -> Result<Option<Member<'t>>, NoMemory>
     requires frame { IsFrame s.now frame.0 }
     requires parts { PartsExist (number_of_classes (table_in s.now)) (map part_seen parts.now) }
+    requires own { elements_in (map part_seen parts.now) ≡ own_declared (table_in s.now) (frame_at s.now frame.0) }
     ensures is { IfOk result (λ found. option_map (member_of (frames_of s.now)) found ≡ named name.now (members_from (frame_at s.now frame.0) 0 (elements_in (map part_seen parts.now)))) }
     ensures exists { IfOk result (λ found. IfSome found (IsMember s.now)) }
 {

@@ -1,7 +1,8 @@
 //! Elements that a class declares itself, among those of its frame.
-ghost use Rattle.std.specs.Prelude.{◌≡◌, ◌<◌, IfOk};
+ghost use Rattle.std.specs.Prelude.{◌≡◌, ◌<◌, Some, slice_get, IfOk};
 ghost use Rattle.mo_scope.specs.Lookup.{with_member as joined_member};
 ghost use Rattle.mo_scope.specs.Outcome.{Gives};
+ghost use Rattle.mo_scope.specs.Own.{own_declared};
 ghost use Rattle.mo_scope.specs.Rows.{class_number, number_of_classes};
 ghost use Rattle.mo_scope.specs.Sights.{declares_seen};
 ghost use Rattle.mo_scope.specs.Worlds.{IsFrame, frame_at, frames_of, table_in};
@@ -25,6 +26,7 @@ pub(crate) fn own_walked<'t>(
 ) -> Result<(), Stop>
     requires frame { IsFrame s.now frame.0 }
     requires class { class_number (declares_seen declares.now) < number_of_classes (table_in s.now) }
+    requires own { slice_get (own_declared (table_in s.now) (frame_at s.now frame.0)) item ≡ Some (declares_seen declares.now) }
     requires so_far { IsWalk s.now so_far.old }
     ensures value { Gives (λ _. walk_seen (frames_of s.now) so_far.new) result (joined_member (own_inherited (frame_at s.now frame.0) item (declares_seen declares.now)) (walk_seen (frames_of s.now) so_far.old)) }
     ensures stand { IfOk result (λ _. IsWalk s.now so_far.new) }

@@ -2,7 +2,7 @@
 #![tactic(auto, using(crate::proofs::Later::later))]
 
 ghost use Rattle.std.specs.Prelude.{drop, IfOk};
-ghost use Rattle.mo_scope.specs.Names.{behind_component as component_behind, behind_found as one_behind, found_behind as all_behind, found_class as class_found, found_path, found_reference as reference_found};
+ghost use Rattle.mo_scope.specs.Names.{behind_component as component_behind, behind_found as one_behind, found_behind as all_behind, found_path, found_reference as reference_found};
 ghost use Rattle.mo_scope.specs.Outcome.{Gives};
 ghost use Rattle.mo_scope.specs.Worlds.{Grows, IsFrame, frame_at, frames_of, scope_in, table_in};
 ghost use Rattle.mo_names.specs.Children.{class_next, component_next, found_in_component, next_found, reached_in_component};
@@ -13,9 +13,8 @@ use crate::found::{Found, Reached};
 use crate::free::{behind_class_at, class_named_at};
 use crate::lookup::{find_element, find_first, taken};
 use crate::outer::stands_for;
-use crate::own::is_class_declared;
 use crate::stops::stop;
-use mo_scope::{Member, ScopeAt, Scopes};
+use mo_scope::{Member, ScopeAt, Scopes, is_class};
 use mo_syntax::{FrameId, Part, Place, Reference, Stop, Text};
 use std::alloc::Global;
 
@@ -33,7 +32,7 @@ fn part_of_component<'t>(
     ensures value { Gives (found_in (frames_of s.new)) result (found_in_component (table_in s.old) place (frame_at s.old frame.0) (member_of (frames_of s.old) part.now)) }
     ensures stand { IfOk result (IsFound s.new) }
 {
-    if is_class_declared(&part.declares) {
+    if is_class(&part.declares) {
         return Err(stop(13, place));
     }
     if part.hidden {

@@ -1,26 +1,23 @@
 //! What is found among elements that are known.
-ghost use Rattle.std.specs.Prelude.{◌≡◌, ◌∷◌, ◌++◌, List as Seq, map, option_copied, option_map, IfOk, IfSome, Some, None};
-ghost use Rattle.std.specs.List.{list_all, list_any};
-ghost use Rattle.std.specs.Str.{bytes_eq};
+ghost use Rattle.std.specs.Prelude.{◌≡◌, List as Seq, map, option_copied, option_map, IfOk, IfSome, Some, None};
+ghost use Rattle.std.specs.List.{list_all};
 ghost use Rattle.mo_scope.specs.Frames.{Frame};
-ghost use Rattle.mo_scope.specs.Lookup.{and_also as joined_found, at_top as found_at_top, class_wanted as wanted_class, classed as wanted_classed, contains, counts_in_package, first_at_top as first_found, is_closed as is_closed_frame, iteration as iteration_value, members_in, named, or_absent, predefined as found_predefined, reached_in as reached_among, reached_own as own_reached};
+ghost use Rattle.mo_scope.specs.Lookup.{and_also as joined_found, class_wanted as wanted_class, classed as wanted_classed, contains, counts_in_package, first_at_top as first_found, is_closed as is_closed_frame, iteration as iteration_value, named, or_absent, predefined as found_predefined, reached_in as reached_among, reached_own as own_reached};
 ghost use Rattle.mo_scope.specs.Outcome.{Gives};
 ghost use Rattle.mo_scope.specs.Places.{Every};
-ghost use Rattle.mo_scope.specs.Sights.{declares_seen};
 ghost use Rattle.mo_scope.specs.Worlds.{Grows, IsFrame, frame_at, frames_of, table_in};
-ghost use Rattle.mo_names.specs.Sights.{IsFound, IsInherited, IsMember, IsReached, IsWalk, classed_seen, found_in, inherited_seen, member_of, met_seen, reached_seen, walk_seen};
-ghost use Rattle.mo_names.specs.Parts.{is_open_declares};
+ghost use Rattle.mo_names.specs.Sights.{IsFound, IsInherited, IsMember, IsReached, IsWalk, classed_seen, found_in, inherited_seen, member_of, reached_seen, walk_seen};
 ghost use Rattle.mo_names.specs.Steps.{element_behind, element_met as element_found, open_element as open_found};
 
 use crate::class_element::met;
-use crate::found::{Classed, Found, Met, Reached};
+use crate::found::{Classed, Found, Reached};
 use crate::literals::literal;
-use crate::own::{is_class_declared, is_open, own_named};
+use crate::own::own_named;
 use crate::same::is_same;
 use crate::stops::stop;
 use crate::top::{at_top, predefined};
 use crate::walk::{Inherited, Walk};
-use mo_scope::{Member, Scopes};
+use mo_scope::{Member, Scopes, is_class, is_open};
 use mo_syntax::{ClassId, FrameId, NoMemory, Place, Stop, Text};
 use std::alloc::Global;
 
@@ -129,7 +126,7 @@ pub(crate) fn behind_element<'t>(
 {
     match component {
         Some(wrong) => {
-            if !is_class_declared(&member.declares) {
+            if !is_class(&member.declares) {
                 return Err(stop(13, wrong));
             }
             open_element(alloc, s, place, frame, member)

@@ -1,5 +1,5 @@
 //! Names at the top, and predefined names.
-ghost use Rattle.std.specs.Prelude.{◌≡◌, ◌<◌, [], codes, if◌then◌else◌, option_map, true, false, IfOk, IfSome};
+ghost use Rattle.std.specs.Prelude.{◌≡◌, ◌<◌, [], codes, if◌then◌else◌, option_map, slice_get, false, IfOk, IfSome};
 ghost use Rattle.std.specs.Str.{bytes_eq};
 ghost use Rattle.mo_tables.specs.Words.{code_in, functions};
 ghost use Rattle.mo_scope.specs.Entries.{number_of};
@@ -10,7 +10,7 @@ ghost use Rattle.mo_scope.specs.Worlds.{Grows, IsFrame, IsFrameOrNone, frame_at,
 ghost use Rattle.mo_names.specs.Sights.{IsFound, found_in};
 
 use crate::found::Found;
-use crate::literals::word_place;
+use crate::literals::{word_at, word_place};
 use mo_scope::Scopes;
 use mo_syntax::{ClassId, FrameId, List, NoMemory, Text};
 use mo_tables::function;
@@ -31,6 +31,13 @@ fn type_number(name: &Text) -> Option<u32>
     ensures { result ≡ code_in type_names name.now }
 {
     word_place(&TYPE_NAMES, name)
+}
+
+/// The name of a predefined type, None of another class.
+pub fn type_name(class: ClassId) -> Option<&'static str>
+    ensures { option_map (λ name. name.now) result ≡ slice_get type_names class.0 }
+{
+    word_at(&TYPE_NAMES, class.0)
 }
 
 /// The frame of a class that is only looked up.

@@ -11,6 +11,7 @@ use Rattle.mo_scope.specs.Compatible.{Pairs, compatible_from, dimensions_of}
 use Rattle.mo_scope.specs.Names.{Child, component_frame}
 use Rattle.mo_scope.specs.Outcome.{breaks}
 use Rattle.mo_scope.specs.Parts.{Redeclaration}
+use Rattle.mo_scope.specs.Own.{IsOwnElement}
 use Rattle.mo_scope.specs.Places.{Every}
 use Rattle.mo_scope.specs.Rows.{Table, class_number, number_of_classes}
 use Rattle.mo_scope.specs.Sights.{declares_seen, redeclaration_in, source_seen}
@@ -26,10 +27,14 @@ use Rattle.mo_redeclare.specs.Steps.{element_matched, entered_if_alike, found_ch
 
 -- ---- elements that are kept by name
 
+kept_later : (u v : World) (m : MemberEntry) → Grows u v → IsKept u m → member_in (frames_of v) m ≡ member_in (frames_of u) m
+kept_later u v m g is = ap (λ (home : Frame). record { name = m.name; home = home; item = m.item; hidden = m.hidden; declares = m.declares }) (frame_later u v m.home g is.home)
+
 is_kept_later : (u v : World) (m : MemberEntry) → Grows u v → IsKept u m → IsKept v m
 is_kept_later u v m g is = record {
   home = is_frame_later u v m.home g is.home;
   class = subst (λ t. class_number m.declares < number_of_classes t) (sym (table_later u v g)) is.class;
+  own = subst (λ t. IsOwnElement t (member_in (frames_of v) m)) (sym (table_later u v g)) (subst (IsOwnElement (table_in u)) (sym (kept_later u v m g is)) is.own);
 }
 
 pub are_kept_later : (u v : World) (ms : List MemberEntry) → Grows u v → Every (IsKept u) ms → Every (IsKept v) ms
@@ -39,7 +44,7 @@ are_kept_later u v (m ∷ ms) g are = (is_kept_later u v m g are.0, are_kept_lat
 pub members_later : (u v : World) (ms : List MemberEntry) → Grows u v → Every (IsKept u) ms → map (member_in (frames_of v)) ms ≡ map (member_in (frames_of u)) ms
 members_later u v [] g are = refl
 members_later u v (m ∷ ms) g are =
-    ap (λ (home : Frame). record { name = m.name; home = home; item = m.item; hidden = m.hidden; declares = m.declares } ∷ map (member_in (frames_of v)) ms) (frame_later u v m.home g are.0.home)
+    ap (λ (x : Member). x ∷ map (member_in (frames_of v)) ms) (kept_later u v m g are.0)
     ∙ ap (λ (xs : List Member). member_in (frames_of u) m ∷ xs) (members_later u v ms g are.1)
 
 -- ---- redeclarations

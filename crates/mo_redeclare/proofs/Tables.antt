@@ -1,5 +1,5 @@
 -- Elements by name.
-use Rattle.std.proofs.Common.{◌≡◌, ℕ, Bool, true, false, List, [], ◌∷◌, ◌++◌, map, Option, Some, None, Ok, refl, ap, sym, subst, ◌∙◌}
+use Rattle.std.proofs.Common.{◌≡◌, ℕ, Bool, true, false, List, [], ◌∷◌, map, Option, Some, None, Ok, refl, ap, sym, subst, ◌∙◌}
 use Rattle.std.specs.Prelude.{filter, find, option_map, IfSome, if◌then◌else◌}
 use Rattle.std.specs.Str.{bytes_eq}
 use Rattle.mo_syntax.specs.declared.place.Place.{Place}
@@ -72,7 +72,7 @@ every_filter P p (x ∷ xs) are = by (p x) refl (every_filter P p xs are.1)
 
 pub all_kept : (world : World) (xs : List Inherited) → Every (IsInherited world) xs → Every (IsKept world) (map entry_of xs)
 all_kept world [] are = tt
-all_kept world (x ∷ xs) are = (record { home = are.0.member.home; class = are.0.member.class }, all_kept world xs are.1)
+all_kept world (x ∷ xs) are = (record { home = are.0.member.home; class = are.0.member.class; own = are.0.member.own }, all_kept world xs are.1)
 
 pub found_kept : (P : MemberEntry → Type 0) (p : MemberEntry → Bool) (xs : List MemberEntry) (e : MemberEntry) → Every P xs → find p xs ≡ Some e → P e
 found_kept P p [] e are is = cc
@@ -116,4 +116,4 @@ pub named_exists : (world : World) (o : Option MemberAt) (name : List ℕ) (memb
 named_exists world None name members are is = tt
 named_exists world (Some m) name members are is =
     let kept : IsKept world (member_seen m) = found_kept (IsKept world) (λ member. bytes_eq member.name name) members (member_seen m) are (sym is) in
-    record { home = kept.home; class = kept.class }
+    record { home = kept.home; class = kept.class; own = kept.own }

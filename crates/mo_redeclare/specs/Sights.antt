@@ -2,10 +2,11 @@
 use Rattle.std.specs.Prelude.{ℕ, ◌<◌, Bool, ◌&&◌, not, List}
 use Rattle.mo_scope.specs.declared.saying.Redeclaration.{Redeclaration as RedeclarationAt}
 use Rattle.mo_scope.specs.Frames.{Frame}
+use Rattle.mo_scope.specs.Own.{IsOwnElement}
 use Rattle.mo_scope.specs.Parts.{Redeclaration}
 use Rattle.mo_scope.specs.Rows.{class_number, is_class, number_of_classes}
 use Rattle.mo_scope.specs.Sights.{declares_seen, member_seen, redeclaration_in}
-use Rattle.mo_scope.specs.Worlds.{World, MemberEntry, IsFrame, table_in}
+use Rattle.mo_scope.specs.Worlds.{World, MemberEntry, IsFrame, frames_of, member_in, table_in}
 use Rattle.mo_names.specs.declared.walk.Inherited.{Inherited}
 use Rattle.mo_redeclare.specs.declared.spoken.Named.{Named}
 
@@ -31,7 +32,8 @@ entry_of inherited = member_seen inherited.member
 abbrev pub is_open : MemberEntry → Bool
 is_open member = not member.hidden && not (is_class member.declares)
 
--- the frame whose class declares the element, and the class that it declares, exist
+-- the frame whose class declares the element, and the class that it declares, exist, and it is an element of that frame's class
 pub record IsKept (world : World) (member : MemberEntry) : Type 0 where
   pub home : IsFrame world member.home
   pub class : class_number member.declares < number_of_classes (table_in world)
+  pub own : IsOwnElement (table_in world) (member_in (frames_of world) member)

@@ -16,11 +16,10 @@ use crate::comparing::compatible;
 use crate::known::{all_elements, named};
 use crate::prefix::is_same;
 use crate::replaceable::is_replaceable_for;
-use crate::sort::is_class;
 use crate::spoken::{Named, redeclared_in};
 use crate::stops::stop;
 use mo_names::{Walk, walk_of};
-use mo_scope::{Member, MemberTable, Redeclaration, Scopes};
+use mo_scope::{Member, MemberTable, Redeclaration, Scopes, is_class};
 use mo_syntax::{FrameId, Stop};
 use std::alloc::Global;
 

@@ -19,7 +19,7 @@ use mo_syntax::{FrameId, List, NoMemory, Place, Stop};
 use std::alloc::Global;
 
 /// How many pairs of classes are compared at a time at most, one inside another: each takes some of the stack.
-const DEPTH_LIMIT: usize = 1_000;
+const DEPTH_LIMIT: usize = 150;
 
 /// What two classes are compared for: how many pairs of classes are not being compared, those that are, and the place of the
 /// redeclaration.

@@ -8,9 +8,8 @@ ghost use Rattle.mo_scope.specs.Worlds.{frames_of, member_in};
 ghost use Rattle.mo_names.specs.Sights.{IsMember, member_of};
 ghost use Rattle.mo_redeclare.specs.Sights.{IsKept, entry_of, is_open};
 
-use crate::sort::is_class;
 use mo_names::Inherited;
-use mo_scope::{Member, MemberTable, Scopes};
+use mo_scope::{Member, MemberTable, Scopes, is_class};
 use mo_syntax::{NoMemory, Text};
 use std::alloc::Global;
 

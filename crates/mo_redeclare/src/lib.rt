@@ -4,7 +4,6 @@
 //! - `check_redeclared`: what the redeclarations among the sources of a frame break.
 //! - `prefix_of`, `dimension_count`: the declared prefixes of a component, and how many dimensions it has; `first_base` and `leaf_base`:
 //!   the bases that dimensions of a type are looked for in.
-//! - `is_class`, `component_of`: what is declared.
 //!
 //! The definitions stand in mo_scope. Each call keeps the frames that exist, after a refusal too.
 #![tactic(auto)]
@@ -18,7 +17,6 @@ mod known;
 mod names;
 mod prefix;
 mod replaceable;
-mod sort;
 mod spoken;
 mod stops;
 
@@ -26,4 +24,3 @@ pub use check::check_redeclared;
 pub use comparing::compatible;
 pub use dims::{dimension_count, first_base, leaf_base};
 pub use prefix::prefix_of;
-pub use sort::{component_of, is_class};

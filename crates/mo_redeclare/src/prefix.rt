@@ -6,8 +6,7 @@ ghost use Rattle.mo_scope.specs.Sights.{declares_seen, member_seen};
 ghost use Rattle.mo_scope.specs.Sizes.{or_causal as causality_over, or_vary as variability_over, prefix_over as prefix_put_over};
 ghost use Rattle.mo_scope.specs.Worlds.{IsFrame, frames_of, member_in, table_in};
 
-use crate::sort::component_of;
-use mo_scope::{Declares, Member, Scopes};
+use mo_scope::{Declares, Member, Scopes, component_of};
 use mo_syntax::{Causal, NoMemory, Prefix, Vary};
 use std::alloc::Global;
 

@@ -1,8 +1,8 @@
 //! What the sources of a frame redeclare (Modelica Language Specification 3.5, section 7.3).
 ghost use Rattle.std.specs.Option.{option_to_list};
-ghost use Rattle.std.specs.Prelude.{◌≡◌, ◌++◌, ◌∷◌, [], List as Seq, flat_map, map, option_copied, option_map, IfOk, IfSome, OnOk};
+ghost use Rattle.std.specs.Prelude.{◌≡◌, ◌++◌, ◌∷◌, [], List as Seq, flat_map, map, option_map, IfOk, OnOk};
 ghost use Rattle.mo_scope.specs.Frames.{Argued, Frame, sources_of};
-ghost use Rattle.mo_scope.specs.Parts.{behind_name, declared_in, held, pending_behind as pending_indices, redeclarations_in, said_behind};
+ghost use Rattle.mo_scope.specs.Parts.{behind_name, declared_in, pending_behind as pending_indices, redeclarations_in, said_behind};
 ghost use Rattle.mo_scope.specs.Places.{Every};
 ghost use Rattle.mo_scope.specs.Rows.{replacing_in};
 ghost use Rattle.mo_scope.specs.Sights.{given_seen, source_seen};
@@ -11,7 +11,10 @@ ghost use Rattle.mo_scope.specs.Worlds.{IsFrame, frame_at, frames_of, source_in,
 ghost use Rattle.mo_redeclare.specs.Sights.{IsNamed, named_seen};
 ghost use Rattle.mo_redeclare.specs.Steps.{element_given as given_element, redeclares_in};
 
-use mo_scope::{Given, Listing, Origin, Redeclaration, Scopes, Source, copied, copied_scope};
+use mo_scope::{
+    Given, Listing, Origin, Redeclaration, Scopes, Source, copied, copied_scope, nested_list,
+    pending_at, replacing,
+};
 use mo_syntax::{Argument, Element, FrameId, Give, Item, List, NoMemory, Text, both};
 use std::alloc::Global;
 
@@ -51,35 +54,6 @@ fn element_given<'t>(give: &'t Give) -> Option<(&'t Element, bool)>
     }
 }
 
-/// The element of an item that replaces an inherited one.
-fn replacing<'t>(item: &'t Item) -> Option<&'t Element>
-    ensures { option_to_list (option_copied result) ≡ replacing_in item.now }
-{
-    match item {
-        Item::Member(element) => {
-            if element.flags.redeclare {
-                Some(element)
-            } else {
-                None
-            }
-        }
-        Item::Import(_) => None,
-        Item::Extends(_) => None,
-        Item::Equations(_, _) => None,
-        Item::Algorithm(_, _) => None,
-    }
-}
-
-/// The indices that are pending behind a name that is entered at none.
-fn pending_behind(alloc: Global, each: bool, pending: &[u32]) -> Result<List<u32>, NoMemory>
-    ensures { IfOk result (λ made. made ≡ pending_indices each pending.now []) }
-{
-    if each {
-        return Ok(List::new(alloc));
-    }
-    copied(alloc, pending)
-}
-
 /// Names that were passed, with one more.
 fn names_with<'t>(
     alloc: Global,
@@ -104,7 +78,7 @@ fn source_behind<'t>(
     ensures scope { IfOk result (λ made. made.scope.frame ≡ source.now.scope.frame) }
 {
     let (pending, passed) = both(
-        pending_behind(alloc, passing.each, source.pending.as_slice()),
+        pending_at(alloc, passing.each, source.pending.as_slice(), &[]),
         names_with(alloc, source.listing.passed.as_slice(), passing.name),
     )?;
     let scope = copied_scope(alloc, &source.scope)?;
@@ -288,20 +262,6 @@ fn add_items<'t>(
         put(made, found)?;
     }
     Ok(())
-}
-
-/// The list that stands behind the names of an argument, empty where names are left or it redeclares.
-fn nested_list<'t>(argument: &'t Argument, passed: usize) -> &'t [Argument]
-    ensures { result.now ≡ (held (Argued argument.now passed)).list }
-{
-    if passed < argument.name.0.len() {
-        return &[];
-    }
-    match &argument.give {
-        Give::Modify(mods, _) => mods.0.as_slice(),
-        Give::Redeclare(_) => &[],
-        Give::Replaceable(_) => &[],
-    }
 }
 
 /// Adds the redeclarations of a source.

@@ -139,14 +139,14 @@ none_of (Some x) true h = absurd (cc)
 none_of (Some x) false h = refl
 
 -- the tests of a frame say whether its entry is bare
-pub bare_is : {A B C : Type 0} (seen : A → SourceEntry) (path : B → Indexed) (number : C → ℕ) (sources : List A) (at : Option B) (owner : Option C) (class : ℕ) (outer : Option ℕ) (e a o : Bool) →
+pub bare_is : {B C : Type 0} (path : B → Indexed) (number : C → ℕ) (sources : List SourceEntry) (at : Option B) (owner : Option C) (class : ℕ) (outer : Option ℕ) (e a o : Bool) →
     (IsTrue e → sources ≡ []) × (sources ≡ [] → IsTrue e) → a ≡ is_none at → o ≡ is_none owner →
-    (e && a && o) ≡ is_bare (record { class = class; sources = map seen sources; outer = outer; at = option_map path at; owner = option_map number owner })
-bare_is seen path number (x ∷ sources) at owner class outer true a o tests is_a is_o = absurd (let none : x ∷ sources ≡ [] = tests.0 refl in cc)
-bare_is seen path number (x ∷ sources) at owner class outer false a o tests is_a is_o = refl
-bare_is seen path number [] None None class outer e a o tests is_a is_o = rw (is_a, is_o) (ap (λ b. b && true && true) (tests.1 refl))
-bare_is seen path number [] None (Some n) class outer e a o tests is_a is_o = rw (is_a, is_o) (ap (λ b. b && true && false) (tests.1 refl))
-bare_is seen path number [] (Some p) owner class outer e a o tests is_a is_o = rw is_a (ap (λ b. b && false && o) (tests.1 refl))
+    (e && a && o) ≡ is_bare (record { class = class; sources = sources; outer = outer; at = option_map path at; owner = option_map number owner })
+bare_is path number (x ∷ sources) at owner class outer true a o tests is_a is_o = absurd (let none : x ∷ sources ≡ [] = tests.0 refl in cc)
+bare_is path number (x ∷ sources) at owner class outer false a o tests is_a is_o = refl
+bare_is path number [] None None class outer e a o tests is_a is_o = rw (is_a, is_o) (ap (λ b. b && true && true) (tests.1 refl))
+bare_is path number [] None (Some n) class outer e a o tests is_a is_o = rw (is_a, is_o) (ap (λ b. b && true && false) (tests.1 refl))
+bare_is path number [] (Some p) owner class outer e a o tests is_a is_o = rw is_a (ap (λ b. b && false && o) (tests.1 refl))
 
 -- ---- a frame that is pushed
 

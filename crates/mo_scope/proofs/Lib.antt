@@ -1,9 +1,11 @@
 pub mod Entering
 pub mod Keys
 pub mod Lists
+pub mod Mentioned
 mod Models
 pub mod Named
 pub mod Numbered
+pub mod PathPicking
 pub mod Picking
 pub mod RowsFound
 pub mod RowsMade

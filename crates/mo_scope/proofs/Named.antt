@@ -1,12 +1,13 @@
 -- Elements that are found by name.
 use Rattle.std.proofs.Common.{◌≡◌, ℕ, suc, ◌+◌, Bool, true, false, cond, List, [], ◌∷◌, ◌++◌, length, map, find, Option, Some, None, refl, ap, sym, ◌∙◌, arith, Bor}
-use Rattle.std.specs.Prelude.{slice_get, option_map, option_copied, MatchOption, is_some, if◌then◌else◌}
+use Rattle.std.specs.Prelude.{slice_get, option_map, option_copied, MatchOption, is_some, ◌&&◌, if◌then◌else◌}
 use Rattle.std.specs.Str.{bytes_eq}
 use Rattle.std.proofs.lemmas.List.{length-map, map-append}
 use Rattle.std.proofs.lemmas.Option.{slice_get-map}
 use Rattle.std.proofs.lemmas.Slice.Eq.{bytes_eq-Decides}
 use Rattle.mo_syntax.specs.ClassTable.{otherwise}
 use Rattle.mo_scope.specs.ByName.{place_of}
+use Rattle.mo_scope.specs.Open.{are_open, is_open_declares}
 use Rattle.mo_scope.specs.Worlds.{MemberEntry}
 
 or_none : {A : Type 0} (o : Option A) → otherwise o None ≡ o
@@ -118,3 +119,23 @@ pub named : {A : Type 0} (seen : A → MemberEntry) (members : List MemberEntry)
     option_map seen (option_copied r) ≡ find (λ member. bytes_eq member.name name) members
 named seen members xs name n r are at is =
     ap (option_map seen) is ∙ sym (slice_get-map seen xs n) ∙ found_at (map seen xs) name n at ∙ ap (find (λ member. bytes_eq member.name name)) are
+
+-- ---- what may stand in a package
+
+and_last : (a b : Bool) (c : Bool) → (a && (b && c)) ≡ ((a && b) && c)
+and_last true b c = refl
+and_last false b c = refl
+
+and_true : (b : Bool) → (b && true) ≡ b
+and_true true = refl
+and_true false = refl
+
+all_more : (members : List MemberEntry) (member : MemberEntry) → are_open (members ++ member ∷ []) ≡ (are_open members && is_open_declares member.declares)
+all_more [] member = and_true (is_open_declares member.declares)
+all_more (m ∷ members) member = ap (λ (b : Bool). is_open_declares m.declares && b) (all_more members member) ∙ and_last (is_open_declares m.declares) (are_open members) (is_open_declares member.declares)
+
+pub open_more : {A : Type 0} (seen : A → MemberEntry) (xs ys : List A) (x : A) (old new : Bool) → old ≡ are_open (map seen xs) → new ≡ (old && is_open_declares (seen x).declares) → ys ≡ xs ++ x ∷ [] → new ≡ are_open (map seen ys)
+open_more seen xs ys x old new held is pushed =
+    is ∙ ap (λ (b : Bool). b && is_open_declares (seen x).declares) held
+    ∙ sym (all_more (map seen xs) (seen x))
+    ∙ ap are_open (sym (ap (map seen) pushed ∙ map-append seen xs (x ∷ [])))

@@ -16,7 +16,7 @@ use Rattle.mo_scope.specs.Rows.{Table, Declares, Constraint, is_class}
 use Rattle.mo_scope.specs.Frames.{Argued, Frame, Listed, Member, Source}
 use Rattle.mo_scope.specs.Sights.{source_seen}
 use Rattle.mo_scope.specs.Worlds.{source_in, sources_in}
-use Rattle.mo_scope.specs.Parts.{Redeclaration, Modifies, Redeclares, begins_with, behind_name, constraint_source, declared_in, declared_sources, own_source, held, names_left, pending_behind, said_behind, said_by_argument, said_by_element, said_by_elements, said_further}
+use Rattle.mo_scope.specs.Parts.{Redeclaration, Modifies, Redeclares, begins_with, behind_name, constraint_source, declared_in, declared_sources, own_source, held, names_left, pending_behind, said_behind, said_by_argument, said_by_element, said_further}
 
 -- ---- an argument of which so many names are passed
 
@@ -80,9 +80,6 @@ module _ (table : Table) (source : Source) (name index : List ℕ) where
   element_named declares same =
       let is : declares.name ≡ name = (bytes_eq-Decides declares.name name).0 same in
       rw (same, is) refl
-
-  pub one_element : (element : Element) → said_by_elements table source name index (element ∷ []) ≡ said_by_element table source name index (declared_in table element)
-  one_element element = append-nil (said_by_element table source name index (declared_in table element))
 
 -- ---- lists that are gathered
 

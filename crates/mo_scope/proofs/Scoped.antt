@@ -194,12 +194,10 @@ pub without_scoped : (sources : List Source) → Every (IsScoped IsReal) sources
 without_scoped sources every = every_map (IsScoped IsReal) without_value sources every
 
 -- what sources with frames say has real scopes
-pub said_real : (w : World) (table : Table) (name index : List ℕ) (sources xs : List SourceAt) (sayings : List Saying) → xs ≡ sources → AreFrames w (map source_seen sources) →
-    sayings ≡ said_by_all table name index (sources_in (frames_of w) (map source_seen xs)) → Every (SaysScoped IsReal) sayings
-said_real w table name index sources xs sayings same are is =
-    subst (Every (SaysScoped IsReal)) (sym is)
-    (said_by_all_scoped IsReal table name index (sources_in (frames_of w) (map source_seen xs))
-    (scoped_from w (map source_seen xs) (subst (λ (ys : List SourceAt). AreFrames w (map source_seen ys)) (sym same) are)))
+pub said_real : (w : World) (table : Table) (name index : List ℕ) (sources : List SourceEntry) (sayings : List Saying) → AreFrames w sources →
+    sayings ≡ said_by_all table name index (sources_in (frames_of w) sources) → Every (SaysScoped IsReal) sayings
+said_real w table name index sources sayings are is =
+    subst (Every (SaysScoped IsReal)) (sym is) (said_by_all_scoped IsReal table name index (sources_in (frames_of w) sources) (scoped_from w sources are))
 
 pub redeclarations_real : (w : World) (found : List RedeclarationAt) → Every (λ redeclaration. IsScoped IsReal redeclaration.source) (map (redeclaration_in (frames_of w)) found) →
     AreFrames w (map (λ redeclaration. source_seen redeclaration.source) found)

@@ -1,8 +1,9 @@
 -- Elements by name.
-use Rattle.std.specs.Prelude.{◌≡◌, ℕ, ◌+◌, List, [], ◌∷◌, Option, Some, None, option_map, if◌then◌else◌}
+use Rattle.std.specs.Prelude.{◌≡◌, ℕ, Bool, ◌+◌, List, [], ◌∷◌, Option, Some, None, option_map, if◌then◌else◌}
 use Rattle.std.specs.HashMap.{get_by}
 use Rattle.std.specs.Str.{bytes_eq}
 use Rattle.mo_scope.specs.declared.names.Names.{Names}
+use Rattle.mo_scope.specs.Open.{are_open}
 use Rattle.mo_scope.specs.Worlds.{MemberEntry}
 
 -- the place of a name, None where it has none
@@ -17,3 +18,8 @@ place_of name (member ∷ members) = if bytes_eq member.name name then Some 0 el
 -- each name has the place of the first element with that name
 abbrev pub AreNames : List MemberEntry → Names → Type 0
 AreNames members names = (name : List ℕ) → place_held names name ≡ place_of name members
+
+-- what a table holds beside its elements
+pub record IsTableInside (members : List MemberEntry) (names : Names) (all_open : Bool) : Type 0 where
+  pub places : AreNames members names
+  pub opens : all_open ≡ are_open members

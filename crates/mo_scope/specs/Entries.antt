@@ -1,11 +1,10 @@
 -- A numbered frame as data.
-use Rattle.std.specs.Prelude.{ℕ, List, Option, map, option_map}
+use Rattle.std.specs.Prelude.{ℕ, List, Option, option_map}
 use Rattle.mo_syntax.specs.declared.meaning.FrameId.{FrameId}
 use Rattle.mo_syntax.specs.declared.meaning.InstancePath.{InstancePath}
 use Rattle.mo_scope.specs.declared.frame.FrameData.{FrameData}
 use Rattle.mo_scope.specs.Frames.{Indexed}
 use Rattle.mo_scope.specs.Worlds.{FrameEntry, MemberEntry}
-use Rattle.mo_scope.specs.Sights.{source_seen}
 
 abbrev pub number_of : FrameId → ℕ
 number_of frame = frame.0
@@ -16,7 +15,7 @@ names_of path = path.0
 abbrev pub entry_seen : FrameData → FrameEntry
 entry_seen frame = record {
   class = frame.class.0;
-  sources = map source_seen frame.sources;
+  sources = frame.sources;
   outer = option_map number_of frame.outer;
   at = option_map names_of frame.at;
   owner = option_map number_of frame.owner;

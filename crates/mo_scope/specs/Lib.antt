@@ -9,10 +9,14 @@ pub mod Held
 pub mod Insides
 pub mod Instances
 pub mod Listed
+pub mod Mentions
 pub mod Lookup
 pub mod Names
+pub mod Open
 pub mod Outcome
+pub mod Own
 pub mod Parts
+pub mod Picks
 pub mod Places
 pub mod Redeclarations
 pub mod Rows
@@ -20,4 +24,5 @@ pub mod Sights
 pub mod Sizes
 pub mod Spoken
 pub mod TreePlaces
+pub mod Trees
 pub mod Worlds

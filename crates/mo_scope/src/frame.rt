@@ -3,15 +3,15 @@ ghost use Rattle.std.specs.Prelude.{◌≡◌};
 ghost use Rattle.mo_scope.specs.Bare.{is_bare};
 ghost use Rattle.mo_scope.specs.Entries.{entry_seen};
 
-use crate::source::Source;
+use crate::frame_sources::FrameSources;
 use crate::table::MemberTable;
-use mo_syntax::{ClassId, FrameId, InstancePath, List};
+use mo_syntax::{ClassId, FrameId, InstancePath};
 
 /// A frame, its other frames by number.
 #[derive(Drop)]
 pub(crate) struct FrameData<'t> {
     pub class: ClassId,
-    pub sources: List<Source<'t>>,
+    pub sources: FrameSources<'t>,
     pub outer: Option<FrameId>,
     pub at: Option<InstancePath>,
     pub owner: Option<FrameId>,

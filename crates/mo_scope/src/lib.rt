@@ -4,10 +4,14 @@
 //! - `Scopes`: the classes of the files and frames by number. `row`, `top_class`, `number_at` and `declared` read the
 //!   classes; `enter` makes a frame and `entered` finds one that only looks a class up; `class_of`, `sources`, `outer`,
 //!   `path` and `owner` read it; `keep` and `table` hold the table of its elements, which `MemberTable` finds by name.
-//! - `Source`: what modifies a class, by reference into the class tree. `pick_here` finds the value that sources give for it.
+//! - `Source`: what modifies a class, by reference into the class tree. `pick_here` finds the value that sources give for it, and
+//!   `pick` the one for a path.
 //! - `redeclared`, `redeclarations`: what redeclares an element. `child_sources`, `element_sources`, `class_sources`,
 //!   `component_sources` and `base_sources` make the sources with which an element or a base is entered.
-//! - `Row`, `Declares`, `Member`: a class with what it declares, and an element of a frame.
+//! - `Row`, `Declares`, `Member`: a class with what it declares, and an element of a frame. `is_class`, `is_constant`,
+//!   `is_encapsulated`, `is_open` and `component_of` read what is declared.
+//! - `nested_list` and `replacing` read arguments and items; `pending_at` gives the indices behind a name.
+//! - `InstanceTree`, `Instance`, `Leaf`, `Chosen`: the components of a class, as data for what makes them and what reads them.
 //!
 //! `specs/` has the definitions of elements, lookup, children, arguments and compatibility. They speak of frames as trees;
 //! `specs/Worlds.antt` says which tree a number stands for.
@@ -18,25 +22,33 @@ mod copies;
 mod declaring;
 mod entered;
 mod frame;
+mod frame_sources;
 mod groups;
+mod instance;
 mod making;
+mod mentions;
 mod names;
-mod pick;
+mod pick_path;
 mod places;
 mod row;
 mod saying;
 mod scopes;
+mod sort;
 mod source;
 mod sources;
 mod table;
 mod tops;
+mod values;
 mod walk;
 mod written;
 
 pub use copies::{copied, copied_scope, extend};
-pub use pick::pick_here;
+pub use instance::{Chosen, Instance, InstanceTree, Leaf};
+pub use pick_path::pick;
 pub use row::{Clause, Constraint, Declares, Home, Member, Part, Row, Sort};
-pub use saying::Redeclaration;
-pub use scopes::Scopes;
+pub use saying::{Redeclaration, nested_list, pending_at, replacing};
+pub use scopes::{DEPTH_LIMIT, Scopes};
+pub use sort::{component_of, is_class, is_constant, is_encapsulated, is_open};
 pub use source::{Given, Listing, Modifiers, Origin, Picked, ScopeAt, Source};
 pub use table::MemberTable;
+pub use values::pick_here;

@@ -1,14 +1,17 @@
 //! What the sources of a frame say of a name: each argument that begins with it modifies the element or redeclares it.
 ghost use Rattle.std.specs.Option.{option_to_list};
-ghost use Rattle.std.specs.Prelude.{◌≡◌, ◌+◌, ◌<◌, ◌++◌, ◌∷◌, [], false, List as Seq, drop, flat_map, is_some, length, map, option_copied, unwrap_or, IfOk, IfSome, IsSome, OnOk};
+ghost use Rattle.std.specs.Prelude.{◌≡◌, ◌+◌, ◌<◌, ◌++◌, [], false, List as Seq, drop, flat_map, is_some, length, map, option_copied, IfOk, IfSome, IsSome, OnOk};
 ghost use Rattle.std.specs.Str.{bytes_eq};
 ghost use Rattle.mo_scope.specs.Frames.{Frame, Argued};
-ghost use Rattle.mo_scope.specs.Parts.{Redeclares, begins_with, behind_name, declared_in, held, pending_behind, said, said_behind, said_by_all, said_by_element, said_by_elements, said_further, said_in_list};
+ghost use Rattle.mo_scope.specs.Mentions.{mention_seen, mentioned_seen, said_at, said_by};
+ghost use Rattle.mo_scope.specs.Parts.{Redeclares, begins_with, behind_name, declared_in, held, pending_behind, said_behind, said_by_all, said_by_argument, said_by_element, said_further};
 ghost use Rattle.mo_scope.specs.Rows.{replacing_in};
 ghost use Rattle.mo_scope.specs.Sights.{given_seen, saying_in, source_seen};
 ghost use Rattle.mo_scope.specs.Worlds.{frames_of, source_in, sources_in, table_in};
 
 use crate::copies::{copied, copied_scope, copied_with, extend};
+use crate::frame_sources::FrameSources;
+use crate::mentions::{Mention, MentionedBy};
 use crate::row::Declares;
 use crate::scopes::Scopes;
 use crate::source::{Given, Listing, Origin, Source};
@@ -50,7 +53,7 @@ fn is_named(name: &Text, other: &Text) -> bool
 }
 
 /// The first of the names behind so many, if it is that name.
-fn named<'t>(names: &'t [Text], passed: usize, name: &Text) -> Option<&'t Text>
+pub(crate) fn named<'t>(names: &'t [Text], passed: usize, name: &Text) -> Option<&'t Text>
     ensures is { is_some result ≡ begins_with name.now (drop passed names.now) }
     ensures same { IfSome result (λ first. first.now ≡ name.now) }
     ensures below { IsSome result → passed < length names.now }
@@ -67,22 +70,22 @@ fn named<'t>(names: &'t [Text], passed: usize, name: &Text) -> Option<&'t Text>
     }
 }
 
-/// The list that stands behind the names of an argument, None where names are left or it redeclares.
-pub(crate) fn nested_list(argument: &Argument, passed: usize) -> Option<&[Argument]>
-    ensures { unwrap_or (option_copied result) [] ≡ (held (Argued argument.now passed)).list }
+/// The list that stands behind the names of an argument of which so many were passed, empty where names are left or it redeclares.
+pub fn nested_list(argument: &Argument, passed: usize) -> &[Argument]
+    ensures { result.now ≡ (held (Argued argument.now passed)).list }
 {
     if passed < argument.name.0.len() {
-        return None;
+        return &[];
     }
     match &argument.give {
-        Give::Modify(mods, _) => Some(mods.0.as_slice()),
-        Give::Redeclare(_) => None,
-        Give::Replaceable(_) => None,
+        Give::Modify(mods, _) => mods.0.as_slice(),
+        Give::Redeclare(_) => &[],
+        Give::Replaceable(_) => &[],
     }
 }
 
-/// An element that replaces an inherited one.
-pub(crate) fn replacing(item: &Item) -> Option<&Element>
+/// The element of an item of a class that replaces an inherited one, None where it is none.
+pub fn replacing(item: &Item) -> Option<&Element>
     ensures { option_to_list (option_copied result) ≡ replacing_in item.now }
 {
     match item {
@@ -101,7 +104,7 @@ pub(crate) fn replacing(item: &Item) -> Option<&Element>
 }
 
 /// The indices at which values behind a name are still to be taken: `each` drops those that were pending.
-fn pending_at(
+pub fn pending_at(
     alloc: Global,
     each: bool,
     pending: &[u32],
@@ -211,33 +214,33 @@ impl<'t> Scopes<'t> {
         Ok(self.said_behind(argument, passed, behind))
     }
 
-    /// Adds what a modifier list says.
-    fn said_in_list(
+    /// Adds what an argument of a modifier list says.
+    fn said_by_argument(
         &self,
         alloc: Global,
         source: &Source<'t>,
-        list: &'t [Argument],
+        argument: &'t Argument,
         asked: &Asked<'_>,
         made: &mut List<Saying<'t>>,
     ) -> Result<(), NoMemory>
-        ensures { OnOk result (map (saying_in (frames_of self.now)) made.new ≡ map (saying_in (frames_of self.now)) made.old ++ said_in_list (table_in self.now) (source_in (frames_of self.now) (source_seen source.now)) asked.now.name.now asked.now.index.now list.now) }
+        ensures { OnOk result (map (saying_in (frames_of self.now)) made.new ≡ map (saying_in (frames_of self.now)) made.old ++ said_by_argument (table_in self.now) (source_in (frames_of self.now) (source_seen source.now)) asked.now.name.now asked.now.index.now argument.now) }
     {
-        for argument in list {
-            if let Some(first) = named(argument.name.0.as_slice(), 0, asked.name) {
+        match named(argument.name.0.as_slice(), 0, asked.name) {
+            Some(first) => {
                 let entering = Entering {
                     each: argument.each,
                     last: argument.last,
                     index: asked.index,
                 };
                 let said = self.said_with(alloc, source, argument, 1, first, entering);
-                pushed(made, said)?;
+                pushed(made, said)
             }
+            None => Ok(()),
         }
-        Ok(())
     }
 
-    /// Adds what an argument says of which so many names were passed: what is left of it, or the list behind them.
-    fn said_in_argument(
+    /// Adds what an argument says of which so many names were passed.
+    fn said_further(
         &self,
         alloc: Global,
         source: &Source<'t>,
@@ -246,19 +249,18 @@ impl<'t> Scopes<'t> {
         asked: &Asked<'_>,
         made: &mut List<Saying<'t>>,
     ) -> Result<(), NoMemory>
-        ensures { OnOk result (map (saying_in (frames_of self.now)) made.new ≡ map (saying_in (frames_of self.now)) made.old ++ (said_further (table_in self.now) (source_in (frames_of self.now) (source_seen source.now)) asked.now.name.now asked.now.index.now argument.now passed ++ said_in_list (table_in self.now) (source_in (frames_of self.now) (source_seen source.now)) asked.now.name.now asked.now.index.now (held (Argued argument.now passed)).list)) }
+        ensures { OnOk result (map (saying_in (frames_of self.now)) made.new ≡ map (saying_in (frames_of self.now)) made.old ++ said_further (table_in self.now) (source_in (frames_of self.now) (source_seen source.now)) asked.now.name.now asked.now.index.now argument.now passed) }
     {
-        if let Some(first) = named(argument.name.0.as_slice(), passed, asked.name) {
-            let entering = Entering {
-                each: false,
-                last: false,
-                index: asked.index,
-            };
-            let said = self.said_with(alloc, source, argument, passed + 1, first, entering);
-            return pushed(made, said);
-        }
-        match nested_list(argument, passed) {
-            Some(list) => self.said_in_list(alloc, source, list, asked, made),
+        match named(argument.name.0.as_slice(), passed, asked.name) {
+            Some(first) => {
+                let entering = Entering {
+                    each: false,
+                    last: false,
+                    index: asked.index,
+                };
+                let said = self.said_with(alloc, source, argument, passed + 1, first, entering);
+                pushed(made, said)
+            }
             None => Ok(()),
         }
     }
@@ -293,59 +295,76 @@ impl<'t> Scopes<'t> {
         }))
     }
 
-    /// Adds what the elements with `redeclare` among the items of a class say.
-    fn said_by_elements(
+    /// Adds what a source says by what it mentions an element by.
+    fn said_by(
         &self,
         alloc: Global,
         source: &Source<'t>,
-        items: &'t [Item],
+        by: MentionedBy<'t>,
         asked: &Asked<'_>,
         made: &mut List<Saying<'t>>,
     ) -> Result<(), NoMemory>
-        ensures { OnOk result (map (saying_in (frames_of self.now)) made.new ≡ map (saying_in (frames_of self.now)) made.old ++ said_by_elements (table_in self.now) (source_in (frames_of self.now) (source_seen source.now)) asked.now.name.now asked.now.index.now (flat_map replacing_in items.now)) }
+        ensures { OnOk result (map (saying_in (frames_of self.now)) made.new ≡ map (saying_in (frames_of self.now)) made.old ++ said_by (table_in self.now) asked.now.name.now asked.now.index.now (source_in (frames_of self.now) (source_seen source.now)) (mentioned_seen by.entry)) }
     {
-        for item in items {
-            if let Some(element) = replacing(item) {
-                self.said_by_element(alloc, source, element, asked, made)?;
+        match by {
+            MentionedBy::Argument(argument) => {
+                self.said_by_argument(alloc, source, argument, asked, made)
+            }
+            MentionedBy::Rest { argument, passed } => {
+                self.said_further(alloc, source, argument, passed, asked, made)
+            }
+            MentionedBy::Replacing(element) => {
+                self.said_by_element(alloc, source, element, asked, made)
             }
         }
-        Ok(())
     }
 
-    /// Adds what a source says.
-    fn said(
+    /// Adds what is said at a mention by one of some sources.
+    fn said_at(
         &self,
         alloc: Global,
-        source: &Source<'t>,
+        sources: &FrameSources<'t>,
+        mention: &Mention<'t>,
         asked: &Asked<'_>,
         made: &mut List<Saying<'t>>,
     ) -> Result<(), NoMemory>
-        ensures { OnOk result (map (saying_in (frames_of self.now)) made.new ≡ map (saying_in (frames_of self.now)) made.old ++ said (table_in self.now) asked.now.name.now asked.now.index.now (source_in (frames_of self.now) (source_seen source.now))) }
+        ensures { OnOk result (map (saying_in (frames_of self.now)) made.new ≡ map (saying_in (frames_of self.now)) made.old ++ said_at (table_in self.now) asked.now.name.now asked.now.index.now (sources_in (frames_of self.now) sources.now) (mention_seen mention.now)) }
     {
-        match source.given {
-            Given::Listed(modifiers) => {
-                self.said_in_list(alloc, source, modifiers.list, asked, made)
-            }
-            Given::Argued { argument, passed } => {
-                self.said_in_argument(alloc, source, argument, passed, asked, made)
-            }
-            Given::Replacing(items) => self.said_by_elements(alloc, source, items, asked, made),
+        match sources.get(mention.source) {
+            Some(source) => self.said_by(alloc, source, mention.by, asked, made),
+            None => Ok(()),
         }
     }
 
-    /// All that sources say of an element, in their order.
+    /// What is said of an element at these mentions of it.
+    fn sayings_at(
+        &self,
+        alloc: Global,
+        sources: &FrameSources<'t>,
+        mentions: &[Mention<'t>],
+        asked: &Asked<'_>,
+    ) -> Result<List<Saying<'t>>, NoMemory>
+        ensures { IfOk result (λ made. map (saying_in (frames_of self.now)) made ≡ flat_map (said_at (table_in self.now) asked.now.name.now asked.now.index.now (sources_in (frames_of self.now) sources.now)) (map mention_seen mentions.now)) }
+    {
+        let mut made = List::new(alloc);
+        for mention in mentions {
+            self.said_at(alloc, sources, mention, asked, &mut made)?;
+        }
+        Ok(made)
+    }
+
+    /// All that sources say of an element, in their order. Only what speaks of it is read.
     pub(crate) fn sayings(
         &self,
         alloc: Global,
-        sources: &[Source<'t>],
+        sources: &FrameSources<'t>,
         asked: &Asked<'_>,
     ) -> Result<List<Saying<'t>>, NoMemory>
-        ensures { IfOk result (λ made. map (saying_in (frames_of self.now)) made ≡ said_by_all (table_in self.now) asked.now.name.now asked.now.index.now (sources_in (frames_of self.now) (map source_seen sources.now))) }
+        ensures { IfOk result (λ made. map (saying_in (frames_of self.now)) made ≡ said_by_all (table_in self.now) asked.now.name.now asked.now.index.now (sources_in (frames_of self.now) sources.now)) }
     {
-        let mut made = List::new(alloc);
-        for source in sources {
-            self.said(alloc, source, asked, &mut made)?;
+        match sources.mentions(asked.name) {
+            Some(mentions) => self.sayings_at(alloc, sources, mentions.as_slice(), asked),
+            None => Ok(List::new(alloc)),
         }
-        Ok(made)
     }
 }

@@ -1,9 +1,9 @@
 //! Frames by number, and the tables of their elements.
-ghost use Rattle.std.specs.Prelude.{◌≡◌, List as Seq, ◌+◌, ◌<◌, [], ◌∷◌, ◌++◌, length, map, Some, None, option_map, slice_get, IfOk, IfSome, IsSome, ℕ, OnOk, OnErr, IsTrue, IsNone, ◌↔◌, set, option_copied, find};
+ghost use Rattle.std.specs.Prelude.{◌≡◌, List as Seq, ◌+◌, ◌<◌, [], ◌∷◌, ◌++◌, length, map, Some, None, option_map, slice_get, IfOk, IfSome, IsSome, ℕ, OnErr, IsTrue, IsNone, ◌↔◌, set, option_copied, find};
 ghost use Rattle.std.specs.Str.{bytes_eq};
 ghost use Rattle.mo_syntax.specs.SoundTree.{IsSoundTree};
 ghost use Rattle.mo_scope.specs.Bare.{bare_entry};
-ghost use Rattle.mo_scope.specs.Frames.{Frame, class_of, sources_of, outer_of, at_of, owner_of, is_top, In, gathered, looked_up};
+ghost use Rattle.mo_scope.specs.Frames.{class_of, sources_of, outer_of, at_of, owner_of, is_top, In, gathered, looked_up};
 ghost use Rattle.mo_scope.specs.Rows.{number_of_classes, row_at, number_at, number_of_element, class_number, top_classes};
 ghost use Rattle.mo_scope.specs.Parts.{declared_in};
 ghost use Rattle.mo_scope.specs.Names.{elements_of};
@@ -15,6 +15,7 @@ use crate::classes::Classes;
 use crate::declaring::declared_by;
 use crate::entered::Entered;
 use crate::frame::FrameData;
+use crate::frame_sources::FrameSources;
 use crate::row::{Declares, Row};
 use crate::source::Source;
 use crate::table::MemberTable;
@@ -31,7 +32,11 @@ pub struct Scopes<'t> {
     classes: Classes<'t>,
     frames: Vec<FrameData<'t>>,
     entered: Entered,
+    depth: u32,
 }
+
+/// How deep calls stand one within the other at most, in units of a class whose bases are being found: more is want of memory.
+pub const DEPTH_LIMIT: u32 = 5_200;
 
 impl<'t> Model for Scopes<'t> {
     ghost use Rattle.mo_scope.specs.Worlds.{World};
@@ -64,7 +69,33 @@ impl<'t> Scopes<'t> {
             classes: Classes::new(alloc, tree.files.as_slice())?,
             frames: Vec::new(alloc),
             entered: Entered::new(alloc),
+            depth: 0,
         })
+    }
+
+    /// How deep calls stand one within the other, in units of a class whose bases are being found. No clause speaks of it: it
+    /// keeps calls within the stack.
+    pub fn depth(&self) -> u32 {
+        self.depth
+    }
+
+    /// Goes so many units deeper. Past `DEPTH_LIMIT` is want of memory, and leaves the depth as it was.
+    pub fn descend(&mut self, units: u32) -> Result<(), NoMemory>
+        ensures { self.new ≡ self.old }
+    {
+        let depth = self.depth.saturating_add(units);
+        if depth > DEPTH_LIMIT {
+            return Err(NoMemory);
+        }
+        self.depth = depth;
+        Ok(())
+    }
+
+    /// Comes back by so many units.
+    pub fn ascend(&mut self, units: u32)
+        ensures { self.new ≡ self.old }
+    {
+        self.depth = self.depth.saturating_sub(units);
     }
 
     /// The class tree that the frames are of.
@@ -140,7 +171,7 @@ impl<'t> Scopes<'t> {
     /// Enters a class: a new number for that frame. The numbers before keep their frames, after a refusal too.
     pub fn enter(
         &mut self,
-        _alloc: Global,
+        alloc: Global,
         class: ClassId,
         sources: List<Source<'t>>,
         outer: Option<FrameId>,
@@ -162,6 +193,7 @@ impl<'t> Scopes<'t> {
         if number >= 4294967295 {
             return Err(NoMemory);
         }
+        let sources = FrameSources::new(alloc, sources)?;
         let frame = FrameData {
             class,
             sources,
@@ -207,6 +239,15 @@ impl<'t> Scopes<'t> {
         requires { IsFrame self.now frame.0 }
         ensures is { sources_in (frames_of self.now) (map source_seen result.now) ≡ sources_of (frame_at self.now frame.0) }
         ensures exist { AreFrames self.now (map source_seen result.now) }
+    {
+        self.sources_by_name(frame).list()
+    }
+
+    /// The sources of a frame, with what they speak of.
+    pub(crate) fn sources_by_name(&self, frame: FrameId) -> &FrameSources<'t>
+        requires { IsFrame self.now frame.0 }
+        ensures is { sources_in (frames_of self.now) result.now ≡ sources_of (frame_at self.now frame.0) }
+        ensures exist { AreFrames self.now result.now }
     {
         &self.entry(frame).sources
     }

@@ -9,9 +9,10 @@ ghost use Rattle.mo_scope.specs.Sights.{clause_seen, constraint_seen, declares_s
 ghost use Rattle.mo_scope.specs.Worlds.{AreFrames, IsFrame, frame_at, frame_in, frames_of, member_in, source_in, sources_in, table_in};
 
 use crate::copies::extend_sources;
-use crate::row::{Clause, Declares, Member, Row, Sort};
+use crate::row::{Clause, Declares, Member, Row};
 use crate::saying::{Asked, Redeclaration, Saying};
 use crate::scopes::Scopes;
+use crate::sort::is_class;
 use crate::source::{Origin, Source};
 use crate::written::{
     brought, clause_source, put, replacing_source, with_list, without_value, written,
@@ -91,19 +92,6 @@ fn all_sources_said<'t>(
         put(&mut made, source_said(saying, &mut wins))?;
     }
     Ok(made)
-}
-
-/// Whether a class is declared.
-fn is_class(declares: &Declares<'_>) -> bool
-    ensures { result ≡ declares_class (declares_seen declares.now) }
-{
-    match declares.sort {
-        Sort::Class {
-            number: _,
-            encapsulated: _,
-        } => true,
-        Sort::Component(_) => false,
-    }
 }
 
 /// Whether the own modifiers of a declaration are left out: of a class, which come with its base, and where it is redeclared
@@ -255,7 +243,7 @@ impl<'t> Scopes<'t> {
         ensures exist { IfOk result (λ found. AreFrames self.now (map (λ redeclaration. source_seen redeclaration.source) found)) }
     {
         let asked = Asked { name, index };
-        let sayings = self.sayings(alloc, self.sources(frame).as_slice(), &asked)?;
+        let sayings = self.sayings(alloc, self.sources_by_name(frame), &asked)?;
         redeclarations_among(alloc, sayings)
     }
 
@@ -272,7 +260,7 @@ impl<'t> Scopes<'t> {
         ensures exist { IfOk result (λ made. AreFrames self.now (map source_seen made)) }
     {
         let asked = Asked { name, index };
-        let sayings = self.sayings(alloc, self.sources(frame).as_slice(), &asked)?;
+        let sayings = self.sayings(alloc, self.sources_by_name(frame), &asked)?;
         all_sources_said(alloc, sayings)
     }
 
@@ -291,7 +279,7 @@ impl<'t> Scopes<'t> {
             name: member.name,
             index,
         };
-        let sayings = self.sayings(alloc, self.sources(member.home).as_slice(), &asked)?;
+        let sayings = self.sayings(alloc, self.sources_by_name(member.home), &asked)?;
         let replaced = is_redeclared(sayings.as_slice());
         let mut made = all_sources_said(alloc, sayings)?;
         extend_declared(alloc, &mut made, member, index, replaced)?;

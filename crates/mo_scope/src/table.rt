@@ -1,10 +1,12 @@
 //! Tables of the elements of frames, in their order.
 ghost use Rattle.std.specs.Prelude.{◌≡◌, [], ◌∷◌, ◌++◌, find, map, option_map, option_copied, OnOk, OnErr};
 ghost use Rattle.std.specs.Str.{bytes_eq};
+ghost use Rattle.mo_scope.specs.Open.{are_open};
 ghost use Rattle.mo_scope.specs.Sights.{member_seen};
 
 use crate::names::Names;
 use crate::row::Member;
+use crate::sort::is_open;
 use mo_syntax::{List, NoMemory, Text};
 use std::alloc::Global;
 use std::marker::Model;
@@ -14,13 +16,15 @@ use std::marker::Model;
 pub struct MemberTable<'t> {
     members: List<Member<'t>>,
     names: Names<'t>,
+    /// Whether all of them may stand in a package.
+    all_open: bool,
 }
 
 impl<'t> Model for MemberTable<'t> {
     ghost use Rattle.std.specs.Prelude.{List, map};
     ghost use Rattle.mo_scope.specs.Worlds.{MemberEntry};
     ghost use Rattle.mo_scope.specs.Sights.{member_seen};
-    ghost use Rattle.mo_scope.specs.ByName.{AreNames};
+    ghost use Rattle.mo_scope.specs.ByName.{IsTableInside};
     ghost use Rattle.mo_syntax.specs.contracts.class.Give as give;
     ghost use Rattle.mo_syntax.specs.contracts.class.What as what;
     ghost use Rattle.mo_syntax.specs.contracts.expr.Expr as expr;
@@ -32,7 +36,7 @@ impl<'t> Model for MemberTable<'t> {
 
     ghost view = { λ t. map member_seen t.members };
 
-    ghost invariant = { λ t. AreNames (map member_seen t.members) t.names };
+    ghost invariant = { λ t. IsTableInside (map member_seen t.members) t.names t.all_open };
 }
 
 impl<'t> MemberTable<'t> {
@@ -43,6 +47,7 @@ impl<'t> MemberTable<'t> {
         MemberTable {
             members: List::new(alloc),
             names: Names::new(alloc),
+            all_open: true,
         }
     }
 
@@ -53,9 +58,13 @@ impl<'t> MemberTable<'t> {
     {
         let name = member.name;
         let at = self.members.len();
+        let all_open = self.all_open && is_open(&member.declares);
         self.members.push(member)?;
         match self.names.put(name, at) {
-            Ok(()) => Ok(()),
+            Ok(()) => {
+                self.all_open = all_open;
+                Ok(())
+            }
             Err(refused) => {
                 self.members.pop();
                 Err(refused)
@@ -78,5 +87,12 @@ impl<'t> MemberTable<'t> {
         ensures { map member_seen result.now ≡ self.now }
     {
         self.members.as_slice()
+    }
+
+    /// Whether all elements may stand in a package: each is a class or a constant.
+    pub fn is_open(&self) -> bool
+        ensures { result ≡ are_open self.now }
+    {
+        self.all_open
     }
 }

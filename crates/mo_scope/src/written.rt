@@ -26,7 +26,7 @@ pub(crate) fn put<T: Drop>(made: &mut List<T>, item: Option<T>) -> Result<(), No
 }
 
 /// Whether there is neither an argument nor a value.
-fn is_nothing(modifiers: &Modifiers<'_>) -> bool
+pub(crate) fn is_nothing(modifiers: &Modifiers<'_>) -> bool
     ensures { result ≡ holds_nothing (modifiers_seen modifiers.now) }
 {
     modifiers.list.is_empty() && modifiers.value.is_none()
@@ -108,7 +108,7 @@ fn valueless(given: Given<'_>) -> Given<'_>
                 return given;
             }
             Given::Listed(Modifiers {
-                list: nested_list(argument, passed).unwrap_or(&[]),
+                list: nested_list(argument, passed),
                 value: None,
             })
         }

@@ -1,8 +1,9 @@
 -- One step further.
 use Rattle.mo_names.proofs.Circling.{is_busy_still, none_left, walked_further, drop_map, left_from, loop_err, names_step, then_ok, told_of, package_names_step, exit_err, later_gives, package_is, star_is, left_read, in_frame_is, around_less, go_on, here_or_past, or_on, outwards_step, class_names_step, class_is}
-use Rattle.mo_names.proofs.Later.{grows_trans, grows_refl, table_later, is_walk_later}
+use Rattle.mo_names.proofs.Later.{grows_trans, grows_refl, table_later, is_frame_later, is_walk_later}
 use Rattle.mo_names.proofs.Naming.{class_named_is}
 use Rattle.mo_names.proofs.Outcomes.{gives_same, exit_same, then_same_ok, exit_is}
+use Rattle.mo_names.proofs.OwnElements.{counted_next, own_part, own_part_later}
 use Rattle.mo_names.proofs.Outwards.{imports_told, here_told, past_told}
 use Rattle.mo_names.proofs.Walking.{part_read, part_told}
 use Rattle.mo_names.specs.Bases.{first_of_parts, part_walked, parts_walked}
@@ -343,6 +344,26 @@ bases::walked_parts-returns-in_err-item-clause-value t c =
     (p.1 ∙ ap Err p.2) (part_told c.args.s.now c.loop-at.s c.args.ask.now c.args.frame.0 c.loop-at.item part W c.loop-at.invariant.grows c.requires.frame) c.in_err-item.ensures.value
     (left_read (λ ps. parts_walked (table_in c.args.s.now) A F row c.loop-at.item ps W) (parts_of row) c.loop-at.at part _ read c.loop-at.invariant.left)
 
+pub bases::walked_parts-part_walked-requires : goal.bases::walked_parts-part_walked-requires
+bases::walked_parts-part_walked-requires t c =
+    let F : Frame = frame_at c.args.s.now c.args.frame.0 in
+    let part : Part = part_seen c.part_at-part.result in (
+      omega arith,
+      (
+        is_frame_later c.args.s.now c.loop-at.s c.args.frame.0 c.loop-at.invariant.grows c.requires.frame,
+        (
+          c.loop-at.invariant.stand,
+          (
+            c.part_at-part.ensures.exists,
+            own_part_later c.args.s.now c.loop-at.s c.args.frame.0 c.loop-at.item part c.loop-at.invariant.grows c.requires.frame
+                (own_part (table_in c.args.s.now) F c.loop-at.at c.loop-at.item part
+                (part_read c.args.s.now c.loop-at.s c.class_of-class.result.0 F c.loop-at.at part c.loop-at.invariant.grows c.class_of-class.ensures.is c.part_at-part.ensures.is)
+                c.loop-at.invariant.counted),
+          ),
+        ),
+      ),
+    )
+
 pub bases::walked_parts-loop-at-preserved : goal.bases::walked_parts-loop-at-preserved
 bases::walked_parts-loop-at-preserved t c =
     let F : Frame = frame_at c.args.s.now c.args.frame.0 in
@@ -362,6 +383,7 @@ bases::walked_parts-loop-at-preserved t c =
           (part_told c.args.s.now c.loop-at.s c.args.ask.now c.args.frame.0 c.loop-at.item part W c.loop-at.invariant.grows c.requires.frame)
           (left_read (λ ps. parts_walked (table_in c.args.s.now) A F row c.loop-at.item ps W) (parts_of row) c.loop-at.at part _ read c.loop-at.invariant.left)
           c.in_ok-item.ensures.value;
+      counted = c.in_ok-item.ensures.item ∙ counted_next (parts_of row) c.loop-at.at c.loop-at.item part read c.loop-at.invariant.counted;
     }
 
 pub bases::walked_class-returns-in_err-walk-clause-value : goal.bases::walked_class-returns-in_err-walk-clause-value

@@ -1,5 +1,6 @@
 -- What is left to be looked up, and how deep each function goes.
 use Rattle.mo_names.proofs.Circling.{depth}
+use Rattle.mo_names.proofs.OwnElements.{elements_before}
 use Rattle.mo_names.specs.Bases.{parts_walked}
 use Rattle.mo_names.specs.Parts.{imports_of, parts_of}
 use Rattle.mo_names.specs.Sights.{IsFound, asks, found_in, classed_seen, IsWalk, walk_seen}
@@ -61,6 +62,7 @@ invariant-bases::walked_parts-loop-at l = record {
   stand : IsWalk l.s l.so_far;
   left : parts_walked (table_in l.initial.s) (asks (table_in l.initial.s) l.ask) (frame_at l.initial.s l.frame.0) (row_at (table_in l.initial.s) (class_of (frame_at l.initial.s l.frame.0))) l.item (drop l.at (parts_of (row_at (table_in l.initial.s) (class_of (frame_at l.initial.s l.frame.0))))) (walk_seen (frames_of l.s) l.so_far)
       ≡ parts_walked (table_in l.initial.s) (asks (table_in l.initial.s) l.ask) (frame_at l.initial.s l.frame.0) (row_at (table_in l.initial.s) (class_of (frame_at l.initial.s l.frame.0))) 0 (parts_of (row_at (table_in l.initial.s) (class_of (frame_at l.initial.s l.frame.0)))) (walk_seen (frames_of l.initial.s) l.initial.so_far);
+  counted : l.item ≡ elements_before l.at (parts_of (row_at (table_in l.initial.s) (class_of (frame_at l.initial.s l.frame.0))));
 }
 
 abbrev pub decreases-circle::walked : goal.decreases-circle::walked

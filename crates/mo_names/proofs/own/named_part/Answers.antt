@@ -1,8 +1,10 @@
 -- One part further.
-use Rattle.std.proofs.Common.{Some, false, ap, ◌∙◌}
+use Rattle.std.proofs.Common.{Some, true, false, map, refl, ap, ◌∙◌}
+use Rattle.mo_scope.specs.Rows.{elements_in}
 use Rattle.mo_scope.specs.Sights.{declares_seen, part_seen}
-use Rattle.mo_scope.specs.Worlds.{frame_at}
-use Rattle.mo_names.proofs.Owning.{named_step, named_skip}
+use Rattle.mo_scope.specs.Worlds.{frame_at, table_in}
+use Rattle.mo_names.proofs.OwnElements.{named_own}
+use Rattle.mo_names.proofs.Owning.{named_here, named_step, named_skip}
 use Rattle.mo_names.proofs.Reading.{text_test, read_element}
 use Rattle.mo_names.proofs.own.named_part.Goals as goal
 use Rattle.mo_names.proofs.own.named_part.Goals.{in-Element+else-equals+in-Some, in_default}
@@ -12,6 +14,9 @@ returns-then-equals-clause-exists c = record {
   home = c.requires.frame;
   class = c.requires.parts c.loop-part.part-index (declares_seen c.in-Element.declares)
       (read_element part_seen c.args.parts.now c.loop-part.part-index _ c.loop-part-test.true c.part-item.is ∙ ap (λ p. Some (part_seen p)) c.in-Element.is);
+  own = named_own (table_in c.args.s.now) (frame_at c.args.s.now c.args.frame.0) (elements_in (map part_seen c.args.parts.now)) c.args.name.now _ c.requires.own refl
+      (named_here c.args.parts.now (frame_at c.args.s.now c.args.frame.0) c.args.name.now c.loop-part.part-index c.loop-part.item c.part-item.result c.in-Element.declares _ c.loop-part-test.true c.part-item.is
+      c.in-Element.is (text_test c.in-Element.declares.name.now c.args.name.now true c.if-equals.ensures) c.loop-part.invariant);
 }
 
 pub loop-part-preserved : goal.loop-part-preserved

@@ -1,8 +1,8 @@
 -- One step further.
-use Rattle.mo_names.proofs.Later.{grows_trans}
+use Rattle.mo_names.proofs.Later.{grows_trans, is_member_later}
 use Rattle.mo_names.specs.Sights.{member_of, IsInherited, inherited_seen, walk_seen}
 use Rattle.mo_names.specs.declared.walk.Inherited.{Inherited}
-use Rattle.mo_redeclare.proofs.Later.{matched_before}
+use Rattle.mo_redeclare.proofs.Later.{are_kept_later, matched_before}
 use Rattle.mo_redeclare.proofs.Matching.{nothing_matches, one_matches, leaves_first, compared_further, none_left, pair_left}
 use Rattle.mo_redeclare.proofs.Outcomes.{err_on, every_at, left_from, then_ok}
 use Rattle.mo_redeclare.proofs.Tables.{all_kept, every_filter, matched_open, members_are, open_twice}
@@ -70,6 +70,14 @@ are_matched-returns-in_err-element_matched-clause-value t c =
     (matched_before c.args.s.now c.loop-inherited.s c.args.at.now.left c.args.at.now.place c.args.at.now.pairs.now c.args.members.now c.inherited-item.result.member c.loop-inherited.invariant.grows c.requires.members is.member)
     c.in_err-element_matched.ensures.value)
     (left_from G c.args.wanted.now c.loop-inherited.inherited-index c.inherited-item.result _ c.loop-inherited-test.true c.inherited-item.is c.loop-inherited.invariant.left))
+
+pub are_matched-element_matched-requires : goal.are_matched-element_matched-requires
+are_matched-element_matched-requires t c =
+    let u = c.args.s.now in
+    let v = c.loop-inherited.s in
+    let grows = c.loop-inherited.invariant.grows in
+    let is = every_at (IsInherited u) c.args.wanted.now c.loop-inherited.inherited-index c.inherited-item.result c.requires.wanted c.loop-inherited-test.true c.inherited-item.is in
+    (omega arith, (are_kept_later u v c.args.members.now grows c.requires.members, (c.requires.public, is_member_later u v c.inherited-item.result.member grows is.member)))
 
 pub are_matched-loop-inherited-preserved : goal.are_matched-loop-inherited-preserved
 are_matched-loop-inherited-preserved t c =

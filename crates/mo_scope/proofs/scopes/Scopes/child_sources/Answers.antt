@@ -13,5 +13,5 @@ returns-clause-exist c =
     let T = table_in w in
     let says = map (saying_in (frames_of w)) c.in_ok-sayings.sayings in
     if_frames w c.all_sources_said.result (sources_said true says)
-    (sources_said_scoped IsReal T true says (said_real w T c.args.name.now c.args.index.now c.sources.result.now c.as_slice.result.now says c.as_slice.ensures c.sources.ensures.exist c.in_ok-sayings.ensures))
+    (sources_said_scoped IsReal T true says (said_real w T c.args.name.now c.args.index.now c.sources_by_name.result.now says c.sources_by_name.ensures.exist c.in_ok-sayings.ensures))
     (IfOk-weaker c.all_sources_said.result _ _ (λ made is frames same. is frames ∙ ap (λ F. sources_said true (map (saying_in F) c.in_ok-sayings.sayings)) same) c.all_sources_said.ensures)

@@ -13,5 +13,5 @@ returns-clause-exist c =
     let T = table_in w in
     let says = map (saying_in (frames_of w)) c.in_ok-sayings.sayings in
     if_redeclarations w c.redeclarations_among.result (redeclarations_in says)
-    (redeclarations_in_scoped IsReal T says (said_real w T c.args.name.now c.args.index.now c.sources.result.now c.as_slice.result.now says c.as_slice.ensures c.sources.ensures.exist c.in_ok-sayings.ensures))
+    (redeclarations_in_scoped IsReal T says (said_real w T c.args.name.now c.args.index.now c.sources_by_name.result.now says c.sources_by_name.ensures.exist c.in_ok-sayings.ensures))
     (IfOk-weaker c.redeclarations_among.result _ _ (λ found is frames same. is frames ∙ ap (λ F. redeclarations_in (map (saying_in F) c.in_ok-sayings.sayings)) same) c.redeclarations_among.ensures)

@@ -1,0 +1,29 @@
+-- Dimensions as they are written, as the code holds them: words of the contracts inside this crate alone.
+use Rattle.std.specs.Prelude.{List, [], ◌++◌, map, Option, Some, None, Ok}
+use Rattle.mo_scope.specs.Rows.{Table, component_of}
+use Rattle.mo_scope.specs.Frames.{Frame, Member}
+use Rattle.mo_scope.specs.Outcome.{Outcome, and_then}
+use Rattle.mo_scope.specs.Names.{child_of_member}
+use Rattle.mo_scope.specs.Parts.{Redeclaration}
+use Rattle.mo_scope.specs.Places.{Every}
+use Rattle.mo_scope.specs.Sizes.{Sizes, declared_sizes, sizes_in, type_sizes}
+use Rattle.mo_scope.specs.Worlds.{World, IsFrame, scope_in}
+use Rattle.mo_eval.specs.declared.sizes.Sizes.{Sizes as SizesAt}
+
+abbrev pub size_seen : List Frame → SizesAt → Sizes
+size_seen frames sizes = record { subscripts = sizes.subscripts.now; scope = scope_in frames sizes.scope.frame.0 sizes.scope.iters }
+
+abbrev pub sizes_seen : List Frame → List SizesAt → List Sizes
+sizes_seen frames all = map (size_seen frames) all
+
+-- the frames of their scopes exist
+abbrev pub AreSized : World → List SizesAt → Type 0
+AreSized world all = Every (λ sizes. IsFrame world sizes.scope.frame.0) all
+
+abbrev pub redeclared_sizes : Option Redeclaration → List Sizes
+redeclared_sizes None = []
+redeclared_sizes (Some redeclaration) = sizes_in (component_of redeclaration.declares) redeclaration.source.scope
+
+-- the dimensions that a component declares, then those of its type
+abbrev pub all_sizes : Table → Member → Outcome (List Sizes)
+all_sizes table member = and_then (child_of_member table member []) (λ child. Ok (declared_sizes member child.redeclared ++ type_sizes table child.class))

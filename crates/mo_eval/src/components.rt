@@ -1,0 +1,157 @@
+//! What is read of components: their conditions, their dimensions and the values of their bindings (Modelica Language Specification
+//! 3.5, sections 4.4.2, 4.4.4, 4.8, 7.2.5 and 10.1).
+ghost use Rattle.std.specs.Prelude.{◌≡◌, []};
+ghost use Rattle.mo_scope.specs.Sights.{picked_in};
+ghost use Rattle.mo_scope.specs.Worlds.{Grows, IsFrame, frames_of, table_in, scope_in};
+ghost use Rattle.mo_names.specs.Sights.{IsMember, member_of};
+ghost use Rattle.mo_typing.specs.Outcome.{Gives};
+ghost use Rattle.mo_eval.specs.Components.{condition_in, value_in};
+ghost use Rattle.mo_eval.specs.Values.{reading, there_of, value_of_element};
+ghost use Rattle.mo_eval.specs.Seen.{AreThere, element_seen, resolved_seen};
+ghost use Rattle.mo_eval.specs.Sites.{elements_in};
+ghost use Rattle.mo_eval.specs.steps.Asking.{bound_in, unbound};
+
+use crate::alone::{alone, truth_of};
+use crate::context::Context;
+use crate::layers::{answer, binding, must_be_truth};
+use crate::operations::{broken, if_it_has};
+use crate::resolve::Site;
+use crate::value::Scalar;
+use crate::variables::{is_replaced, known_in};
+use crate::virtuals::{Element, Resolved};
+use mo_names::child_of_member;
+use mo_scope::{Member, Picked, ScopeAt, Scopes, Sort, pick_here};
+use mo_syntax::{Broken, Expr, FrameId, Kind, List, Place, Stop};
+use std::alloc::Global;
+
+/// Whether a condition holds that stands in a class with this frame, where so many references may still be read.
+#[cycle(resolving)]
+fn condition_in<'t>(
+    alloc: Global,
+    s: &mut Scopes<'t>,
+    left: u64,
+    home: FrameId,
+    e: &Expr,
+) -> Result<bool, Stop>
+    requires frame { IsFrame s.old home.0 }
+    ensures grows { Grows s.old s.new }
+    ensures exact { Gives result (condition_in (table_in s.old) (reading (table_in s.old) left) (scope_in (frames_of s.old) home.0 []) e.now) }
+{
+    let at = ScopeAt {
+        frame: home,
+        iters: List::new(alloc),
+    };
+    let site = Site {
+        at: &at,
+        left,
+        room: u64::MAX,
+        context: Context::for_value(),
+    };
+    let resolved = alone(alloc, s, &site, e)?;
+    let known = truth_of(alloc, s, left, 40, e.place, &resolved)?;
+    answer(must_be_truth(e.place, known))
+}
+
+/// Whether a component is there, where so many references may still be read.
+#[cycle(resolving)]
+pub(crate) fn is_there<'t>(
+    alloc: Global,
+    s: &mut Scopes<'t>,
+    left: u64,
+    member: &Member<'t>,
+) -> Result<bool, Stop>
+    requires member { IsMember s.old member.now }
+    ensures grows { Grows s.old s.new }
+    ensures exact { Gives result (there_of (table_in s.old) left (member_of (frames_of s.old) member.now)) }
+{
+    match member.declares.sort {
+        Sort::Class { .. } => Ok(true),
+        Sort::Component(component) => match &component.condition {
+            None => Ok(true),
+            Some(e) => condition_in(alloc, s, left, member.home, e),
+        },
+    }
+}
+
+/// What a binding has at its pending indices: it is of the wanted kind, and fits.
+#[cycle(resolving)]
+fn bound_value<'t>(
+    alloc: Global,
+    s: &mut Scopes<'t>,
+    left: u64,
+    want: Kind,
+    place: Place,
+    pending: &[u32],
+    resolved: &Resolved<'t>,
+) -> Result<Option<Scalar>, Stop>
+    requires there { AreThere s.old resolved.now.virtuals }
+    ensures grows { Grows s.old s.new }
+    ensures exact { Gives result (bound_in (elements_in s.old left) want place pending.now (resolved_seen (frames_of s.old) resolved.now)) }
+{
+    binding(alloc, want, place, pending, &resolved.expression)?;
+    known_in(
+        alloc,
+        s,
+        left,
+        &resolved.expression,
+        pending,
+        resolved.virtuals.as_slice(),
+    )
+}
+
+/// The value of a binding.
+#[cycle(resolving)]
+fn value_in<'t>(
+    alloc: Global,
+    s: &mut Scopes<'t>,
+    left: u64,
+    kind: Kind,
+    picked: &Picked,
+) -> Result<Option<Scalar>, Stop>
+    requires frame { IsFrame s.old picked.now.scope.now.frame.0 }
+    ensures grows { Grows s.old s.new }
+    ensures exact { Gives result (value_in (table_in s.old) (reading (table_in s.old) left) kind (picked_in (frames_of s.old) picked.now)) }
+{
+    let e = picked.value;
+    let site = Site {
+        at: picked.scope,
+        left,
+        room: u64::MAX,
+        context: Context::for_value(),
+    };
+    let resolved = alone(alloc, s, &site, e)?;
+    let known = bound_value(alloc, s, left, kind, e.place, picked.pending, &resolved)?;
+    Ok(if_it_has(kind, known))
+}
+
+/// What an element without a binding has.
+fn unbound<'t>(s: &Scopes<'t>, element: &Element<'t>) -> Result<Option<Scalar>, Broken>
+    requires member { IsMember s.now element.now.member }
+    ensures { result ≡ unbound (element_seen (frames_of s.now) element.now) }
+{
+    if is_replaced(s, element) {
+        Err(broken(28, element.place))
+    } else {
+        Ok(None)
+    }
+}
+
+/// What the binding of an element gives, where so many references may still be read. Without a binding it is undecided; a constant
+/// that is replaced breaks rule 28 at the reference.
+#[cycle(resolving)]
+pub(crate) fn element_value<'t>(
+    alloc: Global,
+    s: &mut Scopes<'t>,
+    left: u64,
+    element: &Element<'t>,
+) -> Result<Option<Scalar>, Stop>
+    requires member { IsMember s.old element.now.member }
+    ensures grows { Grows s.old s.new }
+    ensures exact { Gives result (value_of_element (table_in s.old) left (element_seen (frames_of s.old) element.now)) }
+{
+    let child = child_of_member(alloc, s, &element.member, element.index.as_slice())?;
+    match pick_here(child.sources.as_slice()) {
+        None => answer(unbound(s, element)),
+        Some(picked) => value_in(alloc, s, left, element.kind, &picked),
+    }
+}

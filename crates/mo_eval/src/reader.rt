@@ -1,0 +1,216 @@
+//! The values and the sizes of expressions, and what of components they are read from.
+ghost use Rattle.std.specs.Prelude.{◌≡◌, IfOk};
+ghost use Rattle.mo_scope.specs.Outcome.{Gives as GivesSeen};
+ghost use Rattle.mo_scope.specs.Worlds.{World, Grows, IsFrame, frames_of, table_in, scope_in};
+ghost use Rattle.mo_names.specs.Sights.{IsMember, member_of};
+ghost use Rattle.mo_typing.specs.Outcome.{Gives};
+ghost use Rattle.mo_eval.specs.Seen.{AreThere, resolved_seen};
+ghost use Rattle.mo_eval.specs.Values.{most_references, value_of, sizes_of, resolved, known_of, there_of, component_dims};
+ghost use Rattle.mo_eval.specs.Keeping.{IsKept};
+ghost use Rattle.mo_eval.specs.Sites.{elements_in};
+ghost use Rattle.mo_eval.specs.steps.Asking.{value_in};
+
+use crate::alone::alone;
+use crate::context::Context;
+use crate::layers::{answer, fitting};
+use crate::operations::{if_it_has, value_with};
+use crate::resolve::Site;
+use crate::value::{Scalar, Value};
+use crate::variables::known_in;
+use crate::virtuals::{Element, Resolved};
+use crate::{components, dimensions, layers};
+use mo_scope::{Member, ScopeAt, Scopes};
+use mo_syntax::{Expr, List, Place, Stop};
+use mo_typing::kind_of;
+use std::alloc::Global;
+
+/// How many references may be read, one within the other.
+pub const MOST_REFERENCES: u64 = 256;
+
+/// The value of an element, with the number of references that were left when it was found.
+#[derive(Drop)]
+pub struct KeptValue<'t> {
+    pub(crate) element: Element<'t>,
+    pub(crate) height: u64,
+    pub(crate) known: Option<Scalar>,
+}
+
+/// The value of a resolved expression of that place at its pending indices.
+fn value_of<'t>(
+    alloc: Global,
+    s: &mut Scopes<'t>,
+    place: Place,
+    index: &[u32],
+    resolved: &Resolved<'t>,
+) -> Result<Value, Stop>
+    requires there { AreThere s.old resolved.now.virtuals }
+    ensures grows { Grows s.old s.new }
+    ensures exact { Gives result (value_in (elements_in s.old most_references) place index.now (resolved_seen (frames_of s.old) resolved.now)) }
+{
+    fitting(alloc, place, index, &resolved.expression)?;
+    let kind = answer(kind_of(&resolved.expression))?;
+    let known = known_in(
+        alloc,
+        s,
+        MOST_REFERENCES,
+        &resolved.expression,
+        index,
+        resolved.virtuals.as_slice(),
+    )?;
+    Ok(value_with(kind, if_it_has(kind, known)))
+}
+
+/// Reads values and sizes of expressions. It keeps what components have, so that each is read once: hold one for all calls over the
+/// same files.
+#[derive(Drop)]
+pub struct Reader<'t> {
+    pub(crate) values: List<KeptValue<'t>>,
+}
+
+impl<'t> Reader<'t> {
+    /// A reader that has read nothing.
+    pub fn new(alloc: Global) -> Reader<'t>
+        ensures { (world : World) → IsKept world result }
+    {
+        Reader {
+            values: List::new(alloc),
+        }
+    }
+
+    /// The value of an expression in a scope at its pending indices, or the first rule that is broken: what is asked to resolve it, its
+    /// kinds, its dimensions and how the indices fit them (rules 23, 31 and 33), its subscripts, then the value. An element whose kind
+    /// is Real or String has none, nor has what depends on time. `NoMemory` is the only other answer.
+    pub fn value(
+        &mut self,
+        alloc: Global,
+        s: &mut Scopes<'t>,
+        at: &ScopeAt,
+        e: &Expr,
+        index: &[u32],
+    ) -> Result<Value, Stop>
+        requires frame { IsFrame s.old at.now.frame.0 }
+        requires kept { IsKept s.old self.old }
+        ensures grows { Grows s.old s.new }
+        ensures kept { IsKept s.new self.new }
+        ensures exact { Gives result (value_of (table_in s.old) most_references (scope_in (frames_of s.old) at.now.frame.0 at.now.iters) e.now index.now) }
+    {
+        let site = Site {
+            at,
+            left: MOST_REFERENCES,
+            room: u64::MAX,
+            context: Context::for_value(),
+        };
+        let resolved = alone(alloc, s, &site, e)?;
+        value_of(alloc, s, e.place, index, &resolved)
+    }
+
+    /// The dimensions of an expression in a scope, or the first rule that is broken. `NoMemory` is the only other answer.
+    pub fn sizes(
+        &mut self,
+        alloc: Global,
+        s: &mut Scopes<'t>,
+        at: &ScopeAt,
+        e: &Expr,
+    ) -> Result<List<u32>, Stop>
+        requires frame { IsFrame s.old at.now.frame.0 }
+        requires kept { IsKept s.old self.old }
+        ensures grows { Grows s.old s.new }
+        ensures kept { IsKept s.new self.new }
+        ensures exact { Gives result (sizes_of (table_in s.old) most_references (scope_in (frames_of s.old) at.now.frame.0 at.now.iters) e.now) }
+    {
+        let site = Site {
+            at,
+            left: MOST_REFERENCES,
+            room: u64::MAX,
+            context: Context::for_value(),
+        };
+        let resolved = alone(alloc, s, &site, e)?;
+        layers::sizes(alloc, &resolved.expression)
+    }
+
+    /// An expression of the flat model, resolved in a scope where so many references may still be read, or the first rule that is
+    /// broken. The components of its virtual variables exist. `NoMemory` is the only other answer.
+    pub fn resolved(
+        &mut self,
+        alloc: Global,
+        s: &mut Scopes<'t>,
+        at: &ScopeAt,
+        left: u64,
+        e: &Expr,
+    ) -> Result<Resolved<'t>, Stop>
+        requires frame { IsFrame s.old at.now.frame.0 }
+        requires kept { IsKept s.old self.old }
+        ensures grows { Grows s.old s.new }
+        ensures kept { IsKept s.new self.new }
+        ensures there { IfOk result (λ resolved. AreThere s.new resolved.virtuals) }
+        ensures exact { GivesSeen (resolved_seen (frames_of s.new)) result (resolved (table_in s.old) left (scope_in (frames_of s.old) at.now.frame.0 at.now.iters) e.now) }
+    {
+        let site = Site {
+            at,
+            left,
+            room: u64::MAX,
+            context: Context::for_flat(),
+        };
+        alone(alloc, s, &site, e)
+    }
+
+    /// What is known of a resolved expression at an index, where so many references may still be read; or the first rule that is broken.
+    /// `NoMemory` is the only other answer.
+    pub fn known(
+        &mut self,
+        alloc: Global,
+        s: &mut Scopes<'t>,
+        left: u64,
+        resolved: &Resolved<'t>,
+        index: &[u32],
+    ) -> Result<Option<Scalar>, Stop>
+        requires there { AreThere s.old resolved.now.virtuals }
+        requires kept { IsKept s.old self.old }
+        ensures grows { Grows s.old s.new }
+        ensures kept { IsKept s.new self.new }
+        ensures exact { Gives result (known_of (table_in s.old) left (resolved_seen (frames_of s.old) resolved.now) index.now) }
+    {
+        known_in(
+            alloc,
+            s,
+            left,
+            &resolved.expression,
+            index,
+            resolved.virtuals.as_slice(),
+        )
+    }
+
+    /// Whether a component is there by its condition, or the first rule that is broken: rule 40 at a condition that is no scalar Boolean,
+    /// rule 28 at one without a value. `NoMemory` is the only other answer.
+    pub fn is_there(
+        &mut self,
+        alloc: Global,
+        s: &mut Scopes<'t>,
+        member: &Member<'t>,
+    ) -> Result<bool, Stop>
+        requires member { IsMember s.old member.now }
+        requires kept { IsKept s.old self.old }
+        ensures grows { Grows s.old s.new }
+        ensures kept { IsKept s.new self.new }
+        ensures exact { Gives result (there_of (table_in s.old) most_references (member_of (frames_of s.old) member.now)) }
+    {
+        components::is_there(alloc, s, MOST_REFERENCES, member)
+    }
+
+    /// The dimensions of a component: those that it declares, then those of its type, where `:` is taken from its binding; or the first
+    /// rule that is broken. `NoMemory` is the only other answer.
+    pub fn dims(
+        &mut self,
+        alloc: Global,
+        s: &mut Scopes<'t>,
+        member: &Member<'t>,
+    ) -> Result<List<u32>, Stop>
+        requires member { IsMember s.old member.now }
+        requires kept { IsKept s.old self.old }
+        ensures grows { Grows s.old s.new }
+        ensures kept { IsKept s.new self.new }
+        ensures exact { Gives result (component_dims (table_in s.old) most_references (member_of (frames_of s.old) member.now)) }
+    {
+        dimensions::dims(alloc, s, MOST_REFERENCES, member)
+    }
+}

@@ -1,0 +1,141 @@
+//! What is known of a resolved expression, its variables being read where they are needed.
+ghost use Rattle.std.specs.Prelude.{◌≡◌, ◌-◌, ◌||◌, IfOk, Some, slice_get};
+ghost use Rattle.mo_scope.specs.Worlds.{Grows, frames_of};
+ghost use Rattle.mo_names.specs.Sights.{IsMember};
+ghost use Rattle.mo_typing.specs.Outcome.{Outcome, Gives};
+ghost use Rattle.mo_eval.specs.Scalars.{has_values};
+ghost use Rattle.mo_eval.specs.References.{is_replaced};
+ghost use Rattle.mo_eval.specs.Walk.{known_by, known_of_virtuals};
+ghost use Rattle.mo_eval.specs.Told.{AreRead};
+ghost use Rattle.mo_eval.specs.Seen.{AreThere, element_seen, virtuals_seen};
+ghost use Rattle.mo_eval.specs.Sequence.{IsElement};
+ghost use Rattle.mo_eval.specs.Sites.{elements_in, variables_in};
+
+use crate::components::element_value;
+use crate::halt::Told;
+use crate::operations::{broken, has_values};
+use crate::reading::{Step, mark, next, unread};
+use crate::value::Scalar;
+use crate::virtuals::{Element, Virtual};
+use mo_flat::ArrayExpr;
+use mo_scope::Scopes;
+use mo_syntax::{Broken, NoMemory, Stop};
+use std::alloc::Global;
+
+/// Whether an element is a constant that is replaced: it has no instance.
+pub(crate) fn is_replaced<'t>(s: &Scopes<'t>, element: &Element<'t>) -> bool
+    requires { IsMember s.now element.now.member }
+    ensures { result ≡ is_replaced (element_seen (frames_of s.now) element.now) }
+{
+    element.constant && s.path(element.member.home).is_none()
+}
+
+/// Whether an element is read.
+fn is_read<'t>(s: &Scopes<'t>, element: &Element<'t>) -> bool
+    requires { IsMember s.now element.now.member }
+    ensures { result ≡ (has_values element.now.kind || is_replaced (element_seen (frames_of s.now) element.now)) }
+{
+    has_values(element.kind) || is_replaced(s, element)
+}
+
+/// What an element has, where so many references may still be read. Of a kind without values only a constant that is replaced is
+/// read.
+#[cycle(resolving)]
+fn element_known<'t>(
+    alloc: Global,
+    s: &mut Scopes<'t>,
+    left: u64,
+    element: &Element<'t>,
+) -> Result<Option<Scalar>, Stop>
+    requires member { IsMember s.old element.now.member }
+    ensures grows { Grows s.old s.new }
+    ensures exact { Gives result (elements_in s.old left (element_seen (frames_of s.old) element.now)) }
+{
+    if !is_read(s, element) {
+        return Ok(None);
+    }
+    if left == 0 {
+        return Err(Stop::Broken(broken(29, element.place)));
+    }
+    element_value(alloc, s, left - 1, element)
+}
+
+/// An answer as an outcome.
+fn outcome_of<T: Drop>(answer: Result<T, Stop>) -> Result<Result<T, Broken>, NoMemory>
+    ensures { IfOk result (λ outcome. (told : Outcome T) → Gives answer told → told ≡ outcome) }
+{
+    match answer {
+        Ok(value) => Ok(Ok(value)),
+        Err(Stop::Broken(broken)) => Ok(Err(broken)),
+        Err(Stop::NoMemory) => Err(NoMemory),
+    }
+}
+
+/// What the variable of that number has, an element of a component. `NoMemory` is the only other answer.
+#[cycle(resolving)]
+fn variable_known<'t>(
+    alloc: Global,
+    s: &mut Scopes<'t>,
+    left: u64,
+    virtuals: &[Virtual<'t>],
+    n: u32,
+) -> Result<Result<Option<Scalar>, Broken>, NoMemory>
+    requires there { AreThere s.old virtuals.now }
+    requires element { IsElement (virtuals_seen (frames_of s.old) virtuals.now) n }
+    ensures grows { Grows s.old s.new }
+    ensures exact { IfOk result (λ outcome. slice_get (known_of_virtuals (elements_in s.old left) (virtuals_seen (frames_of s.old) virtuals.now)) (n - 1) ≡ Some outcome) }
+{
+    match virtuals.get(n.saturating_sub(1) as usize) {
+        Some(Virtual::Component(element)) => outcome_of(element_known(alloc, s, left, element)),
+        Some(Virtual::Division { .. }) => Err(NoMemory),
+        None => Err(NoMemory),
+    }
+}
+
+/// What is known of an element of a resolved expression, where so many references may still be read and so much of its variables is
+/// read; what is read on the way is put down.
+#[cycle(resolving)]
+pub(crate) fn known_with<'t>(
+    alloc: Global,
+    s: &mut Scopes<'t>,
+    left: u64,
+    e: &ArrayExpr,
+    index: &[u32],
+    virtuals: &[Virtual<'t>],
+    reads: &mut Vec<Told>,
+) -> Result<Option<Scalar>, Stop>
+    requires there { AreThere s.old virtuals.now }
+    requires read { AreRead reads.old.items (variables_in s.old left virtuals.now) }
+    ensures grows { Grows s.old s.new }
+    ensures read { AreRead reads.new.items (variables_in s.old left virtuals.now) }
+    ensures exact { Gives result (known_by (variables_in s.old left virtuals.now) e.now index.now) }
+{
+    'reading: loop {
+        match next(alloc, e, index, virtuals, reads)? {
+            Step::Known(known) => return Ok(known),
+            Step::Read(n) => {
+                let outcome = variable_known(alloc, s, left, virtuals, n)?;
+                mark(reads, n, outcome);
+            }
+            Step::Divided(n, outcome) => mark(reads, n, outcome),
+        }
+    }
+}
+
+/// What is known of an element of a resolved expression, where so many references may still be read.
+#[cycle(resolving)]
+pub(crate) fn known_in<'t>(
+    alloc: Global,
+    s: &mut Scopes<'t>,
+    left: u64,
+    e: &ArrayExpr,
+    index: &[u32],
+    virtuals: &[Virtual<'t>],
+) -> Result<Option<Scalar>, Stop>
+    requires there { AreThere s.old virtuals.now }
+    ensures grows { Grows s.old s.new }
+    ensures exact { Gives result (known_by (variables_in s.old left virtuals.now) e.now index.now) }
+{
+    let mut reads = unread(alloc, virtuals.len())?;
+    known_with(alloc, s, left, e, index, virtuals, &mut reads)
+}

@@ -1,0 +1,162 @@
+//! The checks of a frame that is instantiated, and of its bases, in their order (Modelica Language Specification 3.5, sections
+//! 4.6, 5.4, 7.1 to 7.3).
+#![tactic(auto, using(crate::proofs::Later::later))]
+
+ghost use Rattle.std.specs.Prelude.{◌≡◌, ◌<◌, Some, drop, length, map, option_copied, slice_get, unwrap_or, IfOk};
+ghost use Rattle.mo_scope.specs.Arguments.{second_pass as pass_second};
+ghost use Rattle.mo_scope.specs.Frames.{sources_of};
+ghost use Rattle.mo_scope.specs.Outcome.{Gives};
+ghost use Rattle.mo_scope.specs.Places.{Every};
+ghost use Rattle.mo_scope.specs.Redeclarations.{each_checked};
+ghost use Rattle.mo_scope.specs.Worlds.{Grows, IsFrame, frame_at, frames_of, table_in};
+ghost use Rattle.mo_names.specs.Sights.{IsBase, IsWalk, frames_through, walk_seen};
+ghost use Rattle.mo_instance.specs.Checks.{base_passed as base_has_passed, frame_checked as frame_is_checked, frame_passed as frame_has_passed};
+ghost use Rattle.mo_instance.specs.CheckSteps.{frame_passes, through_passed as through_has_passed};
+ghost use Rattle.mo_instance.specs.FirstSteps.{is_replaced_by};
+ghost use Rattle.mo_instance.specs.Walks.{IsWalkOrNone, walk_or_none};
+
+use crate::first_pass::first_pass;
+use crate::profile::{in_profile, replaces_inherited, whole_class};
+use mo_mods::merge;
+use mo_names::{Walk, walk_of};
+use mo_redeclare::check_redeclared;
+use mo_scope::Scopes;
+use mo_syntax::{FrameId, List, Place, Stop};
+use std::alloc::Global;
+
+/// Asks what the arguments of a frame break one against the other: rules 21, 22 and 23.
+fn second_pass(alloc: Global, s: &Scopes, frame: FrameId) -> Result<(), Stop>
+    requires { IsFrame s.now frame.0 }
+    ensures { Gives (λ _. tt) result (pass_second (table_in s.now) (sources_of (frame_at s.now frame.0))) }
+{
+    let _merged = merge(s, alloc, frame)?;
+    Ok(())
+}
+
+/// The checks of a frame that has these elements; the first pass takes the sources behind so many.
+fn passes<'t>(
+    alloc: Global,
+    s: &mut Scopes<'t>,
+    frame: FrameId,
+    replaced: Option<&Walk<'t>>,
+    walk: &Walk<'t>,
+    passed: usize,
+) -> Result<(), Stop>
+    requires frame { IsFrame s.old frame.0 }
+    requires replaced { IsWalkOrNone s.old (option_copied replaced) }
+    requires walk { IsWalk s.old walk.now }
+    ensures grows { Grows s.old s.new }
+    ensures value { Gives (λ _. tt) result (frame_passes (table_in s.old) (is_replaced_by (walk_or_none (frames_of s.old) (option_copied replaced.entry))) (drop passed (sources_of (frame_at s.old frame.0))) (frame_at s.old frame.0) (walk_seen (frames_of s.old) walk.now)) }
+{
+    in_profile(s, frame)?;
+    first_pass(alloc, s, frame, replaced, walk, passed)?;
+    second_pass(alloc, s, frame)?;
+    check_redeclared(alloc, s, frame)?;
+    replaces_inherited(s, frame)
+}
+
+/// The elements of a frame, all checks of it being made; the first pass takes the sources behind so many.
+fn frame_passed<'t>(
+    alloc: Global,
+    s: &mut Scopes<'t>,
+    frame: FrameId,
+    replaced: Option<&Walk<'t>>,
+    passed: usize,
+) -> Result<Walk<'t>, Stop>
+    requires frame { IsFrame s.old frame.0 }
+    requires replaced { IsWalkOrNone s.old (option_copied replaced) }
+    ensures grows { Grows s.old s.new }
+    ensures value { Gives (walk_seen (frames_of s.new)) result (frame_has_passed (table_in s.old) (is_replaced_by (walk_or_none (frames_of s.old) (option_copied replaced.entry))) (drop passed (sources_of (frame_at s.old frame.0))) (frame_at s.old frame.0)) }
+    ensures stand { IfOk result (IsWalk s.new) }
+{
+    let walk = walk_of(alloc, s, frame)?;
+    passes(alloc, s, frame, replaced, &walk, passed)?;
+    Ok(walk)
+}
+
+/// The checks of a base of a frame.
+fn base_passed(alloc: Global, s: &mut Scopes, frame: FrameId, base: FrameId) -> Result<(), Stop>
+    requires frame { IsFrame s.old frame.0 }
+    requires base { IsFrame s.old base.0 }
+    ensures grows { Grows s.old s.new }
+    ensures value { Gives (λ _. tt) result (base_has_passed (table_in s.old) (frame_at s.old frame.0) (frame_at s.old base.0)) }
+{
+    let walk = walk_of(alloc, s, frame)?;
+    let passed = s.sources(frame).len();
+    frame_passed(alloc, s, base, Some(&walk), passed)?;
+    Ok(())
+}
+
+/// The frame that a base is a base of: the one before it on the way from that frame.
+fn frame_before(frame: FrameId, through: &List<FrameId>) -> FrameId
+    ensures { result ≡ unwrap_or (slice_get through.now 1) frame }
+{
+    match through.get(1) {
+        Some(outer) => *outer,
+        None => frame,
+    }
+}
+
+/// The base at the end of a way.
+fn base_at_end(through: &List<FrameId>) -> FrameId
+    requires { 0 < length through.now }
+    ensures { Some result ≡ slice_get through.now 0 }
+{
+    match through.get(0) {
+        Some(base) => *base,
+        None => unreachable!(),
+    }
+}
+
+/// The checks of a base of a frame, given with the base frames on the way to it, the innermost first.
+fn through_passed(
+    alloc: Global,
+    s: &mut Scopes,
+    frame: FrameId,
+    through: &List<FrameId>,
+) -> Result<(), Stop>
+    requires frame { IsFrame s.old frame.0 }
+    requires through { IsBase s.old through.now }
+    ensures grows { Grows s.old s.new }
+    ensures value { Gives (λ _. tt) result (through_has_passed (table_in s.old) (frame_at s.old frame.0) (frames_through (frames_of s.old) through.now)) }
+{
+    let outer = frame_before(frame, through);
+    let base = base_at_end(through);
+    base_passed(alloc, s, outer, base)
+}
+
+/// The checks of the bases of a frame, one after another.
+fn bases_passed<'t>(
+    alloc: Global,
+    s: &mut Scopes<'t>,
+    frame: FrameId,
+    bases: &[List<FrameId>],
+) -> Result<(), Stop>
+    requires frame { IsFrame s.old frame.0 }
+    requires bases { Every (IsBase s.old) bases.now }
+    ensures grows { Grows s.old s.new }
+    ensures value { Gives (λ _. tt) result (each_checked (through_has_passed (table_in s.old) (frame_at s.old frame.0)) (map (frames_through (frames_of s.old)) bases.now)) }
+{
+    for through in bases {
+        through_passed(alloc, s, frame, through)?;
+    }
+    Ok(())
+}
+
+/// The elements of a frame, all checks of it and of its bases being made. Rule 26 stands at the place.
+pub(crate) fn frame_checked<'t>(
+    alloc: Global,
+    s: &mut Scopes<'t>,
+    place: Place,
+    frame: FrameId,
+) -> Result<Walk<'t>, Stop>
+    requires { IsFrame s.old frame.0 }
+    ensures grows { Grows s.old s.new }
+    ensures value { Gives (walk_seen (frames_of s.new)) result (frame_is_checked (table_in s.old) place (frame_at s.old frame.0)) }
+    ensures stand { IfOk result (IsWalk s.new) }
+{
+    whole_class(s, place, frame)?;
+    let walk = frame_passed(alloc, s, frame, None, 0)?;
+    bases_passed(alloc, s, frame, walk.bases.as_slice())?;
+    Ok(walk)
+}
