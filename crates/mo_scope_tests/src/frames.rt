@@ -12,8 +12,8 @@ use mo_syntax::{ClassId, ClassTree, FrameId, List, NoMemory, Place, Stop, Text};
 use std::alloc::Global;
 use std::process::Abort;
 
-// Enters a class with no sources, no path and no owner.
-fn enter(
+/// Enters a class with no sources, no path and no owner.
+pub fn enter(
     alloc: Global,
     scopes: &mut Scopes,
     class: ClassId,
@@ -89,8 +89,8 @@ fn frames_that_look_classes_up(rt: HostRuntime) -> Result<(), Stop> {
     Ok(())
 }
 
-// The component that a class declares first.
-fn first_component<'a, 't>(row: &'a Row<'t>) -> Option<Declares<'t>> {
+/// The component that a class declares first.
+pub fn first_component<'a, 't>(row: &'a Row<'t>) -> Option<Declares<'t>> {
     for part in row.parts.as_slice() {
         if let Part::Element(declares) = part {
             return Some(*declares);
@@ -131,7 +131,9 @@ fn found_in_table(
     other: &Text,
 ) -> Result<(), NoMemory> {
     let mut table = MemberTable::new(alloc);
+    assert!(rt; table.is_open());
     fill(&mut table, declares)?;
+    assert!(rt; !table.is_open());
     is_found(rt, &table, name, other);
     Ok(())
 }

@@ -1,4 +1,4 @@
-//! Tests of `Scopes` over its public calls: the rows of classes, how they are found, and frames.
+//! Tests of `Scopes` over its public calls: the rows of classes, how they are found, frames, and values.
 //!
 //! They stand apart from `mo_scope`, so that this is proved without them.
 #![tactic(auto)]
@@ -9,3 +9,5 @@ mod frames;
 mod rows;
 #[cfg(test)]
 mod trees;
+#[cfg(test)]
+mod values;

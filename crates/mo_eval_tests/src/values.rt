@@ -1,0 +1,267 @@
+use crate::asking::check;
+use mo_syntax::NoMemory;
+
+// Literals and operators.
+const NUMBERS: [&str; 1] = [
+    "Real x;
+1 + 2||3
+2 * 3 - 1||5
+9223372036854775807 + 1||30 at 0
+1 / 2||undecided
+1.5 + 1||undecided
+2 < 3 and not 3 == 4||true
+true or false||true
+{1, 2, 3}|2|2
+{1, 2, 3}||33 at 0
+{1, 2, 3}|sizes|{ 3 }
+{{1, 2}, {3, 4}}|2,1|3
+1:3|3|3
+1:2:7|sizes|{ 4 }
+if true then 1 else 2 / 0||1
+if false then 1 else 2||2
+div(7, 2)||3
+div(-7, 2)||-3
+mod(-7, 2)||1
+mod(7, -2)||-1
+rem(-7, 2)||-1
+rem(7, -2)||1
+div(1, 0)||30 at 0
+div(1.0, 2)||33 at 0
+div({1, 2}, 2)||33 at 0
+div(1)||33 at 0
+false and 1.0 > 0.0||false
+1.0 > 0.0||undecided
+1.0 > 0.0 and false||undecided
+true or 1.0 > 0.0||true
+1 + true||33 at 0
+{1, 2} + {1, 2, 3}||31 at 0
+size({1, 2, 3}, 1)||3
+size({{1, 2}})|sizes|{ 2 }
+ndims({{1, 2}})||2
+fill(4, 2, 3)|2,3|4
+zeros(2)|sizes|{ 2 }
+ones(2, 2)|1,2|1
+identity(2)|2,2|1
+sum({1, 2, 3})||6
+end||34 at 0",
+];
+
+// Components, their dimensions and their bindings.
+const COMPONENTS: [&str; 1] = [
+    "parameter Integer n = 3; Real x[n]; parameter Integer k[3] = {4, 5, 6}; constant Integer c;
+n||3
+n + 1||4
+size(x, 1)||3
+x|sizes|{ 3 }
+x[1]||undecided
+k[2]||5
+k|3|6
+k[end]||6
+k[{3, 1}]|1|6
+k[{3, 1}]|sizes|{ 2 }
+k[4]||32 at 2
+k[n]||6
+sum(k)||15
+y||12 at 0
+x[1, 2]||33 at 0
+if n > 2 then k[1] else k[9]||4",
+];
+
+// References that are read, one within the other, and components that are removed.
+const DEPTHS: [&str; 4] = [
+    "parameter Integer n = m; parameter Integer m = n;
+m||29 before 30",
+    "parameter Integer a = 2; parameter Integer b = a * a; parameter Integer c = b + a; Boolean d = time > 0; constant Real z;
+c||6
+d||undecided
+z||undecided
+b > a and c == 6||true",
+    "parameter Boolean on = false; Real gone if on; Real here if not on;
+here||undecided
+gone||12 at 0
+on and gone > 0||12 at 7",
+    "parameter Integer n = 2; parameter Integer k[n] = 1:n; Integer q[2, n] = {{1, 2}, {3, 4}};
+q[2]|1|33 at 0
+q[2, :]|1|3
+q[:, 2]|2|4
+q[2, end]||4
+q[1, 3]||32 at 5
+size(q)|2|2
+sum(k)||3
+k[0]||32 at 2",
+];
+
+// Constants of classes, literals, components of components, and arrays of them.
+const CLASSES: [&str; 2] = [
+    "package P constant Integer c = 7; constant Integer d; constant Integer e = c + 1; end P; Integer w[:] = {1, 2, 3};
+P.c||7
+P.e * 2||16
+P.d||28 at 0
+P||13 at 0
+size(w, 1)||3
+w[2]||2",
+    "model S parameter Integer n = 2; Real x[n]; end S; S s(n = 4); S t[2]; S u[2](n = {1, 3});
+s.n||4
+size(s.x, 1)||4
+s.zz||12 at 2
+s||34 at 0
+size(t, 1)||2
+t.x|sizes|{ 2 2 }
+t[2].n||2
+u.n|2|3
+u[2].x|sizes|{ 3 }
+u.x||31 at 0
+t[3].n||32 at 2",
+];
+
+// Operators on scalars and arrays, and functions.
+const OPERATORS: [&str; 1] = [
+    "Real x;
+-7||-7
++3||3
+7 - 2 - 1||4
+9223372036854775807 * 2||30 at 0
+-9223372036854775807 - 2||30 at 0
+2 ^ 3||undecided
+3 .* 2||6
+{1, 2} .* {3, 4}|2|8
+{1, 2} * {3, 4}||11
+{{1, 2}, {3, 4}} * {1, 1}|2|7
+2 * {1, 2}|2|4
+-{1, 2}|2|-2
+1 <= 1||true
+2 > 3||false
+2 >= 3||false
+2 <> 3||true
+not true||false
+1:0|sizes|{ 0 }
+3:-1:1|2|2",
+];
+
+const FUNCTIONS: [&str; 1] = [
+    "Real x;
+abs(-3)||3
+abs(-9223372036854775807 - 1)||30 at 0
+max(2, 3)||3
+min(2, 3)||2
+max(2.0, 3)||undecided
+noEvent(3)||3
+noEvent(1 < 2)||true
+sqrt(4.0)||undecided
+size({1, 2, 3}, 2)||32 at 16
+cross({1, 0, 0}, {0, 1, 0})|3|1
+transpose({{1, 2}, {3, 4}})|1,2|3
+product({2, 3, 4})||24
+product({9223372036854775807, 2})||30 at 0
+sum(1:0)||0
+identity(2)|1,2|0
+fill(4, -1)||31 at 8
+zeros(1.0)||33 at 6
+div(7, 2, 1)||33 at 0
+rem(7, 0)||30 at 0
+mod(7, 0)||30 at 0
+unknown(1)||12 at 0
+x(1)||13 at 0
+sin||13 at 0
+time||undecided
+time.x||12 at 5",
+];
+
+// Subscripts of references.
+const SUBSCRIPTS: [&str; 1] = [
+    "parameter Integer n = 3; parameter Integer m; parameter Integer k[n] = {4, 5, 6}; Real t[2, 3];
+n[1]||33 at 0
+k[1.0]||33 at 2
+k[:]|sizes|{ 3 }
+k[{1, 2}]|sizes|{ 2 }
+k[{1, 4}]|sizes|32 at 2
+k[m]||28 at 2
+k[1] + k[end - 1]||9
+t[1]||33 at 0
+t[:, 2]|sizes|{ 2 }
+t[1, {3, 1}]|sizes|{ 2 }
+t[end, 4]||32 at 7
+k[k[1] - 2]||5",
+];
+
+// Conditions and dimensions that references need.
+const NEEDS: [&str; 7] = [
+    "parameter Boolean b; Real h if b;
+h||28 before 39",
+    "parameter Integer b = 1; Real h if b;
+h||40 before 43",
+    "parameter Integer n; Real x[n];
+x|sizes|28 before 36",
+    "Real x[-1];
+x|sizes|31 before 15",
+    "Real x[1.5];
+x|sizes|33 before 15",
+    "Real x[:];
+x|sizes|28 before 13",
+    "model S parameter Boolean on = true; Real y if on; end S; S s[2](on = {true, false});
+s[1].y||undecided
+s[2].y||12 at 5
+s.y|sizes|12 at 2
+s[3].y||32 at 2",
+];
+
+// Literals of enumerations.
+const LITERALS: [&str; 1] = [
+    "type E = enumeration(a, b, c); parameter E m = E.b;
+E.b||literal 1
+m||literal 1
+E.a < m||true
+if m == E.b then 1 else 2||1
+E.d||12 at 2
+E||13 at 0
+E.a.b||12 at 4
+E.a[1]||33 at 2
+E.a + 1||39 at 0
+StateSelect.prefer||literal 3
+AssertionLevel.error||literal 1",
+];
+
+#[test]
+fn values_of_literals(rt: HostRuntime) -> Result<(), NoMemory> {
+    check(&rt, rt.alloc(), &LITERALS)
+}
+
+#[test]
+fn values_in_classes(rt: HostRuntime) -> Result<(), NoMemory> {
+    check(&rt, rt.alloc(), &CLASSES)
+}
+
+#[test]
+fn values_at_depths(rt: HostRuntime) -> Result<(), NoMemory> {
+    check(&rt, rt.alloc(), &DEPTHS)
+}
+
+#[test]
+fn values_of_numbers(rt: HostRuntime) -> Result<(), NoMemory> {
+    check(&rt, rt.alloc(), &NUMBERS)
+}
+
+#[test]
+fn values_of_components(rt: HostRuntime) -> Result<(), NoMemory> {
+    check(&rt, rt.alloc(), &COMPONENTS)
+}
+
+#[test]
+fn values_of_operators(rt: HostRuntime) -> Result<(), NoMemory> {
+    check(&rt, rt.alloc(), &OPERATORS)
+}
+
+#[test]
+fn values_of_functions(rt: HostRuntime) -> Result<(), NoMemory> {
+    check(&rt, rt.alloc(), &FUNCTIONS)
+}
+
+#[test]
+fn values_of_subscripts(rt: HostRuntime) -> Result<(), NoMemory> {
+    check(&rt, rt.alloc(), &SUBSCRIPTS)
+}
+
+#[test]
+fn values_of_what_references_need(rt: HostRuntime) -> Result<(), NoMemory> {
+    check(&rt, rt.alloc(), &NEEDS)
+}

@@ -1,0 +1,62 @@
+//! What `instantiate` answers for the rows.
+ghost use Rattle.std.specs.Prelude.{◌<◌};
+ghost use Rattle.mo_syntax.specs.SoundTree.{IsSoundTree};
+
+use crate::rows::{ROWS, Row};
+use crate::showing::shown;
+use mo_instance::instantiate;
+use mo_samples::tree;
+use mo_scope::Scopes;
+use mo_syntax::{Broken, ClassId, ClassTree, Stop, Text};
+use std::alloc::Global;
+use std::process::Abort;
+
+fn model(alloc: Global, files: &ClassTree) -> Result<ClassId, Stop>
+    requires { IsSoundTree files.now.files }
+{
+    let scopes = Scopes::new(alloc, files)?;
+    let name = Text::from_str(alloc, "M")?;
+    scopes.top_class(&name).ok_or(Stop::NoMemory)
+}
+
+fn answer(alloc: Global, files: &ClassTree) -> Result<String, Stop>
+    requires { IsSoundTree files.now.files }
+{
+    let class = model(alloc, files)?;
+    let made = instantiate(alloc, files, class)?;
+    shown(alloc, &made)
+}
+
+fn is_at(broken: &Broken, row: &Row) -> bool {
+    match row.text.find(row.at) {
+        Some(byte) => broken.place.byte as usize == byte && broken.rule.number() == row.rule,
+        None => false,
+    }
+}
+
+fn told(rt: &impl Abort, alloc: Global, row: &Row) {
+    let files = tree(alloc, &[row.text]).expect(rt, "it is read");
+    match answer(alloc, &files) {
+        Ok(text) => {
+            assert!(rt; row.rule == 0, "{}", row.text);
+            assert_eq!(rt; text.as_str(), row.shown, "{}", row.text);
+        }
+        Err(Stop::Broken(broken)) => {
+            assert!(rt;
+                is_at(&broken, row),
+                "{} {} {}",
+                row.text,
+                broken.rule.number(),
+                broken.place.byte
+            );
+        }
+        Err(Stop::NoMemory) => panic!(rt; "memory {}", row.text),
+    }
+}
+
+#[test]
+fn rows_are_told(rt: HostRuntime) {
+    for row in &ROWS {
+        told(&rt, rt.alloc(), row);
+    }
+}

@@ -1,0 +1,2 @@
+mod Diamond
+mod Models
