@@ -1,6 +1,7 @@
 //! What `instantiate` answers for the rows.
-ghost use Rattle.std.specs.Prelude.{◌<◌};
+ghost use Rattle.std.specs.Prelude.{◌<◌, IfOk};
 ghost use Rattle.mo_syntax.specs.SoundTree.{IsSoundTree};
+ghost use Rattle.mo_scope.specs.Rows.{number_of_classes, table_of};
 
 use crate::rows::{ROWS, Row};
 use crate::showing::shown;
@@ -13,10 +14,14 @@ use std::process::Abort;
 
 fn model(alloc: Global, files: &ClassTree) -> Result<ClassId, Stop>
     requires { IsSoundTree files.now.files }
+    ensures { IfOk result (λ class. class.0 < number_of_classes (table_of files.now.files)) }
 {
     let scopes = Scopes::new(alloc, files)?;
     let name = Text::from_str(alloc, "M")?;
-    scopes.top_class(&name).ok_or(Stop::NoMemory)
+    match scopes.top_class(&name) {
+        Some(class) => Ok(class),
+        None => Err(Stop::NoMemory),
+    }
 }
 
 fn answer(alloc: Global, files: &ClassTree) -> Result<String, Stop>
