@@ -1,0 +1,29 @@
+mod Chaining
+mod Climbing
+mod Putting
+mod Reading
+mod Growing
+mod Joining
+mod Latest
+mod Stretching
+mod Splitting
+mod Ascending
+mod Taking
+mod Looping
+mod Bounding
+mod Finding
+mod Firsts
+mod Coloring
+pub mod Uniqueness
+mod Keeping
+mod Linking
+mod Marking
+mod Recognizing
+mod Replacing
+mod Deriving
+mod Unknowns
+mod Moving
+mod Holding
+mod Satisfying
+mod Signs
+pub mod Noting

@@ -1,0 +1,15 @@
+pub mod Numbers
+pub mod Recognized
+pub mod Chains
+pub mod Climbing
+pub mod Forests
+pub mod Findings
+pub mod Stretches
+pub mod Leasts
+pub mod Listing
+pub mod Marking
+pub mod Aliases
+pub mod Without
+pub mod Placing
+pub mod Meaning
+pub mod Text
