@@ -22,7 +22,7 @@ use Rattle.mo_front.specs.declared.status.Status.{Status}
 use Rattle.mo_front.specs.declared.status.Status.TheVariants.{Done, Singular, Refused as refused_status}
 use Rattle.mo_front.specs.declared.words.Emit.{Emit}
 use Rattle.mo_front.specs.declared.words.Emit.TheVariants as asks
-use Rattle.mo_front.specs.Emitted.{Refuses, Writes, analysed, flat_text, is_singular}
+use Rattle.mo_front.specs.Emitted.{Refuses, Writes, analysed, without_aliases, flat_text, is_singular}
 use Rattle.mo_front.specs.Files.{Reads, none, text, Tokens, Trees}
 use Rattle.mo_front.specs.Form.{declared_names, is_plain_model, items_of}
 use Rattle.mo_front.specs.Limits.{all_files_limit}
@@ -178,20 +178,31 @@ answer-of false = tt
 
 writes-answer : (emit : Emit) (m : FlatModel) (status : Status) (bytes : List ℕ) → Writes emit m status bytes → IsAnswer status
 writes-answer emit m status bytes (flat_text asked is bytes_are) = rw is tt
-writes-answer emit m status bytes (analysed r asked accepted right passed is bytes_are) = rw is (answer-of (is_singular r))
+writes-answer emit m status bytes (without_aliases r asked accepted right passed is bytes_are) = rw is tt
+writes-answer emit m status bytes (analysed r asked also accepted right passed is bytes_are) = rw is (answer-of (is_singular r))
 
 pub answers : (path : List (List ℕ)) (emit : Emit) (names texts : List (List ℕ)) (status : Status) (line : List ℕ) → TellsTexts path emit names texts status line → IsAnswer status
 answers path emit names texts status line (written w) = writes-answer emit w.m status line w.writes
 answers path emit names texts status line (refused b breaks is line_is) = rw is tt
 
--- a flat text is never singular
+-- a flat text is never singular, nor is that of aliases
 flat-done : (emit : Emit) (m : FlatModel) (status : Status) (bytes : List ℕ) → Writes emit m status bytes → emit ≡ asks.Flat → status ≡ Singular → ⊥
 flat-done emit m status bytes (flat_text asked is bytes_are) only_flat singular = cc
-flat-done emit m status bytes (analysed r asked accepted right passed is bytes_are) only_flat singular = asked only_flat
+flat-done emit m status bytes (without_aliases r asked accepted right passed is bytes_are) only_flat singular = cc
+flat-done emit m status bytes (analysed r asked also accepted right passed is bytes_are) only_flat singular = asked only_flat
+
+alias-done : (emit : Emit) (m : FlatModel) (status : Status) (bytes : List ℕ) → Writes emit m status bytes → emit ≡ asks.Alias → status ≡ Singular → ⊥
+alias-done emit m status bytes (flat_text asked is bytes_are) only_alias singular = cc
+alias-done emit m status bytes (without_aliases r asked accepted right passed is bytes_are) only_alias singular = cc
+alias-done emit m status bytes (analysed r asked also accepted right passed is bytes_are) only_alias singular = also only_alias
 
 pub never-singular : (path : List (List ℕ)) (emit : Emit) (names texts : List (List ℕ)) (status : Status) (line : List ℕ) → TellsTexts path emit names texts status line → emit ≡ asks.Flat → status ≡ Singular → ⊥
 never-singular path emit names texts status line (written w) only_flat singular = flat-done emit w.m status line w.writes only_flat singular
 never-singular path emit names texts status line (refused b breaks is line_is) only_flat singular = cc
+
+pub alias-never-singular : (path : List (List ℕ)) (emit : Emit) (names texts : List (List ℕ)) (status : Status) (line : List ℕ) → TellsTexts path emit names texts status line → emit ≡ asks.Alias → status ≡ Singular → ⊥
+alias-never-singular path emit names texts status line (written w) only_alias singular = alias-done emit w.m status line w.writes only_alias singular
+alias-never-singular path emit names texts status line (refused b breaks is line_is) only_alias singular = cc
 
 -- the class that was found
 pub asked-class : (path : List (List ℕ)) (files list : List FileTree) (found : ClassAt) → list ≡ files → Some (row_of found) ≡ class_of_path list path → broken_class (class_of_path files path) ≡ None

@@ -116,6 +116,9 @@ module _ (m : FlatModel) (r : Report) (phases left rest : List Phase) (asked : P
 pub all-asked : (m : FlatModel) (r : Report) (phases left : List Phase) → Passed m r phases left → left ≡ [] → PhasesBreak m r phases None
 all-asked m r phases left so_far is = so_far None (subst (λ (l : List Phase). PhasesBreak m r l None) (sym is) all_passed)
 
+pub alias-no-flat : asks.Alias ≡ asks.Flat → ⊥
+alias-no-flat e = cc
+
 pub by-phases : (emit : Emit) (m : FlatModel) (r : Report) (t : Result (List ℕ) Stop) (s : Stop) → t ≡ Err s → (emit ≡ asks.Flat → ⊥) → refusal_of m ≡ None → IsRightReport m r
     → IfBroken t (λ b. PhasesBreak m r (asked_by emit).phases (Some b)) → IfBroken {T = Status × List ℕ} (Err s) (λ b. Refuses emit m b)
 by-phases emit m r t s is asked accepted right was = at s (rw is at was)

@@ -21,6 +21,8 @@ use Rattle.mo_select.specs.Levels.{levels_of}
 use Rattle.mo_select.proofs.LowLevels.{levels-low}
 use Rattle.mo_select.proofs.SameText.{same-text}
 use Rattle.mo_select.proofs.Unique.{one-selection}
+use Rattle.mo_alias.specs.Text.{aliases_text}
+use Rattle.mo_alias.proofs.Uniqueness.{one-finding}
 use Rattle.mo_front.specs.declared.status.Status.{Status}
 use Rattle.mo_front.specs.declared.table.Part.{Part}
 use Rattle.mo_front.specs.declared.table.Part.TheVariants as part
@@ -29,7 +31,7 @@ use Rattle.mo_front.specs.declared.table.Phase.TheVariants as phase
 use Rattle.mo_front.specs.declared.status.Status.TheVariants.{Done, Singular}
 use Rattle.mo_front.specs.declared.words.Emit.{Emit}
 use Rattle.mo_front.specs.declared.words.Emit.TheVariants as emit
-use Rattle.mo_front.specs.Emitted.{PhaseBreaks, PhasesBreak, all_passed, this_one, later, ReducedBreaks, no_offsets, given, large, nothing, Writes, flat_text, analysed, Refuses, no_incidence, no_text as no_part, asked_by, derivatives_size, report_refusal, reduced_part, part_text, status_of, is_singular, IsSelected, no_selection, selection, Selects}
+use Rattle.mo_front.specs.Emitted.{PhaseBreaks, PhasesBreak, all_passed, this_one, later, ReducedBreaks, no_offsets, given, large, nothing, Writes, flat_text, without_aliases, analysed, Refuses, no_incidence, no_text as no_part, asked_by, derivatives_size, report_refusal, reduced_part, part_text, status_of, is_singular, IsSelected, IsTextOfAliases, no_selection, selection, Selects}
 use Rattle.mo_front.specs.States.{IsSelectionOf, selected_lines}
 use Rattle.mo_front.specs.Told.{Outcome, flat, broken, WritesGiven, Breaks, no_model, no_text, TellsOf, written, refused}
 
@@ -119,6 +121,7 @@ module _ (m : FlatModel) where
     one-selects emit.All x y a b = none-selected x y a b
     one-selects emit.Json x y a b = none-selected x y a b
     one-selects emit.States x y a b = one-selected x y a b
+    one-selects emit.Alias x y a b = none-selected x y a b
 
     module _ (x y : Option Selection) (lines : selected_lines r x r.offsets ≡ selected_lines s y s.offsets) where
       same-part : (p : Part) → part_text m r x p ≡ part_text m s y p
@@ -136,12 +139,24 @@ module _ (m : FlatModel) where
     same-status : status_of r ≡ status_of s
     same-status = ap (λ (b : Bool). if b then Singular else Done) same-singular
 
+  flat-no-alias : emit.Flat ≡ emit.Alias → ⊥
+  flat-no-alias e = cc
+
+  one-aliases : (text more : List ℕ) → IsTextOfAliases m text → IsTextOfAliases m more → text ≡ more
+  one-aliases text more (a, is, text_is) (b, also, more_is) = text_is ∙ ap (aliases_text m) (one-finding m a b is also) ∙ sym more_is
+
   module _ (emit : Emit) where
     one-written : (status other : Status) (text more : List ℕ) → Writes emit m status text → Writes emit m other more → (status ≡ other) × (text ≡ more)
     one-written status other text more (flat_text is done whole) (flat_text is' done' whole') = (done ∙ sym done', whole ∙ sym whole')
-    one-written status other text more (flat_text is done whole) (analysed r not accepted right passes status_is text_is) = absurd (not is)
-    one-written status other text more (analysed r not accepted right passes status_is text_is) (flat_text is done whole) = absurd (not is)
-    one-written status other text more (analysed r not accepted right passes status_is text_is) (analysed s not' accepted' right' passes' status_is' text_is') =
+    one-written status other text more (flat_text is done whole) (without_aliases r alias accepted right passes status_is text_is) = absurd (flat-no-alias (sym is ∙ alias))
+    one-written status other text more (flat_text is done whole) (analysed r not also accepted right passes status_is text_is) = absurd (not is)
+    one-written status other text more (without_aliases r alias accepted right passes status_is text_is) (flat_text is done whole) = absurd (flat-no-alias (sym is ∙ alias))
+    one-written status other text more (without_aliases r alias accepted right passes status_is text_is) (without_aliases s alias' accepted' right' passes' status_is' text_is') =
+        (status_is ∙ sym status_is', one-aliases text more text_is text_is')
+    one-written status other text more (without_aliases r alias accepted right passes status_is text_is) (analysed s not also accepted' right' passes' status_is' text_is') = absurd (also alias)
+    one-written status other text more (analysed r not also accepted right passes status_is text_is) (flat_text is done whole) = absurd (not is)
+    one-written status other text more (analysed r not also accepted right passes status_is text_is) (without_aliases s alias accepted' right' passes' status_is' text_is') = absurd (also alias)
+    one-written status other text more (analysed r not also accepted right passes status_is text_is) (analysed s not' also' accepted' right' passes' status_is' text_is') =
         let say = one-report m r s right right' in
         let lines = one-selects r s say emit text_is.selected text_is'.selected text_is.selects text_is'.selects in
         (status_is ∙ (same-status r s say ∙ sym status_is'), text_is.is ∙ (same-parts r s say text_is.selected text_is'.selected lines (asked_by emit).parts ∙ sym text_is'.is))
@@ -156,8 +171,11 @@ module _ (m : FlatModel) where
     never-both : (status : Status) (text : List ℕ) (b : Broken) → Writes emit m status text → Refuses emit m b → ⊥
     never-both status text b (flat_text is done whole) (no_incidence not is') = not is
     never-both status text b (flat_text is done whole) (no_part s not accepted right breaks) = not is
-    never-both status text b (analysed r not accepted right passes status_is text_is) (no_incidence not' is') = some-none b (sym is' ∙ accepted)
-    never-both status text b (analysed r not accepted right passes status_is text_is) (no_part s not' accepted' right' breaks') =
+    never-both status text b (without_aliases r alias accepted right passes status_is text_is) (no_incidence not' is') = some-none b (sym is' ∙ accepted)
+    never-both status text b (without_aliases r alias accepted right passes status_is text_is) (no_part s not' accepted' right' breaks') =
+        some-none b (sym (one-break r s (one-report m r s right right') (asked_by emit).phases None (Some b) passes breaks'))
+    never-both status text b (analysed r not also accepted right passes status_is text_is) (no_incidence not' is') = some-none b (sym is' ∙ accepted)
+    never-both status text b (analysed r not also accepted right passes status_is text_is) (no_part s not' accepted' right' breaks') =
         some-none b (sym (one-break r s (one-report m r s right right') (asked_by emit).phases None (Some b) passes breaks'))
 
 -- ---- what is told

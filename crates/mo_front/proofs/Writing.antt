@@ -40,7 +40,7 @@ names-fault words path files emit failed names fault = record { path = path; fil
 
 -- what is asked for by a word, which its first and third letters tell
 asked_by : List ℕ → Emit
-asked_by word = if slice_index word 0 == 115 then asks.States else (if slice_index word 2 == 97 then asks.Flat else (if slice_index word 2 == 100 then asks.Reduced else (if slice_index word 2 == 112 then asks.Report else (if slice_index word 2 == 111 then asks.Json else asks.All))))
+asked_by word = if slice_index word 0 == 115 then asks.States else (if slice_index word 2 == 105 then asks.Alias else (if slice_index word 2 == 97 then asks.Flat else (if slice_index word 2 == 100 then asks.Reduced else (if slice_index word 2 == 112 then asks.Report else (if slice_index word 2 == 111 then asks.Json else asks.All)))))
 
 asked-word : (emit : Emit) → asked_by (word_of emit) ≡ emit
 unfolding asked_by
@@ -50,6 +50,7 @@ asked-word asks.Report = refl
 asked-word asks.All = refl
 asked-word asks.Json = refl
 asked-word asks.States = refl
+asked-word asks.Alias = refl
 
 one-asked : (word : Option (List ℕ)) (emit other : Emit) → AsksFor word emit → AsksFor word other → emit ≡ other
 one-asked None emit other is also = is ∙ sym also

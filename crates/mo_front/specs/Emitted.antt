@@ -1,7 +1,7 @@
 -- What is written of a flat model, by what is asked for: its text, its reduced model (S. E. Mattsson and G. Söderlind, Index
 -- reduction in differential-algebraic equations using dummy derivatives, SIAM J. Sci. Comput. 14, 1993), the report on its
--- structure (J. D. Pryce, A simple structural analysis method for DAEs, BIT 41, 2001), as lines or as JSON, or all three; or the states that
--- stateSelect prefers (Modelica Language Specification 3.5, section 4.8.7.1).
+-- structure (J. D. Pryce, A simple structural analysis method for DAEs, BIT 41, 2001), as lines or as JSON, or all three; the states that
+-- stateSelect prefers (Modelica Language Specification 3.5, section 4.8.7.1); or its aliases and the model without them.
 use Rattle.std.specs.Prelude.{◌≡◌, ◌≢◌, ℕ, ◌==◌, ◌||◌, Bool, true, false, List, [], ◌∷◌, flat_map, Option, Some, None, is_some, length, nat_le, nat_lt, unwrap_or, if◌then◌else◌}
 use Rattle.mo_syntax.specs.declared.place.Broken.{Broken}
 use Rattle.mo_syntax.specs.declared.place.Place.{Place}
@@ -17,6 +17,9 @@ use Rattle.mo_report.specs.Right.{IsRightReport}
 use Rattle.mo_report.specs.Size.{report_limit, report_size}
 use Rattle.mo_json.specs.Values.{json_line}
 use Rattle.mo_select.specs.declared.selection.Selection.{Selection}
+use Rattle.mo_alias.specs.declared.found.Aliases.{Aliases}
+use Rattle.mo_alias.specs.Aliases.{AreAliases}
+use Rattle.mo_alias.specs.Text.{aliases_text}
 use Rattle.mo_front.specs.declared.status.Status.{Status}
 use Rattle.mo_front.specs.declared.status.Status.TheVariants.{Done, Singular}
 use Rattle.mo_front.specs.declared.words.Emit.{Emit}
@@ -29,12 +32,12 @@ use Rattle.mo_front.specs.States.{IsSelectionOf, selected_lines}
 
 -- ---- what is asked for
 
--- phases behind the incidence, in order, and texts, one behind the other
+-- phases behind the incidence, in order, and texts that go by the report, one behind the other
 pub record Asked : Type 0 where
   pub phases : List Phase
   pub parts : List Part
 
--- the phases and texts of each value; of the flat text alone not even the incidence is asked
+-- the phases and texts of each value; of the flat text alone not even the incidence is asked, and the text of aliases goes by no report
 abbrev pub asked_by : Emit → Asked
 asked_by emit.Flat = record { phases = []; parts = part.Flat ∷ [] }
 asked_by emit.Reduced = record { phases = phase.Reduction ∷ []; parts = part.ReducedOrReport ∷ [] }
@@ -42,6 +45,7 @@ asked_by emit.Report = record { phases = phase.Size ∷ []; parts = part.Report 
 asked_by emit.All = record { phases = phase.Size ∷ phase.Reduction ∷ []; parts = part.Flat ∷ part.Reduced ∷ part.Report ∷ [] }
 asked_by emit.Json = record { phases = phase.Size ∷ []; parts = part.Json ∷ [] }
 asked_by emit.States = record { phases = phase.Size ∷ []; parts = part.StatesOrReport ∷ [] }
+asked_by emit.Alias = record { phases = phase.Size ∷ []; parts = [] }
 
 -- ---- the rules that the phases behind the incidence break, which go by a right report
 
@@ -116,13 +120,19 @@ pub record IsTextOf (asked : Emit) (m : FlatModel) (r : Report) (text : List ℕ
   pub selects : Selects asked m r selected
   pub is : text ≡ flat_map (part_text m r selected) (asked_by asked).parts
 
+-- the text of what is found of aliases
+abbrev pub IsTextOfAliases : FlatModel → List ℕ → Type 0
+IsTextOfAliases m text = (found : Aliases) × AreAliases m found × (text ≡ aliases_text m found)
+
 -- ---- the whole
 
--- the text that is written of the model, with its status
+-- the text that is written of the model, with its status; the flat text and that of aliases are written of singular models too
 pub data Writes (asked : Emit) (m : FlatModel) (status : Status) (text : List ℕ) : Type 0 where
   flat_text : asked ≡ emit.Flat → status ≡ Done → text ≡ model_text m → Writes asked m status text
-  analysed : (r : Report) → asked ≢ emit.Flat → refusal_of m ≡ None → IsRightReport m r → PhasesBreak m r (asked_by asked).phases None → status ≡ status_of r → IsTextOf asked m r text
+  without_aliases : (r : Report) → asked ≡ emit.Alias → refusal_of m ≡ None → IsRightReport m r → PhasesBreak m r (asked_by asked).phases None → status ≡ Done → IsTextOfAliases m text
       → Writes asked m status text
+  analysed : (r : Report) → asked ≢ emit.Flat → asked ≢ emit.Alias → refusal_of m ≡ None → IsRightReport m r → PhasesBreak m r (asked_by asked).phases None → status ≡ status_of r
+      → IsTextOf asked m r text → Writes asked m status text
 
 -- the first rule that is broken instead: those of the incidence before those of the other phases
 pub data Refuses (asked : Emit) (m : FlatModel) (b : Broken) : Type 0 where

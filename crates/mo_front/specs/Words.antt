@@ -74,6 +74,7 @@ word_of emit.Report = codes "report"
 word_of emit.All = codes "all"
 word_of emit.Json = codes "json"
 word_of emit.States = codes "states"
+word_of emit.Alias = codes "alias"
 
 -- a word that is given says what is to be written; with none all is written
 abbrev pub AsksFor : Option (List ℕ) → Emit → Type 0

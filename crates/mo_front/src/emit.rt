@@ -11,13 +11,14 @@ ghost use Rattle.mo_report.specs.Right.{IsRightReport};
 ghost use Rattle.mo_report.specs.Size.{report_limit};
 ghost use Rattle.mo_select.specs.Text.{selection_lines};
 ghost use Rattle.mo_front.specs.States.{selected_lines};
-ghost use Rattle.mo_front.specs.Emitted.{IsTextOf, PhaseBreaks, PhasesBreak, ReducedBreaks, Refuses, Selects, Writes, asked_by, derivatives_size, is_singular, part_text, reduced_part, status_of};
+ghost use Rattle.mo_front.specs.Emitted.{IsTextOf, IsTextOfAliases, PhaseBreaks, PhasesBreak, ReducedBreaks, Refuses, Selects, Writes, asked_by, derivatives_size, is_singular, part_text, reduced_part, status_of};
 
 use crate::states::selection_of;
 use crate::status::Status;
 use crate::structure::{Analysis, analysis_of, is_singular};
 use crate::table::{Part, Phase, parts, phases};
 use crate::words::Emit;
+use mo_alias::{aliases, aliases_text};
 use mo_flat::{FlatModel, flat_text};
 use mo_incidence::Offsets;
 use mo_json::report_json;
@@ -36,14 +37,52 @@ pub(crate) fn written_of(alloc: Global, emit: Emit, m: &FlatModel) -> Result<(St
 {
     match emit {
         Emit::Flat => Ok((Status::Done, flat_text(alloc, m)?)),
+        Emit::Alias => without_aliases(alloc, m),
         _ => analysed(alloc, emit, m),
     }
+}
+
+/// The aliases of a model and the model without them, or the first rule that the incidence or the size of the report breaks.
+fn without_aliases(alloc: Global, m: &FlatModel) -> Result<(Status, Text), Stop>
+    requires sound { IsSoundModel m.now }
+    ensures written { IfOk result (λ w. Writes Emit.Alias m.now w.0 w.1) }
+    ensures refused { IfBroken result (λ b. Refuses Emit.Alias m.now b) }
+{
+    match analysis_of(alloc, m) {
+        Ok(analysis) => match text_of_aliases(alloc, m, &analysis.report) {
+            Ok(text) => Ok((Status::Done, text)),
+            Err(stop) => Err(stop),
+        },
+        Err(stop) => Err(stop),
+    }
+}
+
+/// The text of the aliases of a model with that report, or the rule that a phase behind the incidence breaks.
+fn text_of_aliases(alloc: Global, m: &FlatModel, r: &Report) -> Result<Text, Stop>
+    requires right { IsRightReport m.now r.now }
+    ensures passed { OnOk result (PhasesBreak m.now r.now (asked_by Emit.Alias).phases None) }
+    ensures text { IfOk result (IsTextOfAliases m.now) }
+    ensures refused { IfBroken result (λ b. PhasesBreak m.now r.now (asked_by Emit.Alias).phases (Some b)) }
+{
+    match passed(alloc, m, r, phases(Emit::Alias)) {
+        Ok(_made) => Ok(aliases_written(alloc, m)?),
+        Err(stop) => Err(stop),
+    }
+}
+
+fn aliases_written(alloc: Global, m: &FlatModel) -> Result<Text, NoMemory>
+    ensures { IfOk result (IsTextOfAliases m.now) }
+{
+    let found = aliases(alloc, m)?;
+    let text = aliases_text(alloc, m, &found)?;
+    Ok(text)
 }
 
 /// What is written by the report on the structure of the model.
 fn analysed(alloc: Global, emit: Emit, m: &FlatModel) -> Result<(Status, Text), Stop>
     requires sound { IsSoundModel m.now }
     requires structure { emit ≢ Emit.Flat }
+    requires report { emit ≢ Emit.Alias }
     ensures written { IfOk result (λ w. Writes emit m.now w.0 w.1) }
     ensures refused { IfBroken result (λ b. Refuses emit m.now b) }
 {
@@ -97,7 +136,9 @@ fn selected(
 {
     match emit {
         Emit::States => selection_of(alloc, m, &a.incidence, &a.report),
-        Emit::Flat | Emit::Reduced | Emit::Report | Emit::All | Emit::Json => Ok(None),
+        Emit::Flat | Emit::Reduced | Emit::Report | Emit::All | Emit::Json | Emit::Alias => Ok(
+            None,
+        ),
     }
 }
 

@@ -1,5 +1,6 @@
 //! The program from words and files to bytes: it reads the files, finds the class in their trees, and writes its flat
-//! text, its reduced model, the report on its structure or the states that stateSelect prefers, or the line that names the first broken rule.
+//! text, its reduced model, the report on its structure, the states that stateSelect prefers or its aliases, or the line that names the first broken
+//! rule.
 //!
 //! - `run`: the program over any shelf and sink.
 //! - `files_give_one` and `files_tell_one` are the laws that files give one thing only, and that one text is told of it.

@@ -32,6 +32,7 @@ pub fn run<S: Shelf, W: Sink>(alloc: Global, words: &[String], shelf: &mut S, ou
     ensures usage { result ≡ Status.Usage → (path files : Seq (Seq ℕ)) → (emit : Emit) → Names (words_of words.now) path emit files → ⊥ }
     ensures only_usage { ((path files : Seq (Seq ℕ)) → (emit : Emit) → Names (words_of words.now) path emit files → ⊥) → (result ≡ Status.Usage) ⊎ (result ≡ Status.NoMemory) }
     ensures flat { (path files : Seq (Seq ℕ)) → Names (words_of words.now) path Emit.Flat files → result ≢ Status.Singular }
+    ensures alias { (path files : Seq (Seq ℕ)) → Names (words_of words.now) path Emit.Alias files → result ≢ Status.Singular }
     ensures read { result ≡ Status.ReadFault → Rose (S.faults shelf.old) (S.faults shelf.new) }
     ensures read_name { result ≡ Status.ReadFault → NamesFault (words_of words.now) (S.failed shelf.new) }
     ensures write { result ≡ Status.WriteFault → Rose (W.faults out.old) (W.faults out.new) }
@@ -72,6 +73,7 @@ fn run_job<S: Shelf, W: Sink>(
 
     ensures usage { result ≢ Status.Usage }
     ensures flat { emit ≡ Emit.Flat → result ≢ Status.Singular }
+    ensures alias { emit ≡ Emit.Alias → result ≢ Status.Singular }
     ensures read { result ≡ Status.ReadFault → Rose (S.faults shelf.old) (S.faults shelf.new) }
     ensures read_name { result ≡ Status.ReadFault → IsNamedFault (S.failed shelf.new) files.now }
     ensures write { result ≡ Status.WriteFault → Rose (W.faults out.old) (W.faults out.new) }
@@ -98,6 +100,7 @@ fn read_answer<S: Shelf>(
     ensures told { IfOk result (λ a. IfSome (S.told shelf.old) (λ contents. Tells class.now.0 emit files.now contents a.0 a.1)) }
     ensures answers { IfOk result (λ a. IsAnswer a.0) }
     ensures flat { IfOk result (λ a. emit ≡ Emit.Flat → a.0 ≢ Status.Singular) }
+    ensures alias { IfOk result (λ a. emit ≡ Emit.Alias → a.0 ≢ Status.Singular) }
     ensures stops { IfErr result (λ status. (status ≡ Status.ReadFault) ⊎ (status ≡ Status.NoMemory)) }
     ensures read { IfErr result (λ status. status ≡ Status.ReadFault → Rose (S.faults shelf.old) (S.faults shelf.new)) }
     ensures read_name { IfErr result (λ status. status ≡ Status.ReadFault → IsNamedFault (S.failed shelf.new) files.now) }

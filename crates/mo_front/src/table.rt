@@ -40,11 +40,11 @@ pub(crate) fn phases(emit: Emit) -> &'static [Phase]
         Emit::Report => &[Phase::Size],
         Emit::All => &[Phase::Size, Phase::Reduction],
         Emit::Json => &[Phase::Size],
-        Emit::States => &[Phase::Size],
+        Emit::States | Emit::Alias => &[Phase::Size],
     }
 }
 
-/// The texts that are written, one behind the other.
+/// The texts that go by the report, one behind the other.
 pub(crate) fn parts(emit: Emit) -> &'static [Part]
     ensures { result.now ≡ (asked_by emit).parts }
 {
@@ -55,5 +55,6 @@ pub(crate) fn parts(emit: Emit) -> &'static [Part]
         Emit::All => &[Part::Flat, Part::Reduced, Part::Report],
         Emit::Json => &[Part::Json],
         Emit::States => &[Part::StatesOrReport],
+        Emit::Alias => &[],
     }
 }

@@ -32,6 +32,8 @@ pub enum Emit {
     Json,
     /// The states that stateSelect prefers.
     States,
+    /// Its aliases, and the model without them.
+    Alias,
 }
 
 /// What the words ask for.
@@ -159,6 +161,7 @@ fn emit_named(word: Option<&str>) -> Option<Emit>
         "all" => Some(Emit::All),
         "json" => Some(Emit::Json),
         "states" => Some(Emit::States),
+        "alias" => Some(Emit::Alias),
         _ => None,
     }
 }

@@ -174,6 +174,27 @@ const STATES: [Asked; 5] = [
     ),
 ];
 
+const ALIASES: [Asked; 3] = [
+    (
+        "alias",
+        "model M Real x; Real y; equation x = y; x + y = 0; end M;",
+        Status::Done,
+        "alias M\ny = x\nloop 1 2\nmodel M\n  Real x;\nequation\n  x + x = 0;\nend M;\n",
+    ),
+    (
+        "alias",
+        "model M Real x; Real y; Real z; equation der(z) = y; x = -y; 0 = z - x; end M;",
+        Status::Done,
+        "alias M\ny = -x\nz = x\nmodel M\n  Real x;\nequation\n  der(x) = -x;\nend M;\n",
+    ),
+    (
+        "alias",
+        "model M Real x; Real y; equation x = 1.0; x = 2.0; end M;",
+        Status::Done,
+        "alias M\nmodel M\n  Real x;\n  Real y;\nequation\n  x = 1.0;\n  x = 2.0;\nend M;\n",
+    ),
+];
+
 fn holds(rt: &impl Abort, alloc: Global, row: &Asked) -> Result<(), NoMemory> {
     let ran = run_class(alloc, "M", &["--emit", row.0], row.1, None)?;
     assert_eq!(rt; ran.text.as_str(), row.3);
@@ -199,7 +220,8 @@ fn writes_what_is_asked_for(rt: HostRuntime) -> Result<(), Fail> {
 fn differentiates_what_has_to_be(rt: HostRuntime) -> Result<(), Fail> {
     all_hold(&rt, rt.alloc(), &REPORTS)?;
     all_hold(&rt, rt.alloc(), &REDUCED)?;
-    Ok(all_hold(&rt, rt.alloc(), &STATES)?)
+    all_hold(&rt, rt.alloc(), &STATES)?;
+    Ok(all_hold(&rt, rt.alloc(), &ALIASES)?)
 }
 
 #[test]

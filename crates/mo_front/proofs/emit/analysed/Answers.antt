@@ -5,7 +5,7 @@ use Rattle.mo_front.proofs.emit.analysed.Goals as goal
 
 pub returns-in-Ok-text_of-clause-written : goal.returns-in-Ok-text_of-clause-written
 returns-in-Ok-text_of-clause-written c =
-    analysed c.in-Ok.analysis.report c.requires.structure c.in-Ok.ensures.accepted c.in-Ok.ensures.right c.in-Ok-text_of.ensures.passed c.status_of.ensures c.in-Ok-text_of.ensures.text
+    analysed c.in-Ok.analysis.report c.requires.structure c.requires.report c.in-Ok.ensures.accepted c.in-Ok.ensures.right c.in-Ok-text_of.ensures.passed c.status_of.ensures c.in-Ok-text_of.ensures.text
 
 pub returns-in-Ok-clause-refused : goal.returns-in-Ok-clause-refused
 returns-in-Ok-clause-refused c =

@@ -20,6 +20,10 @@ pub returns-in-Ok-clause-flat : goal.returns-in-Ok-clause-flat
 returns-in-Ok-clause-flat g c = λ path files names.
     c.run_job.ensures.flat (one-emit _ _ _ _ _ _ _ (subst (NamesWords (words_of c.args.words.now)) c.parts-class.ensures c.in-Ok.ensures.names) names)
 
+pub returns-in-Ok-clause-alias : goal.returns-in-Ok-clause-alias
+returns-in-Ok-clause-alias g c = λ path files names.
+    c.run_job.ensures.alias (one-emit _ _ _ _ _ _ _ (subst (NamesWords (words_of c.args.words.now)) c.parts-class.ensures c.in-Ok.ensures.names) names)
+
 pub returns-in-Ok-clause-only_usage : goal.returns-in-Ok-clause-only_usage
 returns-in-Ok-clause-only_usage g c = λ none. absurd (none _ _ _ (subst (NamesWords (words_of c.args.words.now)) c.parts-class.ensures c.in-Ok.ensures.names))
 

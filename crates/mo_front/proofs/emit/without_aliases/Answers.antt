@@ -1,0 +1,13 @@
+-- What is written of aliases, by the right report.
+use Rattle.std.proofs.Common.{refl}
+use Rattle.mo_front.specs.Emitted.{without_aliases}
+use Rattle.mo_front.proofs.Emitting.{alias-no-flat, by-phases}
+use Rattle.mo_front.proofs.emit.without_aliases.Goals as goal
+
+pub returns-in-Ok-text_of_aliases-clause-written : goal.returns-in-Ok-text_of_aliases-clause-written
+returns-in-Ok-text_of_aliases-clause-written c =
+    without_aliases c.in-Ok.analysis.report refl c.in-Ok.ensures.accepted c.in-Ok.ensures.right c.in-Ok-text_of_aliases.ensures.passed refl c.in-Ok-text_of_aliases.ensures.text
+
+pub returns-in-Ok-clause-refused : goal.returns-in-Ok-clause-refused
+returns-in-Ok-clause-refused c =
+    by-phases _ _ c.in-Ok.analysis.report c.text_of_aliases.result _ c.in-Err-text_of_aliases.is alias-no-flat c.in-Ok.ensures.accepted c.in-Ok.ensures.right c.text_of_aliases.ensures.refused
