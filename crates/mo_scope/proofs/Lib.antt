@@ -2,7 +2,7 @@ pub mod Entering
 pub mod Keys
 pub mod Lists
 pub mod Mentioned
-mod Models
+pub mod Models
 pub mod Named
 pub mod Numbered
 pub mod PathPicking

@@ -10,6 +10,7 @@
 //!   `component_sources` and `base_sources` make the sources with which an element or a base is entered.
 //! - `Row`, `Declares`, `Member`: a class with what it declares, and an element of a frame. `is_class`, `is_constant`,
 //!   `is_encapsulated`, `is_open` and `component_of` read what is declared.
+//! - `Names`: the first place of each name in a list.
 //! - `nested_list` and `replacing` read arguments and items; `pending_at` gives the indices behind a name.
 //! - `InstanceTree`, `Instance`, `Leaf`, `Chosen`: the components of a class, as data for what makes them and what reads them.
 //!
@@ -44,6 +45,7 @@ mod written;
 
 pub use copies::{copied, copied_scope, extend};
 pub use instance::{Chosen, Instance, InstanceTree, Leaf};
+pub use names::Names;
 pub use pick_path::pick;
 pub use row::{Clause, Constraint, Declares, Home, Member, Part, Row, Sort};
 pub use saying::{Redeclaration, nested_list, pending_at, replacing};

@@ -10,7 +10,7 @@ use std::collections::HashMap;
 
 /// How many elements stand before the first one with a name.
 #[derive(Drop)]
-pub(crate) struct Names<'t> {
+pub struct Names<'t> {
     places: HashMap<&'t str, usize>,
 }
 
