@@ -127,6 +127,7 @@ is_walk_later u v walk g is = record {
   bases = every_later (IsBase u) (IsBase v) (is_base_later u v g) walk.bases is.bases;
   sections = every_later (IsBase u) (IsBase v) (is_base_later u v g) walk.sections is.sections;
   leaf = is_leaf_later u v g walk.leaf is.leaf;
+  names = is.names;
 }
 
 pub walk_later : (u v : World) (walk : Walk) → Grows u v → IsWalk u walk → walk_seen (frames_of v) walk ≡ walk_seen (frames_of u) walk

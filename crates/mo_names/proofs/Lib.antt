@@ -19,3 +19,4 @@ pub mod Reading
 pub mod Redeclaring
 pub mod Tables
 pub mod Walking
+pub mod WalkNames

@@ -51,6 +51,10 @@ abbrev pub first_found : Table → (top : Bool) → Scope → List ℕ → Place
 first_found table top scope name place =
     and_then (first_met table (asking_of table) false top scope place name) (λ met. taken table met.near place met.found)
 
+-- what it finds as it is declared: a component need be no constant, and one that is declared `outer` stands for itself
+abbrev pub first_declared : Table → (top : Bool) → Scope → List ℕ → Place → Outcome Found
+first_declared table top scope name place = and_then (first_met table (asking_of table) false top scope place name) (λ met. Ok met.found)
+
 -- an identifier without subscripts
 abbrev pub identifier : List ℕ → Place → PartOf Expr
 identifier name place = record { name = name; place = place; subs = [] }

@@ -1,10 +1,14 @@
 -- What the values of the code are as data, and when the frames in them exist.
-use Rattle.std.specs.Prelude.{ℕ, ◌<◌, List, length, map, reverse, Option, Some, None, option_map}
+use Rattle.std.specs.Prelude.{◌≡◌, ℕ, ◌<◌, List, length, map, reverse, Option, Some, None, is_some, option_map}
+use Rattle.std.specs.List.{list_any}
+use Rattle.std.specs.Str.{bytes_eq}
 use Rattle.mo_syntax.specs.declared.meaning.FrameId.{FrameId}
 use Rattle.mo_scope.specs.declared.row.Member.{Member as MemberAt}
 use Rattle.mo_scope.specs.Rows.{Table, class_number, number_of_classes}
 use Rattle.mo_scope.specs.Frames.{Frame, Member}
 use Rattle.mo_scope.specs.Lookup.{Found, Component, Class, Literal, Iteration, Function, Time, Reached, Element, Other, Absent, Met, Classed, Inherited, Walked, Asking, walked}
+use Rattle.mo_scope.specs.ByName.{place_held}
+use Rattle.mo_scope.specs.declared.names.Names.{Names}
 use Rattle.mo_scope.specs.Places.{Every}
 use Rattle.mo_scope.specs.Sights.{member_seen, declares_seen}
 use Rattle.mo_scope.specs.Own.{IsOwnElement}
@@ -16,6 +20,7 @@ use Rattle.mo_names.specs.declared.found.Found.TheVariants.{Component as compone
 use Rattle.mo_names.specs.declared.found.Met.{Met as MetAt}
 use Rattle.mo_names.specs.declared.found.Reached.{Reached as ReachedAt}
 use Rattle.mo_names.specs.declared.found.Reached.TheVariants.{Element as element_at, Other as other_at, Absent as absent_at}
+use Rattle.mo_names.specs.declared.join.Added.{Added}
 use Rattle.mo_names.specs.declared.walk.Inherited.{Inherited as InheritedAt}
 use Rattle.mo_names.specs.declared.walk.Walk.{Walk}
 
@@ -92,11 +97,31 @@ abbrev pub IsLeaf : World → Option FrameId → Type 0
 IsLeaf world None = Unit {0}
 IsLeaf world (Some frame) = IsFrame world frame.0
 
+-- the names that have a place are those of these elements
+abbrev pub AreNames : List InheritedAt → Names → Type 0
+AreNames members names = (name : List ℕ) → is_some (place_held names name) ≡ list_any (λ inherited. bytes_eq inherited.member.name.now name) members
+
 pub record IsWalk (world : World) (walk : Walk) : Type 0 where
   pub members : Every (IsInherited world) walk.members
   pub bases : Every (IsBase world) walk.bases
   pub sections : Every (IsBase world) walk.sections
   pub leaf : IsLeaf world walk.leaf
+  pub names : AreNames walk.members walk.names.value
+
+-- what a base adds
+abbrev pub added_seen : List Frame → Added → Walked
+added_seen frames added = record {
+  members = map (inherited_seen frames) added.members;
+  bases = map (frames_through frames) added.bases;
+  sections = map (frames_through frames) added.sections;
+  leaf = option_map (λ frame. frame_in frames frame.0) added.leaf;
+}
+
+pub record IsAdded (world : World) (added : Added) : Type 0 where
+  pub members : Every (IsInherited world) added.members
+  pub bases : Every (IsBase world) added.bases
+  pub sections : Every (IsBase world) added.sections
+  pub leaf : IsLeaf world added.leaf
 
 -- ---- asking
 

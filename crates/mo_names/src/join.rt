@@ -7,7 +7,7 @@ ghost use Rattle.mo_scope.specs.Lookup.{final_frame, is_counted, not_counted, wi
 ghost use Rattle.mo_scope.specs.Outcome.{Gives};
 ghost use Rattle.mo_scope.specs.Places.{Every};
 ghost use Rattle.mo_scope.specs.Worlds.{IsFrame, World, frame_at, frame_in, frames_of};
-ghost use Rattle.mo_names.specs.Sights.{AreThrough, IsBase, IsInherited, IsLeaf, IsMember, IsWalk, frames_through, inherited_seen, member_of, walk_seen};
+ghost use Rattle.mo_names.specs.Sights.{AreThrough, IsAdded, IsBase, IsInherited, IsLeaf, IsMember, IsWalk, added_seen, frames_through, inherited_seen, member_of, walk_seen};
 ghost use Rattle.mo_names.specs.Joins.{all_added as added_all, base_added as added_by_base, base_behind, bases_added as added_bases, counts_through, inherited_behind, is_among, member_hidden};
 
 use crate::same::are_one_base;
@@ -17,19 +17,17 @@ use mo_scope::{Member, Scopes};
 use mo_syntax::{FrameId, List, NoMemory, Stop, Text, both};
 use std::alloc::Global;
 
-/// Whether an element has that name.
-fn has_name(s: &Scopes, members: &[Inherited], name: &Text) -> bool
-    ensures { result ≡ list_any (λ other. bytes_eq other.member.name name.now) (map (inherited_seen (frames_of s.now)) members.now) }
+/// Whether an element of a walk has that name.
+#[tactic(auto, using(crate::proofs::WalkNames::named_among))]
+fn has_name(s: &Scopes, walk: &Walk, name: &Text) -> bool
+    requires { IsWalk s.now walk.now }
+    ensures { result ≡ list_any (λ other. bytes_eq other.member.name name.now) (walk_seen (frames_of s.now) walk.now).members }
 {
-    for other in members {
-        if other.member.name.equals(name) {
-            return true;
-        }
-    }
-    false
+    walk.names.place(name).is_some()
 }
 
 /// Puts an element behind others.
+#[tactic(auto, using(crate::proofs::WalkNames::names_more))]
 pub(crate) fn with_member<'t>(
     s: &Scopes<'t>,
     inherited: Inherited<'t>,
@@ -40,9 +38,11 @@ pub(crate) fn with_member<'t>(
     ensures value { Gives (λ _. walk_seen (frames_of s.now) walk.new) result (joined_member (inherited_seen (frames_of s.now) inherited.entry) (walk_seen (frames_of s.now) walk.old)) }
     ensures stand { IfOk result (λ _. IsWalk s.now walk.new) }
 {
-    if has_name(s, walk.members.as_slice(), inherited.member.name) {
+    if has_name(s, walk, inherited.member.name) {
         return Err(stop(19, inherited.member.declares.place));
     }
+    let at = walk.members.len();
+    walk.names.put(inherited.member.name, at)?;
     walk.members.push(inherited)?;
     Ok(())
 }
@@ -252,6 +252,15 @@ fn all_sections(
     bases_behind(alloc, s, before, base, turned(all))
 }
 
+/// What a base adds to the elements before: elements, bases, sections, and a leaf as those of a walk.
+#[derive(Drop)]
+struct Added<'t> {
+    members: List<Inherited<'t>>,
+    bases: List<List<FrameId>>,
+    sections: List<List<FrameId>>,
+    leaf: Option<FrameId>,
+}
+
 /// What a base adds to the elements before: its own, its bases and their sections, but for those that were met before.
 fn base_added<'t>(
     alloc: Global,
@@ -260,18 +269,19 @@ fn base_added<'t>(
     hidden: bool,
     base: FrameId,
     walk: Walk<'t>,
-) -> Result<Walk<'t>, NoMemory>
+) -> Result<Added<'t>, NoMemory>
     requires before { Every (IsBase s.now) before.now }
     requires base { IsFrame s.now base.0 }
     requires walk { IsWalk s.now walk }
-    ensures are { IfOk result (λ added. walk_seen (frames_of s.now) added ≡ added_by_base hidden (frame_at s.now base.0) (map (frames_through (frames_of s.now)) before.now) (walk_seen (frames_of s.now) walk.entry)) }
-    ensures stand { IfOk result (IsWalk s.now) }
+    ensures are { IfOk result (λ added. added_seen (frames_of s.now) added ≡ added_by_base hidden (frame_at s.now base.0) (map (frames_through (frames_of s.now)) before.now) (walk_seen (frames_of s.now) walk.entry)) }
+    ensures stand { IfOk result (IsAdded s.now) }
 {
     let Walk {
         members,
         bases,
         sections,
         leaf,
+        names: _,
     } = walk;
     let from_end = turned(members);
     let (members, (bases, sections)) = both(
@@ -281,7 +291,7 @@ fn base_added<'t>(
             all_sections(alloc, s, before, base, sections),
         ),
     )?;
-    Ok(Walk {
+    Ok(Added {
         members,
         bases,
         sections,
@@ -313,13 +323,13 @@ fn with_bases<'t>(
 }
 
 /// Puts all that a base adds behind what is before.
-fn with_added<'t>(s: &Scopes<'t>, added: Walk<'t>, so_far: &mut Walk<'t>) -> Result<(), Stop>
-    requires added { IsWalk s.now added }
+fn with_added<'t>(s: &Scopes<'t>, added: Added<'t>, so_far: &mut Walk<'t>) -> Result<(), Stop>
+    requires added { IsAdded s.now added }
     requires so_far { IsWalk s.now so_far.old }
-    ensures value { Gives (λ _. walk_seen (frames_of s.now) so_far.new) result (added_all (walk_seen (frames_of s.now) added.entry) (walk_seen (frames_of s.now) so_far.old)) }
+    ensures value { Gives (λ _. walk_seen (frames_of s.now) so_far.new) result (added_all (added_seen (frames_of s.now) added.entry) (walk_seen (frames_of s.now) so_far.old)) }
     ensures stand { IfOk result (λ _. IsWalk s.now so_far.new) }
 {
-    let Walk {
+    let Added {
         members,
         bases,
         sections,

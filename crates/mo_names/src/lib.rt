@@ -3,7 +3,9 @@
 //! - `elements`, `walk_of`, `base_of`: the elements of a frame, inherited and own; those with the base frames on the way to them,
 //!   as `Walk` and `Inherited`; and the base frame of an extends clause.
 //! - `find`, `find_first`, `find_behind`, `find_path`: what a name finds, as `Found`: a simple name, the first identifier of a
-//!   name, one behind a dot, and a whole name. `find_element` says what a name reaches among the elements of a frame, as `Reached`.
+//!   name, one behind a dot, and a whole name. `find_declared` gives what the first identifier finds before an inner component
+//!   is sought; `find_element` says what a name reaches among the elements of a frame, as `Reached`, and `own_named` looks
+//!   among those that its class declares itself.
 //! - `inner_of`, `stands_for`: the component that one which is declared `outer` stands for.
 //! - `child`, `child_of_member`: an element of a frame, entered at an index, as `Child`; `enter_child` and `enter_component` make
 //!   the frame of a component.
@@ -41,8 +43,9 @@ pub use element_list::{base_of, elements, walk_of};
 pub use entering::{child, child_of_member, enter_child, enter_component};
 pub use found::{Child, Found, Reached};
 pub use literals::literal_name;
-pub use lookup::{find, find_element, find_first};
+pub use lookup::{find, find_declared, find_element, find_first};
 pub use outer::{inner_of, stands_for};
+pub use own::own_named;
 pub use path::{find_behind, find_path};
 pub use top::type_name;
 pub use walk::{Inherited, Walk};

@@ -6,7 +6,7 @@ ghost use Rattle.mo_scope.specs.Lookup.{asking_of, reached as reached_of};
 ghost use Rattle.mo_scope.specs.Names.{constant_unless, found as found_of, taken as taken_found};
 ghost use Rattle.mo_scope.specs.Outcome.{Gives};
 ghost use Rattle.mo_scope.specs.Worlds.{Grows, IsFrame, frame_at, frames_of, scope_in, table_in};
-ghost use Rattle.mo_names.specs.Children.{first_found};
+ghost use Rattle.mo_names.specs.Children.{first_declared, first_found};
 ghost use Rattle.mo_names.specs.Sights.{IsFound, IsReached, found_in, reached_seen};
 
 use crate::found::{Found, Reached};
@@ -105,4 +105,22 @@ pub fn find_first<'t>(
 {
     let met = first_at(alloc, s, at, top, name, place)?;
     taken(alloc, s, met.near, &met.found, place)
+}
+
+/// What the first identifier of a name finds as it is declared: a component need be no constant, and one that is declared
+/// `outer` stands for itself. Breaks what `find_first` breaks, but for 15 and 45.
+pub fn find_declared<'t>(
+    alloc: Global,
+    s: &mut Scopes<'t>,
+    at: &ScopeAt,
+    top: bool,
+    name: &Text,
+    place: Place,
+) -> Result<Found<'t>, Stop>
+    requires { IsFrame s.old at.now.frame.0 }
+    ensures grows { Grows s.old s.new }
+    ensures value { Gives (found_in (frames_of s.new)) result (first_declared (table_in s.old) top (scope_in (frames_of s.old) at.now.frame.0 at.now.iters) name.now place) }
+    ensures stand { IfOk result (IsFound s.new) }
+{
+    Ok(first_at(alloc, s, at, top, name, place)?.found)
 }

@@ -46,8 +46,8 @@ fn named_part<'t>(
     Ok(None)
 }
 
-/// The element of that name that the class of a frame declares itself.
-pub(crate) fn own_named<'t>(
+/// The first element of that name that the class of a frame declares itself, None where it declares none.
+pub fn own_named<'t>(
     s: &Scopes<'t>,
     frame: FrameId,
     name: &Text,

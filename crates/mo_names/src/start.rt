@@ -1,20 +1,20 @@
 //! Where the elements of a frame begin, and how bases are entered.
-ghost use Rattle.std.specs.Prelude.{◌≡◌, ◌∷◌, ◌++◌, [], Some, map, option_map, IfOk};
+ghost use Rattle.std.specs.Prelude.{◌≡◌, ◌∷◌, ◌++◌, [], Some, List as Seq, map, option_map, IfOk};
 ghost use Rattle.mo_scope.specs.Entries.{names_of as path_names, number_of};
-ghost use Rattle.mo_scope.specs.Frames.{In, at_of, class_of, gathered, outer_of, owner_of_base};
-ghost use Rattle.mo_scope.specs.Lookup.{last_place as place_of_last, leaf_checked as checked_leaf};
+ghost use Rattle.mo_scope.specs.Frames.{Frame, In, at_of, class_of, gathered, outer_of, owner_of_base};
+ghost use Rattle.mo_scope.specs.Lookup.{last_place as place_of_last, leaf_checked as checked_leaf, nothing_walked};
 ghost use Rattle.mo_scope.specs.Outcome.{Gives};
 ghost use Rattle.mo_scope.specs.Rows.{form_in, is_left_out as is_row_left_out, is_other_form, is_record, row_at};
 ghost use Rattle.mo_scope.specs.Sights.{clause_seen, row_seen, source_seen};
-ghost use Rattle.mo_scope.specs.Worlds.{AreFrames, Grows, IsFrame, IsFrameOrNone, frame_at, frame_or_top, frames_of, sources_in, table_in};
+ghost use Rattle.mo_scope.specs.Worlds.{AreFrames, Grows, IsFrame, IsFrameOrNone, World, frame_at, frame_in, frame_or_top, frames_of, sources_in, table_in};
 ghost use Rattle.mo_syntax.specs.declared.class.Body.{out-Body};
-ghost use Rattle.mo_names.specs.Sights.{IsWalk, walk_seen};
+ghost use Rattle.mo_names.specs.Sights.{IsLeaf, IsWalk, walk_seen};
 ghost use Rattle.mo_names.specs.Parts.{is_enumeration_form};
 ghost use Rattle.mo_names.specs.Steps.{entered_base, started as walk_started};
 
 use crate::stops::stop;
 use crate::walk::Walk;
-use mo_scope::{Clause, Row, Scopes, Source};
+use mo_scope::{Clause, Names, Row, Scopes, Source};
 use mo_syntax::{Body, ClassKind, FrameId, InstancePath, List, NoMemory, Part, Place, Stop, Text};
 use std::alloc::Global;
 
@@ -96,15 +96,19 @@ fn is_enumeration(body: &Body) -> bool
 }
 
 /// No elements and no bases.
-fn nothing<'t>(alloc: Global, leaf: Option<FrameId>) -> Walk<'t>
-    ensures { result ≡ record { members = []; bases = []; sections = []; leaf = leaf } }
+#[tactic(auto, using(crate::proofs::WalkNames::no_names))]
+fn nothing<'t>(alloc: Global, leaf: Option<FrameId>) -> Result<Walk<'t>, NoMemory>
+    ensures is { IfOk result (λ walk. (frames : Seq Frame) → walk_seen frames walk ≡ nothing_walked (option_map (λ frame. frame_in frames frame.0) leaf)) }
+    ensures stand { IfOk result (λ walk. (world : World) → IsLeaf world leaf → IsWalk world walk) }
 {
-    Walk {
+    let names = Box::new(alloc, Names::new(alloc))?;
+    Ok(Walk {
         members: List::new(alloc),
         bases: List::new(alloc),
         sections: List::new(alloc),
         leaf,
-    }
+        names,
+    })
 }
 
 /// What the elements of a frame begin with.
@@ -114,15 +118,15 @@ pub(crate) fn started<'t>(alloc: Global, s: &Scopes<'t>, frame: FrameId) -> Resu
     ensures stand { IfOk result (IsWalk s.now) }
 {
     match s.row(s.class_of(frame)) {
-        None => Ok(nothing(alloc, Some(frame))),
+        None => Ok(nothing(alloc, Some(frame))?),
         Some(row) => {
             if is_left_out(row) {
                 return Err(stop(34, row.class.place));
             }
             if is_enumeration(&row.class.body) {
-                return Ok(nothing(alloc, Some(frame)));
+                return Ok(nothing(alloc, Some(frame))?);
             }
-            Ok(nothing(alloc, None))
+            Ok(nothing(alloc, None)?)
         }
     }
 }

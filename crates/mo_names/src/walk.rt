@@ -1,5 +1,5 @@
 //! The elements of frames with the base frames on the way to them.
-use mo_scope::Member;
+use mo_scope::{Member, Names};
 use mo_syntax::{FrameId, List};
 
 /// An element with the base frames on the way to the frame whose class declares it, the innermost first.
@@ -19,4 +19,6 @@ pub struct Walk<'t> {
     pub bases: List<List<FrameId>>,
     pub sections: List<List<FrameId>>,
     pub leaf: Option<FrameId>,
+    /// The names of the elements. They are held apart, since walks inside one another stand on the stack.
+    pub(crate) names: Box<Names<'t>>,
 }

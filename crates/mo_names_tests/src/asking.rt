@@ -6,9 +6,10 @@ ghost use Rattle.mo_names.specs.Sights.{IsFound};
 use crate::frames::{NOWHERE, frame_named, scope_of};
 use crate::reading::reference;
 use crate::showing::{put_found, put_frame, put_members, put_sources, put_stop};
-use mo_names::{Child, child, elements, find, find_path};
+use mo_names::{Child, child, elements, find, find_declared, find_path, own_named};
 use mo_samples::tree;
 use mo_scope::{ScopeAt, Scopes};
+use mo_show::put;
 use mo_syntax::{ClassTree, FrameId, NoMemory, Reference, Stop, Text};
 use std::alloc::Global;
 
@@ -71,6 +72,44 @@ fn simple(
     simple_in(alloc, s, out, &at, name)
 }
 
+/// What a simple name finds in a scope, as it is declared.
+fn declared_in(
+    alloc: Global,
+    s: &mut Scopes,
+    out: &mut Vec<u8>,
+    at: &ScopeAt,
+    name: &Text,
+) -> Result<(), Stop>
+    requires { IsFrame s.old at.now.frame.0 }
+{
+    let found = find_declared(alloc, s, at, false, name, NOWHERE)?;
+    Ok(put_found(out, s, &found)?)
+}
+
+/// What a simple name finds in a frame, as it is declared.
+fn declared(
+    alloc: Global,
+    s: &mut Scopes,
+    out: &mut Vec<u8>,
+    frame: FrameId,
+    name: &Text,
+) -> Result<(), Stop>
+    requires { IsFrame s.old frame.0 }
+{
+    let at = scope_of(alloc, frame);
+    declared_in(alloc, s, out, &at, name)
+}
+
+/// The element of a name that the class of a frame declares itself.
+fn own(s: &Scopes, out: &mut Vec<u8>, frame: FrameId, name: &Text) -> Result<(), NoMemory>
+    requires { IsFrame s.now frame.0 }
+{
+    match own_named(s, frame, name)? {
+        Some(member) => put(out, member.name.as_str()),
+        None => put(out, "none"),
+    }
+}
+
 /// The class of a child's type, and its sources.
 fn put_child(out: &mut Vec<u8>, s: &Scopes, child: &Child) -> Result<(), NoMemory>
     requires { IsFrame s.now child.now.class.0 }
@@ -113,10 +152,11 @@ fn named(
     requires { IsFrame s.old frame.0 }
 {
     let name = Text::from_str(alloc, name)?;
-    if call == "child" {
-        child_of(alloc, s, out, frame, &name)
-    } else {
-        simple(alloc, s, out, frame, &name)
+    match call {
+        "child" => child_of(alloc, s, out, frame, &name),
+        "declared" => declared(alloc, s, out, frame, &name),
+        "own" => Ok(own(s, out, frame, &name)?),
+        _ => simple(alloc, s, out, frame, &name),
     }
 }
 

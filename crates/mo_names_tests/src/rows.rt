@@ -22,13 +22,13 @@ const INHERITED: [(&str, &str, &str, &str); 9] = [
         "y x ",
     ),
     (
-        "model C0 Real x = 1.0; end C0; model L1 extends C0; end L1; model R1 extends C0; end R1; model C1 extends L1; extends R1; end C1; model L2 extends C1; end L2; model R2 extends C1; end R2; model C2 extends L2; extends R2; end C2;",
-        "C2",
+        "model Top0 Real x = 1.0; end Top0; model Left1 extends Top0; end Left1; model Right1 extends Top0; end Right1; model Top1 extends Left1; extends Right1; end Top1; model Left2 extends Top1; end Left2; model Right2 extends Top1; end Right2; model Top2 extends Left2; extends Right2; end Top2;",
+        "Top2",
         "elements",
         "x ",
     ),
     (
-        "model C0 Real x = 1.0; end C0; model L extends C0(x=2.0); end L; model R extends C0; end R; model M extends L; extends R; end M;",
+        "model Up Real x = 1.0; end Up; model Left extends Up(x=2.0); end Left; model Right extends Up; end Right; model M extends Left; extends Right; end M;",
         "M",
         "elements",
         "rule 19 at 1:15",
@@ -120,7 +120,7 @@ const TYPES: [(&str, &str, &str, &str); 10] = [
 ];
 
 /// Names in expressions.
-const FOUND: [(&str, &str, &str, &str); 10] = [
+const FOUND: [(&str, &str, &str, &str); 13] = [
     ("model M Real x; end M;", "M", "find x", "x of M"),
     (
         "model M Real x; end M;",
@@ -139,6 +139,24 @@ const FOUND: [(&str, &str, &str, &str); 10] = [
         "P M",
         "find c",
         "rule 15 at nowhere",
+    ),
+    (
+        "model P Real c; model M Real x; end M; end P;",
+        "P M",
+        "declared c",
+        "c of P",
+    ),
+    (
+        "model A extends B; Real x; end A; model B Real y; end B;",
+        "A",
+        "own x",
+        "x",
+    ),
+    (
+        "model A extends B; Real x; end A; model B Real y; end B;",
+        "A",
+        "own y",
+        "none",
     ),
     ("model M Real x; end M;", "M", "find time", "time"),
     ("model M Real x; end M;", "M", "find sin", "function"),
@@ -284,12 +302,18 @@ const REDECLARED: [(&str, &str, &str, &str); 5] = [
 ];
 
 /// Outer components (section 5.4).
-const OUTER: [(&str, &str, &str, &str); 4] = [
+const OUTER: [(&str, &str, &str, &str); 6] = [
     (
         "model World Real g; end World; model Body outer World w; Real f; end Body; model M inner World w; Body b; end M;",
         "M /b",
         "find w",
         "w of M",
+    ),
+    (
+        "model World Real g; end World; model Body outer World w; Real f; end Body; model M inner World w; Body b; end M;",
+        "M /b",
+        "declared w",
+        "w of Body",
     ),
     (
         "model World Real g; end World; model Body outer World w; Real f; end Body; model M inner World w; Body b; end M;",
@@ -302,6 +326,12 @@ const OUTER: [(&str, &str, &str, &str); 4] = [
         "M /b",
         "find w",
         "rule 45 at 1:55",
+    ),
+    (
+        "model World Real g; end World; model Body outer World w; Real f; end Body; model M Body b; end M;",
+        "M /b",
+        "declared w",
+        "w of Body",
     ),
     (
         "model World Real g; end World; model Body outer World w; model In Real x; end In; end Body; model M inner World w; Body b; end M;",
