@@ -19,7 +19,8 @@ use Rattle.mo_typing.specs.Subscripts.{subscripts}
 use Rattle.mo_eval.specs.References.{Named, Components, Found_at, handed_in, named}
 use Rattle.mo_equations.specs.Leaves.{Tree, variables_of}
 use Rattle.mo_equations.specs.Connectors.{leaves_below}
-use Rattle.mo_equations.specs.Ends.{Selected, end_of, end_with, first_identifier, leaves_of, no_connector, selected_from, side_of, unless_removed, with_parts}
+use Rattle.mo_eval.specs.Ends.{Selected, first_identifier, selected_from, unless_removed, with_parts}
+use Rattle.mo_equations.specs.Ends.{end_of, end_with, leaves_of, no_connector, side_of}
 use Rattle.mo_equations.proofs.Below.{IsLeafOf, leaf_below, leaves_are_distinct}
 use Rattle.mo_equations.proofs.Numbers.{Among}
 

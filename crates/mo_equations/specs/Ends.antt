@@ -2,18 +2,17 @@
 --
 -- An end is judged as it is written, from the class that holds the connect. Its leaves are those of the components that it names: where it
 -- names an outer one, those of the inner one.
-use Rattle.std.specs.Prelude.{Bool, true, false, ◌&&◌, List, [], ◌∷◌, map, Option, Some, None, Ok, Err, option_map, if◌then◌else◌, nat_eq}
+use Rattle.std.specs.Prelude.{Bool, true, false, ◌&&◌, List, [], ◌∷◌, map, Option, Some, None, Ok, Err, if◌then◌else◌}
 use Rattle.mo_syntax.specs.declared.expr.Expr.{Expr}
 use Rattle.mo_syntax.specs.declared.expr.PartOf.{PartOf}
 use Rattle.mo_syntax.specs.declared.expr.ReferenceOf.{ReferenceOf}
-use Rattle.mo_syntax.specs.declared.place.Broken.{Broken}
 use Rattle.mo_syntax.specs.declared.place.Place.{Place}
 use Rattle.mo_flat.specs.declared.connect.Connect.{Connect}
 use Rattle.mo_flat.specs.declared.connect.End.{End}
 use Rattle.mo_flat.specs.declared.connect.EndLeaf.{EndLeaf}
 use Rattle.mo_flat.specs.declared.connect.Side.{Side}
 use Rattle.mo_flat.specs.declared.connect.Side.TheVariants.{Inside, Outside, Neither}
-use Rattle.mo_scope.specs.Outcome.{Outcome, and_then, breach, breaks}
+use Rattle.mo_scope.specs.Outcome.{Outcome, and_then, breaks}
 use Rattle.mo_scope.specs.Rows.{Table, is_class}
 use Rattle.mo_scope.specs.Frames.{Indexed, Scope, Member, at_of, class_of}
 use Rattle.mo_scope.specs.Lookup.{Found, Component, Reached, Element, asking_of, found_first, reached}
@@ -21,19 +20,10 @@ use Rattle.mo_scope.specs.Names.{child_of_member, component_frame, path_below}
 use Rattle.mo_typing.specs.Outcome.{each}
 use Rattle.mo_typing.specs.Indices.{Index}
 use Rattle.mo_typing.specs.Subscripts.{subscripts}
-use Rattle.mo_eval.specs.Virtuals.{Reading}
-use Rattle.mo_eval.specs.Contexts.{Part}
-use Rattle.mo_eval.specs.References.{Named, Components, Selection, named, selections, elements_selected, handed_in, last_of}
-use Rattle.mo_eval.specs.Components.{reader}
-use Rattle.mo_eval.specs.Resolving.{made}
-use Rattle.mo_eval.specs.Values.{most_references, reading}
+use Rattle.mo_eval.specs.References.{Named, Components, named, handed_in, last_of}
+use Rattle.mo_eval.specs.Ends.{Selected, first_identifier, selected_from, unless_removed, with_parts}
 use Rattle.mo_equations.specs.Leaves.{Tree}
 use Rattle.mo_equations.specs.Connectors.{is_connector_class, leaves_below}
-
--- the place of a name is that of its first identifier
-abbrev pub first_identifier : {E : Type 0} → List (PartOf E) → Place
-first_identifier [] = record { file = 0; byte = 0 }
-first_identifier (part ∷ parts) = part.place
 
 -- ---- inside and outside
 
@@ -86,52 +76,6 @@ side_of table scope reference =
     side_in : Outcome (List Bool) → Side
     side_in (Ok connectors) = side_by connectors
     side_in (Err broken) = Neither
-
--- ---- components that their conditions remove
-
--- Reading an end stops at a component that is removed. The mark of it is no rule: none has this number.
-abbrev pub removed : Broken
-removed = breach 0 (record { file = 0; byte = 0 })
-
-abbrev pub or_removed : Bool → Outcome Bool
-or_removed true = Ok true
-or_removed false = Err removed
-
-abbrev pub reading_of_end : Reading → Reading
-reading_of_end reading = record {
-  is_there = λ member. and_then (reading.is_there member) or_removed;
-  dims = reading.dims;
-  value = reading.value;
-}
-
--- None where a component is removed
-abbrev pub unless_removed : {A : Type 0} → Outcome A → Outcome (Option A)
-unless_removed (Ok a) = Ok (Some a)
-unless_removed (Err broken) = if nat_eq broken.rule 0 then Ok None else Err broken
-
--- ---- what an end selects
-
--- a name with its subscripts, each with how it is resolved
-abbrev pub with_parts : Table → Scope → ReferenceOf Expr → ReferenceOf Part
-with_parts table scope reference = record { top = reference.top; parts = map part_of reference.parts }
-  where
-    resolving : Expr → Part
-    resolving e = (e, made table (reading table most_references) scope e)
-
-    part_of : PartOf Expr → PartOf Part
-    part_of part = record { name = part.name; place = part.place; subs = map (option_map resolving) part.subs }
-
--- The dimensions and subscripts of an end, and the elements that it selects.
-pub record Selected : Type 0 where
-  pub chosen : List Selection
-  pub elements : List (Member × Index)
-
-abbrev pub selected_from : Table → Place → Member × PartOf Part → List (Member × PartOf Part) → Outcome Selected
-selected_from table place first others =
-    and_then (reading table most_references place) (λ read.
-    and_then (selections table (reading_of_end read) (reader (reading table most_references)) (Some first.0) (first ∷ others)) (λ chosen.
-    and_then (elements_selected table (reading_of_end read) place first.0 chosen) (λ elements.
-    Ok (record { chosen = chosen; elements = elements }))))
 
 -- ---- ends
 

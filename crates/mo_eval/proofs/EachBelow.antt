@@ -1,5 +1,5 @@
 -- The elements that are selected below a component, index by index.
-use Rattle.std.proofs.Common.{◌≡◌, ℕ, ◌+◌, ◌-◌, ◌<◌, ◌≤◌, List, [], ◌∷◌, ◌++◌, length, drop, take, get_or, map, Result, Ok, Err, refl, ap, sym, ◌∙◌, append_assoc, arith}
+use Rattle.std.proofs.Common.{◌≡◌, ℕ, ◌+◌, ◌-◌, ◌<◌, ◌≤◌, List, [], ◌∷◌, ◌++◌, length, drop, take, get_or, map, Ok, Err, refl, ap, sym, ◌∙◌, arith}
 use Rattle.std.proofs.lemmas.List.{append-nil, drop_all, drop_more, map-append}
 use Rattle.mo_syntax.specs.declared.place.Place.{Place}
 use Rattle.mo_syntax.specs.declared.place.Stop.{Stop}
@@ -19,7 +19,8 @@ use Rattle.mo_eval.specs.Components.{reading_by}
 use Rattle.mo_eval.specs.Values.{reading}
 use Rattle.mo_eval.specs.Virtuals.{Reading}
 use Rattle.mo_eval.specs.References.{Selection, agrees, component_behind, elements_below, selected}
-use Rattle.mo_eval.specs.steps.Selecting.{each_below, elements_more, elements_seen, reading_at, selection_seen, selections_seen}
+use Rattle.mo_eval.specs.steps.Absence.{Removal, reading_for}
+use Rattle.mo_eval.specs.steps.Selecting.{each_below, elements_more, elements_seen, reading_in, selection_seen, selections_seen}
 use Rattle.mo_eval.proofs.Along.{rest_of}
 use Rattle.mo_eval.proofs.Chosen.{below_by, each_step, first_of}
 use Rattle.mo_eval.proofs.Earlier.{elements_later, of_member, seen_as, seen_halt}
@@ -101,18 +102,18 @@ module _ (table : Table) (reading : Reading) (place : Place) (member : Member) (
   below_agreed h = below_opened ∙ rw h refl
 
 -- in a later world
-pub each_earlier : (u v : World) → Grows u v → (deeper : ℕ) (place : Place) (m : MemberAt) → IsMember u m → (made : List (MemberAt × Index)) → Every (λ element. IsMember u element.0) made → (others : List Selection) (indices : List Index) →
-    elements_more (elements_seen (frames_of v) made) (each_below (table_in v) (reading_at v deeper) place (member_of (frames_of v) m) others indices)
-    ≡ elements_more (elements_seen (frames_of u) made) (each_below (table_in u) (reading_at u deeper) place (member_of (frames_of u) m) others indices)
-each_earlier u v g deeper place m is made are others indices =
-    ap (λ before. elements_more before (each_below (table_in v) (reading_at v deeper) place (member_of (frames_of v) m) others indices)) (elements_later u v g made are)
-    ∙ of_member (λ table member. elements_more (elements_seen (frames_of u) made) (each_below table (reading_by table (reading table deeper)) place member others indices)) u v g m is
+pub each_earlier : (u v : World) → Grows u v → (asking : Removal) (deeper : ℕ) (place : Place) (m : MemberAt) → IsMember u m → (made : List (MemberAt × Index)) → Every (λ element. IsMember u element.0) made → (others : List Selection) (indices : List Index) →
+    elements_more (elements_seen (frames_of v) made) (each_below (table_in v) (reading_in asking v deeper) place (member_of (frames_of v) m) others indices)
+    ≡ elements_more (elements_seen (frames_of u) made) (each_below (table_in u) (reading_in asking u deeper) place (member_of (frames_of u) m) others indices)
+each_earlier u v g asking deeper place m is made are others indices =
+    ap (λ before. elements_more before (each_below (table_in v) (reading_in asking v deeper) place (member_of (frames_of v) m) others indices)) (elements_later u v g made are)
+    ∙ of_member (λ table member. elements_more (elements_seen (frames_of u) made) (each_below table (reading_for asking (reading_by table (reading table deeper))) place member others indices)) u v g m is
 
 -- ---- behind each of the indices
 
-module _ (u now : World) (g : Grows u now) (deeper : ℕ) (place : Place) (m : MemberAt) (is_there : IsMember u m) (chosen : List SelectionAt) (next : SelectionAt) (some : 0 < length chosen) (is_next : next ≡ get_or chosen 0 next)
+module _ (u now : World) (g : Grows u now) (asking : Removal) (deeper : ℕ) (place : Place) (m : MemberAt) (is_there : IsMember u m) (chosen : List SelectionAt) (next : SelectionAt) (some : 0 < length chosen) (is_next : next ≡ get_or chosen 0 next)
     (indices : List Index) (i : ℕ) (made : List (MemberAt × Index)) (are : Every (λ element. IsMember now element.0) made) (whole : Outcome (List (Member × Index)))
-    (left : elements_more (elements_seen (frames_of now) made) (each_below (table_in u) (reading_at u deeper) place (member_of (frames_of u) m) (selections_seen chosen) (drop i indices)) ≡ whole) where
+    (left : elements_more (elements_seen (frames_of now) made) (each_below (table_in u) (reading_in asking u deeper) place (member_of (frames_of u) m) (selections_seen chosen) (drop i indices)) ≡ whole) where
   abbrev here : Member
   here = member_of (frames_of u) m
 
@@ -125,11 +126,11 @@ module _ (u now : World) (g : Grows u now) (deeper : ℕ) (place : Place) (m : M
   abbrev before : List (Member × Index)
   before = elements_seen (frames_of now) made
 
-  left_opened : elements_more before (each_below (table_in u) (reading_at u deeper) place here (first ∷ others) (drop i indices)) ≡ whole
-  left_opened = ap (λ xs. elements_more before (each_below (table_in u) (reading_at u deeper) place here (selections_seen xs) (drop i indices))) (sym (first_of chosen next some is_next)) ∙ left
+  left_opened : elements_more before (each_below (table_in u) (reading_in asking u deeper) place here (first ∷ others) (drop i indices)) ≡ whole
+  left_opened = ap (λ xs. elements_more before (each_below (table_in u) (reading_in asking u deeper) place here (selections_seen xs) (drop i indices))) (sym (first_of chosen next some is_next)) ∙ left
 
   pub each_done : length indices ≤ i → whole ≡ Ok before
-  each_done all = each_end (table_in u) (reading_at u deeper) place here first others before indices i whole left_opened all
+  each_done all = each_end (table_in u) (reading_in asking u deeper) place here first others before indices i whole left_opened all
 
   module _ (index : Index) (small : i < length indices) (is_index : index ≡ get_or indices i index) where
     part_earlier : component_behind (table_in now) next.place (member_of (frames_of now) m) index next.name.now ≡ component_behind (table_in u) next.place here index next.name.now
@@ -138,29 +139,29 @@ module _ (u now : World) (g : Grows u now) (deeper : ℕ) (place : Place) (m : M
     pub no_part : {T : Type 0} (view : T → Member) (stop : Stop) → GivesSeen {T = T} view (Err stop) (component_behind (table_in now) next.place (member_of (frames_of now) m) index next.name.now) →
         Gives {T = List (Member × Index)} (Err stop) whole
     no_part view stop told =
-        part_halts (table_in u) (reading_at u deeper) place here first others before indices i whole left_opened view index stop small is_index (seen_as view (Err stop) _ _ part_earlier told)
+        part_halts (table_in u) (reading_in asking u deeper) place here first others before indices i whole left_opened view index stop small is_index (seen_as view (Err stop) _ _ part_earlier told)
 
     module _ (v : World) (h : Grows now v) (part : Member) (found : component_behind (table_in now) next.place (member_of (frames_of now) m) index next.name.now ≡ Ok part) where
-      below_earlier : elements_more (elements_seen (frames_of v) made) (elements_below (table_in v) (reading_at v deeper) place part (selections_seen chosen))
-          ≡ elements_more before (elements_below (table_in u) (reading_at u deeper) place part (first ∷ others))
+      below_earlier : elements_more (elements_seen (frames_of v) made) (elements_below (table_in v) (reading_in asking v deeper) place part (selections_seen chosen))
+          ≡ elements_more before (elements_below (table_in u) (reading_in asking u deeper) place part (first ∷ others))
       below_earlier =
-          ap (λ before. elements_more before (elements_below (table_in v) (reading_at v deeper) place part (selections_seen chosen))) (elements_later now v h made are)
-          ∙ (ap (λ table. elements_more before (elements_below table (reading_by table (reading table deeper)) place part (selections_seen chosen))) (table_later u v (grows_trans u now v g h))
-          ∙ ap (λ xs. elements_more before (elements_below (table_in u) (reading_at u deeper) place part (selections_seen xs))) (first_of chosen next some is_next))
+          ap (λ before. elements_more before (elements_below (table_in v) (reading_in asking v deeper) place part (selections_seen chosen))) (elements_later now v h made are)
+          ∙ (ap (λ table. elements_more before (elements_below table (reading_for asking (reading_by table (reading table deeper))) place part (selections_seen chosen))) (table_later u v (grows_trans u now v g h))
+          ∙ ap (λ xs. elements_more before (elements_below (table_in u) (reading_in asking u deeper) place part (selections_seen xs))) (first_of chosen next some is_next))
 
       pub nothing_below : {T : Type 0} (view : T → List (Member × Index)) (stop : Stop) →
-          GivesSeen {T = T} view (Err stop) (elements_more (elements_seen (frames_of v) made) (elements_below (table_in v) (reading_at v deeper) place part (selections_seen chosen))) →
+          GivesSeen {T = T} view (Err stop) (elements_more (elements_seen (frames_of v) made) (elements_below (table_in v) (reading_in asking v deeper) place part (selections_seen chosen))) →
           Gives {T = List (Member × Index)} (Err stop) whole
       nothing_below view stop told =
-          below_halts (table_in u) (reading_at u deeper) place here first others before indices i whole left_opened index part stop small is_index (sym part_earlier ∙ found)
+          below_halts (table_in u) (reading_in asking u deeper) place here first others before indices i whole left_opened index part stop small is_index (sym part_earlier ∙ found)
           (seen_halt view stop _ (seen_as view (Err stop) _ _ below_earlier told))
 
       pub all_below : (after : List (Member × Index)) →
-          elements_more (elements_seen (frames_of v) made) (elements_below (table_in v) (reading_at v deeper) place part (selections_seen chosen)) ≡ Ok after →
-          elements_more after (each_below (table_in u) (reading_at u deeper) place here (selections_seen chosen) (drop (i + 1) indices)) ≡ whole
+          elements_more (elements_seen (frames_of v) made) (elements_below (table_in v) (reading_in asking v deeper) place part (selections_seen chosen)) ≡ Ok after →
+          elements_more after (each_below (table_in u) (reading_in asking u deeper) place here (selections_seen chosen) (drop (i + 1) indices)) ≡ whole
       all_below after told =
-          ap (λ xs. elements_more after (each_below (table_in u) (reading_at u deeper) place here (selections_seen xs) (drop (i + 1) indices))) (first_of chosen next some is_next)
-          ∙ each_more (table_in u) (reading_at u deeper) place here first others before indices i whole left_opened index part after small is_index (sym part_earlier ∙ found) (sym below_earlier ∙ told)
+          ap (λ xs. elements_more after (each_below (table_in u) (reading_in asking u deeper) place here (selections_seen xs) (drop (i + 1) indices))) (first_of chosen next some is_next)
+          ∙ each_more (table_in u) (reading_in asking u deeper) place here first others before indices i whole left_opened index part after small is_index (sym part_earlier ∙ found) (sym below_earlier ∙ told)
 
 -- ---- the elements themselves
 

@@ -1,5 +1,5 @@
 -- Frames that are only added leave components and virtual variables as they are.
-use Rattle.std.proofs.Common.{◌≡◌, ℕ, zero, suc, ◌+◌, ◌<◌, List, [], ◌∷◌, ◌++◌, length, Some, refl, ap, sym, ◌∙◌, append_assoc, length-append, arith}
+use Rattle.std.proofs.Common.{◌≡◌, ℕ, zero, suc, ◌+◌, ◌<◌, Bool, List, [], ◌∷◌, ◌++◌, length, Some, Ok, refl, ap, sym, ◌∙◌, append_assoc, length-append, arith}
 use Rattle.std.specs.Prelude.{slice_get}
 use Rattle.std.proofs.lemmas.List.{append-nil}
 use Rattle.mo_scope.specs.Frames.{Frame}
@@ -8,17 +8,21 @@ use Rattle.mo_scope.specs.Sights.{member_seen}
 use Rattle.mo_scope.specs.Worlds.{World, Grows, IsFrame, frames_of, table_in}
 use Rattle.mo_scope.specs.declared.row.Member.{Member as MemberAt}
 use Rattle.mo_scope.proofs.Numbered.{frames_stay}
-use Rattle.mo_names.specs.Sights.{IsMember}
-use Rattle.mo_names.proofs.Later.{is_member_later}
+use Rattle.mo_names.specs.Sights.{IsMember, member_of}
+use Rattle.mo_names.proofs.Later.{is_member_later, member_later}
+use Rattle.mo_typing.specs.Dims.{Dims}
+use Rattle.mo_eval.specs.Scalars.{Known}
 use Rattle.mo_eval.specs.declared.virtuals.Element.{Element as ElementAt}
 use Rattle.mo_eval.specs.declared.virtuals.Virtual.{Virtual as VirtualAt}
 use Rattle.mo_eval.specs.declared.virtuals.Virtual.TheVariants.{Component, Division as division_at}
 use Rattle.mo_eval.specs.Virtuals.{Component_element, Division}
+use Rattle.mo_eval.specs.declared.reader.KeptDims.{KeptDims}
+use Rattle.mo_eval.specs.declared.reader.KeptThere.{KeptThere}
 use Rattle.mo_eval.specs.declared.reader.KeptValue.{KeptValue}
 use Rattle.mo_eval.specs.declared.reader.Reader.{Reader}
-use Rattle.mo_eval.specs.Values.{value_of_element}
+use Rattle.mo_eval.specs.Values.{component_dims, there_of, value_of_element}
 use Rattle.mo_eval.specs.Seen.{AreThere, element_seen, virtuals_seen}
-use Rattle.mo_eval.specs.Keeping.{IsKept, IsValueKept}
+use Rattle.mo_eval.specs.Keeping.{AreDimsKept, IsKept, IsThereKept, IsValueKept}
 
 pub grows_still : (world : World) → Grows world world
 grows_still world = record { files = refl; more = []; entries = sym (append-nil world.entries) }
@@ -74,13 +78,47 @@ same_virtuals old new grows virtuals are = virtuals_alike (frames_of new) (frame
 pub there_still : (old new : World) → Grows old new → (virtuals : List VirtualAt) → AreThere old virtuals → AreThere new virtuals
 there_still old new grows virtuals are = record { each = λ k element at. member_still old new grows element.member (are.each k element at) }
 
+-- what elements and components have
+pub value_still : (old new : World) → Grows old new → (left : ℕ) (element : ElementAt) → IsMember old element.member → (known : Known) →
+    value_of_element (table_in old) left (element_seen (frames_of old) element) ≡ Ok known → value_of_element (table_in new) left (element_seen (frames_of new) element) ≡ Ok known
+value_still old new grows left element is known told =
+    ap (λ element. value_of_element (table_in new) left element) (same_element old new grows element is)
+    ∙ (ap (λ table. value_of_element table left (element_seen (frames_of old) element)) (same_table old new grows) ∙ told)
+
+pub is_there_still : (old new : World) → Grows old new → (left : ℕ) (member : MemberAt) → IsMember old member → (there : Bool) →
+    there_of (table_in old) left (member_of (frames_of old) member) ≡ Ok there → there_of (table_in new) left (member_of (frames_of new) member) ≡ Ok there
+is_there_still old new grows left member is there told =
+    ap (λ member. there_of (table_in new) left member) (member_later old new member grows is)
+    ∙ (ap (λ table. there_of table left (member_of (frames_of old) member)) (same_table old new grows) ∙ told)
+
+pub dims_still : (old new : World) → Grows old new → (left : ℕ) (member : MemberAt) → IsMember old member → (dims : Dims) →
+    component_dims (table_in old) left (member_of (frames_of old) member) ≡ Ok dims → component_dims (table_in new) left (member_of (frames_of new) member) ≡ Ok dims
+dims_still old new grows left member is dims told =
+    ap (λ member. component_dims (table_in new) left member) (member_later old new member grows is)
+    ∙ (ap (λ table. component_dims table left (member_of (frames_of old) member)) (same_table old new grows) ∙ told)
+
 -- what a reader keeps
 pub kept_still : (old new : World) → Grows old new → (reader : Reader) → IsKept old reader → IsKept new reader
-kept_still old new grows reader is = record { values = λ k kept at. value_still kept (is.values k kept at) }
+kept_still old new grows reader is = record {
+  values = λ k kept at. value_kept_still kept (is.values k kept at);
+  conditions = λ k kept at. there_kept_still kept (is.conditions k kept at);
+  dims = λ k kept at. dims_kept_still kept (is.dims k kept at);
+}
   where
-    value_still : (kept : KeptValue) → IsValueKept old kept → IsValueKept new kept
-    value_still kept one = record {
+    value_kept_still : (kept : KeptValue) → IsValueKept old kept → IsValueKept new kept
+    value_kept_still kept one = record {
       member = member_still old new grows kept.element.member one.member;
-      is = ap (λ element. value_of_element (table_in new) kept.height element) (same_element old new grows kept.element one.member)
-          ∙ (ap (λ table. value_of_element table kept.height (element_seen (frames_of old) kept.element)) (same_table old new grows) ∙ one.is);
+      is = value_still old new grows kept.height kept.element one.member kept.known one.is;
+    }
+
+    there_kept_still : (kept : KeptThere) → IsThereKept old kept → IsThereKept new kept
+    there_kept_still kept one = record {
+      member = member_still old new grows kept.member one.member;
+      is = is_there_still old new grows kept.left kept.member one.member kept.there one.is;
+    }
+
+    dims_kept_still : (kept : KeptDims) → AreDimsKept old kept → AreDimsKept new kept
+    dims_kept_still kept one = record {
+      member = member_still old new grows kept.member one.member;
+      are = dims_still old new grows kept.left kept.member one.member kept.dims one.are;
     }

@@ -28,3 +28,6 @@ pub mod EachBelow
 pub mod Along
 pub mod Putting
 pub mod Referring
+pub mod Remembered
+pub mod Removing
+pub mod Ending

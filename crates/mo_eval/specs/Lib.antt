@@ -13,5 +13,6 @@ pub mod Calls
 pub mod Resolving
 pub mod Components
 pub mod Values
+pub mod Ends
 pub mod Heights
 pub mod Keeping

@@ -1,5 +1,6 @@
 -- What virtual variables of the code are as data, where frames have these numbers, and when their components exist.
 use Rattle.std.specs.Prelude.{◌≡◌, ℕ, List, Some, map, slice_get}
+use Rattle.mo_flat.specs.declared.array.ArrayExpr.{ArrayExpr}
 use Rattle.mo_scope.specs.Frames.{Frame}
 use Rattle.mo_scope.specs.Worlds.{World, member_in}
 use Rattle.mo_scope.specs.Sights.{member_seen}
@@ -8,6 +9,7 @@ use Rattle.mo_eval.specs.declared.virtuals.Element.{Element as ElementAt}
 use Rattle.mo_eval.specs.declared.virtuals.Virtual.{Virtual as VirtualAt}
 use Rattle.mo_eval.specs.declared.virtuals.Virtual.TheVariants.{Component, Division as division_at}
 use Rattle.mo_eval.specs.declared.virtuals.Resolved.{Resolved as ResolvedAt}
+use Rattle.mo_eval.specs.declared.virtuals.Sides.{Sides as SidesAt}
 use Rattle.mo_eval.specs.Virtuals.{Element, Virtual, Component_element, Division, Resolved}
 
 abbrev pub element_seen : List Frame → ElementAt → Element
@@ -28,6 +30,9 @@ virtuals_seen frames virtuals = map (virtual_seen frames) virtuals
 
 abbrev pub resolved_seen : List Frame → ResolvedAt → Resolved
 resolved_seen frames resolved = record { expression = resolved.expression; virtuals = virtuals_seen frames resolved.virtuals }
+
+abbrev pub sides_seen : List Frame → SidesAt → (ArrayExpr × ArrayExpr) × List Virtual
+sides_seen frames sides = ((sides.left, sides.right), virtuals_seen frames sides.virtuals)
 
 -- the components of virtual variables exist
 pub record AreThere (world : World) (virtuals : List VirtualAt) : Type 0 where

@@ -2,9 +2,10 @@
 --
 -- The number `left` tells how many references may still be read, one within the other: 256 at first. A reference is read while its
 -- conditions, its dimensions and its value are.
-use Rattle.std.specs.Prelude.{ℕ, zero, suc, Bool, Ok}
+use Rattle.std.specs.Prelude.{ℕ, zero, suc, Bool, List, [], Ok}
 use Rattle.mo_syntax.specs.declared.expr.Expr.{Expr}
 use Rattle.mo_syntax.specs.declared.meaning.Kind.{Kind}
+use Rattle.mo_flat.specs.declared.array.ArrayExpr.{ArrayExpr}
 use Rattle.mo_scope.specs.Rows.{Table}
 use Rattle.mo_scope.specs.Frames.{Scope, Member}
 use Rattle.mo_typing.specs.Outcome.{Outcome, and_then, breaks}
@@ -13,10 +14,10 @@ use Rattle.mo_typing.specs.Kinds.{kind_of}
 use Rattle.mo_typing.specs.Indices.{Index}
 use Rattle.mo_eval.specs.declared.value.Value.{Value}
 use Rattle.mo_eval.specs.Scalars.{Known, if_it_has, value_with}
-use Rattle.mo_eval.specs.Virtuals.{Element, Ask, Resolved}
+use Rattle.mo_eval.specs.Virtuals.{Element, Virtual, Ask, Resolved, make, make_then}
 use Rattle.mo_eval.specs.Walk.{known_at}
 use Rattle.mo_eval.specs.Contexts.{for_value, for_flat, layered, any_kind}
-use Rattle.mo_eval.specs.Resolving.{resolved_in}
+use Rattle.mo_eval.specs.Resolving.{made, resolved_in}
 use Rattle.mo_eval.specs.Components.{place_of, reader, fitted, reading_by, is_there, dims_of_component, element_value}
 
 -- What a reference may ask for: where no more references may be read, rule 29 is broken at it.
@@ -34,6 +35,13 @@ resolved table left scope e = resolved_in table (reading table left) scope for_f
 -- an expression that is read for its value
 abbrev pub resolved_for_value : Table → ℕ → Scope → Expr → Outcome Resolved
 resolved_for_value table left scope e = resolved_in table (reading table left) scope for_value e
+
+-- two sides of an equation of the flat model, resolved over one list of variables, the left one first
+abbrev pub sides_of : Table → Scope → Expr → Expr → Outcome ((ArrayExpr × ArrayExpr) × List Virtual)
+sides_of table scope left right =
+    make_then (made table (reading table most_references) scope left for_flat) (λ first.
+    make_then (made table (reading table most_references) scope right for_flat) (λ second. make (first, second)))
+    []
 
 -- what is known of a resolved expression at an index
 abbrev pub known_of : Table → ℕ → Resolved → Index → Outcome Known

@@ -8,6 +8,8 @@ pub mod Dividing
 pub mod Types
 pub mod Sizing
 pub mod Naming
+pub mod Absence
 pub mod Selecting
 pub mod Measuring
 pub mod Spelling
+pub mod Ending

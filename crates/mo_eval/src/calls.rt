@@ -8,6 +8,7 @@ ghost use Rattle.mo_tables.specs.declared.functions.TheConstants.{DIV, IDENTITY,
 ghost use Rattle.mo_scope.specs.Worlds.{World, Grows, IsFrame, frames_of, table_in};
 ghost use Rattle.mo_typing.specs.Kinds.{is_among};
 ghost use Rattle.mo_typing.specs.Outcome.{Outcome, and_then, Gives};
+ghost use Rattle.mo_eval.specs.Keeping.{IsKept};
 ghost use Rattle.mo_eval.specs.declared.virtuals.Virtual.{Virtual as VirtualAt};
 ghost use Rattle.mo_eval.specs.Virtuals.{Ask, Virtual as VirtualSeen};
 ghost use Rattle.mo_eval.specs.Contexts.{Part as PartOf, argument_of_size};
@@ -23,6 +24,7 @@ use crate::division::{Called, division};
 use crate::layers::answer;
 use crate::making::{derivative_of, takes};
 use crate::operations::broken;
+use crate::reader::Reader;
 use crate::resolve::{Site, operand, resolve};
 use crate::virtuals::Virtual;
 use mo_flat::{ArrayExpr, ArrayNode};
@@ -34,7 +36,7 @@ use std::alloc::Global;
 /// All arguments, which are expressions.
 #[cycle(resolving)]
 pub(crate) fn arguments<'t>(
-    alloc: Global,
+    reader: &mut Reader<'t>,
     s: &mut Scopes<'t>,
     site: &Site,
     args: &[Arg],
@@ -42,16 +44,18 @@ pub(crate) fn arguments<'t>(
 ) -> Result<List<ArrayExpr>, Stop>
     requires frame { IsFrame s.old site.now.at.now.frame.0 }
     requires there { AreThere s.old virtuals.old }
+    requires kept { IsKept s.old reader.old }
     ensures grows { Grows s.old s.new }
+    ensures kept { IsKept s.new reader.new }
     ensures there { AreThere s.new virtuals.new }
     ensures exact { (parts : Seq PartOf) → plain_in s.old site.now args.now ≡ Some parts → IsMade s.new result virtuals.new (make_arguments site.now.context parts (virtuals_seen (frames_of s.old) virtuals.old)) }
 {
-    let mut made = List::new(alloc);
+    let mut made = List::new(reader.alloc);
     for arg in args {
         let Arg::Value(e) = arg else {
             return Err(Stop::NoMemory);
         };
-        let one = operand(alloc, s, site, e, virtuals)?;
+        let one = operand(reader, s, site, e, virtuals)?;
         made.push(one)?;
     }
     Ok(made)
@@ -60,21 +64,23 @@ pub(crate) fn arguments<'t>(
 /// The sizes that `fill`, `zeros`, `ones` and `identity` are given.
 #[cycle(resolving)]
 fn sizes<'t>(
-    alloc: Global,
+    reader: &mut Reader<'t>,
     s: &mut Scopes<'t>,
     site: &Site,
     args: &[Arg],
 ) -> Result<List<(Place, i64)>, Stop>
     requires frame { IsFrame s.old site.now.at.now.frame.0 }
+    requires kept { IsKept s.old reader.old }
     ensures grows { Grows s.old s.new }
+    ensures kept { IsKept s.new reader.new }
     ensures exact { (parts : Seq PartOf) → plain_in s.old site.now args.now ≡ Some parts → Gives result (read_sizes (elements_in s.old site.now.left) site.now.context parts) }
 {
-    let mut made = List::new(alloc);
+    let mut made = List::new(reader.alloc);
     for arg in args {
         let Arg::Value(e) = arg else {
             return Err(Stop::NoMemory);
         };
-        let one = read_size(alloc, s, site, e)?;
+        let one = read_size(reader, s, site, e)?;
         made.push(one)?;
     }
     Ok(made)
@@ -109,7 +115,7 @@ fn lone(args: &[Arg]) -> Option<&Expr>
 /// The argument of `size` or `ndims`.
 #[cycle(resolving)]
 fn array<'t>(
-    alloc: Global,
+    reader: &mut Reader<'t>,
     s: &mut Scopes<'t>,
     site: &Site,
     e: &Expr,
@@ -117,7 +123,9 @@ fn array<'t>(
 ) -> Result<ArrayExpr, Stop>
     requires frame { IsFrame s.old site.now.at.now.frame.0 }
     requires there { AreThere s.old virtuals.old }
+    requires kept { IsKept s.old reader.old }
     ensures grows { Grows s.old s.new }
+    ensures kept { IsKept s.new reader.new }
     ensures there { AreThere s.new virtuals.new }
     ensures exact { IsMade s.new result virtuals.new ((part_in s.old site.now e.now).1 (argument_of_size site.now.context) (virtuals_seen (frames_of s.old) virtuals.old)) }
 {
@@ -127,13 +135,13 @@ fn array<'t>(
         room: site.room,
         context: site.context.argument_of_size(),
     };
-    resolve(alloc, s, &inner, e, virtuals)
+    resolve(reader, s, &inner, e, virtuals)
 }
 
 /// What stands behind the array that `size` is given: nothing, or the number of a dimension. More break rule 33 once they are read.
 #[cycle(resolving)]
 fn number<'t>(
-    alloc: Global,
+    reader: &mut Reader<'t>,
     s: &mut Scopes<'t>,
     site: &Site,
     place: Place,
@@ -142,18 +150,20 @@ fn number<'t>(
 ) -> Result<Option<(Place, i64)>, Stop>
     requires frame { IsFrame s.old site.now.at.now.frame.0 }
     requires there { AreThere s.old virtuals.old }
+    requires kept { IsKept s.old reader.old }
     ensures grows { Grows s.old s.new }
+    ensures kept { IsKept s.new reader.new }
     ensures there { AreThere s.new virtuals.new }
     ensures exact { (parts : Seq PartOf) → plain_in s.old site.now args.now ≡ Some parts → IsMade s.new result virtuals.new (number_of_size (elements_in s.old site.now.left) site.now.context place parts (virtuals_seen (frames_of s.old) virtuals.old)) }
 {
     let Some((e, others)) = split(args) else {
         return Ok(None);
     };
-    let n = read_size(alloc, s, site, e)?;
+    let n = read_size(reader, s, site, e)?;
     match split(others) {
         None => Ok(Some(n)),
         Some(_) => {
-            arguments(alloc, s, site, others, virtuals)?;
+            arguments(reader, s, site, others, virtuals)?;
             Err(Stop::Broken(broken(33, place)))
         }
     }
@@ -162,7 +172,7 @@ fn number<'t>(
 /// `size(A)` and `size(A, i)`.
 #[cycle(resolving)]
 fn size<'t>(
-    alloc: Global,
+    reader: &mut Reader<'t>,
     s: &mut Scopes<'t>,
     site: &Site,
     place: Place,
@@ -171,15 +181,17 @@ fn size<'t>(
 ) -> Result<ArrayNode, Stop>
     requires frame { IsFrame s.old site.now.at.now.frame.0 }
     requires there { AreThere s.old virtuals.old }
+    requires kept { IsKept s.old reader.old }
     ensures grows { Grows s.old s.new }
+    ensures kept { IsKept s.new reader.new }
     ensures there { AreThere s.new virtuals.new }
     ensures exact { (parts : Seq PartOf) → plain_in s.old site.now args.now ≡ Some parts → IsMade s.new result virtuals.new (made_size (elements_in s.old site.now.left) site.now.context place parts (virtuals_seen (frames_of s.old) virtuals.old)) }
 {
     let Some((e, others)) = split(args) else {
         return Err(Stop::Broken(broken(33, place)));
     };
-    let inner = array(alloc, s, site, e, virtuals)?;
-    let at = number(alloc, s, site, place, others, virtuals)?;
+    let inner = array(reader, s, site, e, virtuals)?;
+    let at = number(reader, s, site, place, others, virtuals)?;
     Ok(ArrayNode::Size(inner, at))
 }
 
@@ -203,7 +215,7 @@ fn ndims_of(alloc: Global, inner: Result<ArrayExpr, Stop>) -> Result<ArrayNode, 
 /// `ndims`.
 #[cycle(resolving)]
 fn ndims<'t>(
-    alloc: Global,
+    reader: &mut Reader<'t>,
     s: &mut Scopes<'t>,
     site: &Site,
     place: Place,
@@ -212,15 +224,17 @@ fn ndims<'t>(
 ) -> Result<ArrayNode, Stop>
     requires frame { IsFrame s.old site.now.at.now.frame.0 }
     requires there { AreThere s.old virtuals.old }
+    requires kept { IsKept s.old reader.old }
     ensures grows { Grows s.old s.new }
+    ensures kept { IsKept s.new reader.new }
     ensures there { AreThere s.new virtuals.new }
     ensures exact { (parts : Seq PartOf) → plain_in s.old site.now args.now ≡ Some parts → IsMade s.new result virtuals.new (made_ndims site.now.context place parts (virtuals_seen (frames_of s.old) virtuals.old)) }
 {
     let Some(e) = lone(args) else {
-        arguments(alloc, s, site, args, virtuals)?;
+        arguments(reader, s, site, args, virtuals)?;
         return Err(Stop::Broken(broken(33, place)));
     };
-    ndims_of(alloc, array(alloc, s, site, e, virtuals))
+    ndims_of(reader.alloc, array(reader, s, site, e, virtuals))
 }
 
 /// `fill`, whose arguments are resolved and read.
@@ -240,7 +254,7 @@ fn filled_with(
 /// `fill`.
 #[cycle(resolving)]
 fn fill<'t>(
-    alloc: Global,
+    reader: &mut Reader<'t>,
     s: &mut Scopes<'t>,
     site: &Site,
     place: Place,
@@ -249,22 +263,24 @@ fn fill<'t>(
 ) -> Result<ArrayNode, Stop>
     requires frame { IsFrame s.old site.now.at.now.frame.0 }
     requires there { AreThere s.old virtuals.old }
+    requires kept { IsKept s.old reader.old }
     ensures grows { Grows s.old s.new }
+    ensures kept { IsKept s.new reader.new }
     ensures there { AreThere s.new virtuals.new }
     ensures exact { (parts : Seq PartOf) → plain_in s.old site.now args.now ≡ Some parts → IsMade s.new result virtuals.new (made_fill (elements_in s.old site.now.left) site.now.context place parts (virtuals_seen (frames_of s.old) virtuals.old)) }
 {
     let Some((e, others)) = split(args) else {
         return Err(Stop::Broken(broken(33, place)));
     };
-    let filling = operand(alloc, s, site, e, virtuals)?;
-    let numbers = sizes(alloc, s, site, others)?;
+    let filling = operand(reader, s, site, e, virtuals)?;
+    let numbers = sizes(reader, s, site, others)?;
     answer(filled_with(place, filling, numbers))
 }
 
 /// `identity`, `ones` and `zeros`.
 #[cycle(resolving)]
 fn sized<'t>(
-    alloc: Global,
+    reader: &mut Reader<'t>,
     s: &mut Scopes<'t>,
     site: &Site,
     called: Called,
@@ -273,11 +289,13 @@ fn sized<'t>(
 ) -> Result<ArrayNode, Stop>
     requires frame { IsFrame s.old site.now.at.now.frame.0 }
     requires there { AreThere s.old virtuals.now }
+    requires kept { IsKept s.old reader.old }
     ensures grows { Grows s.old s.new }
+    ensures kept { IsKept s.new reader.new }
     ensures there { AreThere s.new virtuals.now }
     ensures exact { (parts : Seq PartOf) → plain_in s.old site.now args.now ≡ Some parts → IsMade s.new result virtuals.now (made_sized (elements_in s.old site.now.left) site.now.context called.place called.function parts (virtuals_seen (frames_of s.old) virtuals.now)) }
 {
-    let numbers = sizes(alloc, s, site, args)?;
+    let numbers = sizes(reader, s, site, args)?;
     if !takes(called.function, numbers.len()) {
         return Err(Stop::Broken(broken(33, called.place)));
     }
@@ -287,7 +305,7 @@ fn sized<'t>(
 /// The derivative of the one argument.
 #[cycle(resolving)]
 fn derivative<'t>(
-    alloc: Global,
+    reader: &mut Reader<'t>,
     s: &mut Scopes<'t>,
     site: &Site,
     place: Place,
@@ -296,11 +314,13 @@ fn derivative<'t>(
 ) -> Result<ArrayNode, Stop>
     requires frame { IsFrame s.old site.now.at.now.frame.0 }
     requires there { AreThere s.old virtuals.old }
+    requires kept { IsKept s.old reader.old }
     ensures grows { Grows s.old s.new }
+    ensures kept { IsKept s.new reader.new }
     ensures there { AreThere s.new virtuals.new }
     ensures exact { (parts : Seq PartOf) → plain_in s.old site.now args.now ≡ Some parts → IsMade s.new result virtuals.new (made_derivative site.now.context place parts (virtuals_seen (frames_of s.old) virtuals.old)) }
 {
-    let operands = arguments(alloc, s, site, args, virtuals)?;
+    let operands = arguments(reader, s, site, args, virtuals)?;
     answer(derivative_of(place, operands))
 }
 
@@ -339,7 +359,7 @@ fn divides(function: u16) -> bool
 /// A call of a predefined function.
 #[cycle(resolving)]
 fn function<'t>(
-    alloc: Global,
+    reader: &mut Reader<'t>,
     s: &mut Scopes<'t>,
     site: &Site,
     called: Called,
@@ -348,32 +368,34 @@ fn function<'t>(
 ) -> Result<ArrayNode, Stop>
     requires frame { IsFrame s.old site.now.at.now.frame.0 }
     requires there { AreThere s.old virtuals.old }
+    requires kept { IsKept s.old reader.old }
     ensures grows { Grows s.old s.new }
+    ensures kept { IsKept s.new reader.new }
     ensures there { AreThere s.new virtuals.new }
     ensures exact { (parts : Seq PartOf) → plain_in s.old site.now args.now ≡ Some parts → IsMade s.new result virtuals.new (made_function (elements_in s.old site.now.left) site.now.context called.place called.function parts (virtuals_seen (frames_of s.old) virtuals.old)) }
 {
     if called.function == functions::SIZE {
-        return size(alloc, s, site, called.place, args, virtuals);
+        return size(reader, s, site, called.place, args, virtuals);
     }
     if called.function == functions::NDIMS {
-        return ndims(alloc, s, site, called.place, args, virtuals);
+        return ndims(reader, s, site, called.place, args, virtuals);
     }
     if called.function == functions::FILL {
-        return fill(alloc, s, site, called.place, args, virtuals);
+        return fill(reader, s, site, called.place, args, virtuals);
     }
     if is_sized(called.function) {
-        return sized(alloc, s, site, called, args, virtuals.as_slice());
+        return sized(reader, s, site, called, args, virtuals.as_slice());
     }
     if divides(called.function) {
-        return division(alloc, s, site, called, args, virtuals);
+        return division(reader, s, site, called, args, virtuals);
     }
-    applied(called.function, arguments(alloc, s, site, args, virtuals))
+    applied(called.function, arguments(reader, s, site, args, virtuals))
 }
 
 /// A call.
 #[cycle(resolving)]
 pub(crate) fn call<'t>(
-    alloc: Global,
+    reader: &mut Reader<'t>,
     s: &mut Scopes<'t>,
     site: &Site,
     place: Place,
@@ -383,13 +405,15 @@ pub(crate) fn call<'t>(
 ) -> Result<ArrayNode, Stop>
     requires frame { IsFrame s.old site.now.at.now.frame.0 }
     requires there { AreThere s.old virtuals.old }
+    requires kept { IsKept s.old reader.old }
     ensures grows { Grows s.old s.new }
+    ensures kept { IsKept s.new reader.new }
     ensures there { AreThere s.new virtuals.new }
     ensures exact { IsMade s.new result virtuals.new (made_call (table_in s.old) (scope_of s.old site.now) (elements_in s.old site.now.left) site.now.context place (as_callee (part_in s.old site.now) callee.now) (made_arguments (table_in s.old) (ask_of s.old site.now) (scope_of s.old site.now) args.now) (virtuals_seen (frames_of s.old) virtuals.old)) }
 {
     match callee {
         Callee::Named(reference) => {
-            let function_code = function_named(alloc, s, site, place, reference)?;
+            let function_code = function_named(reader.alloc, s, site, place, reference)?;
             if !are_plain(args) {
                 return Err(Stop::Broken(broken(34, place)));
             }
@@ -397,13 +421,13 @@ pub(crate) fn call<'t>(
                 place,
                 function: function_code,
             };
-            function(alloc, s, site, called, args.plain.as_slice(), virtuals)
+            function(reader, s, site, called, args.plain.as_slice(), virtuals)
         }
         Callee::Der => {
             if !are_plain(args) {
                 return Err(Stop::Broken(broken(34, place)));
             }
-            derivative(alloc, s, site, place, args.plain.as_slice(), virtuals)
+            derivative(reader, s, site, place, args.plain.as_slice(), virtuals)
         }
         Callee::Initial => Err(Stop::Broken(broken(34, place))),
         Callee::Pure => Err(Stop::Broken(broken(34, place))),

@@ -4,6 +4,7 @@ ghost use Rattle.std.specs.Option.{option_map};
 ghost use Rattle.mo_flat.specs.declared.array.ArrayExpr.{ArrayExpr};
 ghost use Rattle.mo_scope.specs.Worlds.{World, Grows, IsFrame, frames_of};
 ghost use Rattle.mo_typing.specs.Outcome.{Outcome, and_then, Gives};
+ghost use Rattle.mo_eval.specs.Keeping.{IsKept};
 ghost use Rattle.mo_eval.specs.declared.choice.BranchMade.TheVariants.{Kept, Last as last_made};
 ghost use Rattle.mo_eval.specs.declared.virtuals.Virtual.{Virtual as VirtualAt};
 ghost use Rattle.mo_eval.specs.Virtuals.{Virtual as VirtualSeen};
@@ -16,36 +17,38 @@ ghost use Rattle.mo_eval.specs.steps.Choosing.{kept_in, last_in, made_branch, tr
 use crate::alone::{read_condition, read_end};
 use crate::layers::answer;
 use crate::making::range_of;
+use crate::reader::Reader;
 use crate::resolve::{Site, operand, two};
 use crate::value::Scalar;
 use crate::virtuals::Virtual;
 use mo_flat::{ArrayExpr, ArrayNode};
 use mo_scope::Scopes;
 use mo_syntax::{Branch, Expr, List, NoMemory, Place, Stop};
-use std::alloc::Global;
 
 /// The step of a range, 1 where none is written.
 #[cycle(resolving)]
 fn read_step<'t>(
-    alloc: Global,
+    reader: &mut Reader<'t>,
     s: &mut Scopes<'t>,
     site: &Site,
     step: &Option<Expr>,
 ) -> Result<Option<Scalar>, Stop>
     requires frame { IsFrame s.old site.now.at.now.frame.0 }
+    requires kept { IsKept s.old reader.old }
     ensures grows { Grows s.old s.new }
+    ensures kept { IsKept s.new reader.new }
     ensures exact { Gives result (read_step (elements_in s.old site.now.left) site.now.context (option_map (part_in s.old site.now) step.now)) }
 {
     match step {
         None => Ok(Some(Scalar::Whole(1))),
-        Some(e) => read_end(alloc, s, site, e),
+        Some(e) => read_end(reader, s, site, e),
     }
 }
 
 /// A range, whose ends and step have values.
 #[cycle(resolving)]
 pub(crate) fn range<'t>(
-    alloc: Global,
+    reader: &mut Reader<'t>,
     s: &mut Scopes<'t>,
     site: &Site,
     place: Place,
@@ -54,12 +57,14 @@ pub(crate) fn range<'t>(
     last: &Expr,
 ) -> Result<ArrayNode, Stop>
     requires frame { IsFrame s.old site.now.at.now.frame.0 }
+    requires kept { IsKept s.old reader.old }
     ensures grows { Grows s.old s.new }
+    ensures kept { IsKept s.new reader.new }
     ensures exact { Gives result (made_range (elements_in s.old site.now.left) site.now.context place (part_in s.old site.now first.now) (option_map (part_in s.old site.now) step.now) (part_in s.old site.now last.now)) }
 {
-    let a = read_end(alloc, s, site, first)?;
-    let b = read_step(alloc, s, site, step)?;
-    let c = read_end(alloc, s, site, last)?;
+    let a = read_end(reader, s, site, first)?;
+    let b = read_step(reader, s, site, step)?;
+    let c = read_end(reader, s, site, last)?;
     answer(range_of(place, a, b, c))
 }
 
@@ -103,7 +108,7 @@ fn truth_in(known: Option<Scalar>) -> Option<bool>
 /// A branch. Its condition is read for its value: a false one drops it, and behind a true one nothing is read.
 #[cycle(resolving)]
 fn made_branch<'t>(
-    alloc: Global,
+    reader: &mut Reader<'t>,
     s: &mut Scopes<'t>,
     site: &Site,
     branch: &Branch,
@@ -111,15 +116,17 @@ fn made_branch<'t>(
 ) -> Result<BranchMade, Stop>
     requires frame { IsFrame s.old site.now.at.now.frame.0 }
     requires there { AreThere s.old virtuals.old }
+    requires kept { IsKept s.old reader.old }
     ensures grows { Grows s.old s.new }
+    ensures kept { IsKept s.new reader.new }
     ensures there { AreThere s.new virtuals.new }
     ensures exact { IsMade s.new result virtuals.new (made_branch (elements_in s.old site.now.left) site.now.context (as_branch (part_in s.old site.now) branch.now) (virtuals_seen (frames_of s.old) virtuals.old)) }
 {
-    let known = read_condition(alloc, s, site, &branch.condition)?;
+    let known = read_condition(reader, s, site, &branch.condition)?;
     match truth_in(known) {
-        Some(true) => last(operand(alloc, s, site, &branch.value, virtuals)),
+        Some(true) => last(operand(reader, s, site, &branch.value, virtuals)),
         Some(false) => Ok(BranchMade::Dropped),
-        None => kept(two(alloc, s, site, &branch.condition, &branch.value, virtuals)),
+        None => kept(two(reader, s, site, &branch.condition, &branch.value, virtuals)),
     }
 }
 
@@ -144,7 +151,7 @@ fn put(
 /// The branches that are left of an if-expression, with the value of the last one.
 #[cycle(resolving)]
 pub(crate) fn choice<'t>(
-    alloc: Global,
+    reader: &mut Reader<'t>,
     s: &mut Scopes<'t>,
     site: &Site,
     branches: &[Branch],
@@ -153,17 +160,19 @@ pub(crate) fn choice<'t>(
 ) -> Result<(List<(ArrayExpr, ArrayExpr)>, ArrayExpr), Stop>
     requires frame { IsFrame s.old site.now.at.now.frame.0 }
     requires there { AreThere s.old virtuals.old }
+    requires kept { IsKept s.old reader.old }
     ensures grows { Grows s.old s.new }
+    ensures kept { IsKept s.new reader.new }
     ensures there { AreThere s.new virtuals.new }
     ensures exact { IsMade s.new result virtuals.new (made_choice (elements_in s.old site.now.left) site.now.context (map (as_branch (part_in s.old site.now)) branches.now) (part_in s.old site.now other.now) (virtuals_seen (frames_of s.old) virtuals.old)) }
 {
-    let mut made = List::new(alloc);
+    let mut made = List::new(reader.alloc);
     for one in branches {
-        let step = made_branch(alloc, s, site, one, virtuals)?;
+        let step = made_branch(reader, s, site, one, virtuals)?;
         if let Some(value) = put(&mut made, step)? {
             return Ok((made, value));
         }
     }
-    let rest = operand(alloc, s, site, other, virtuals)?;
+    let rest = operand(reader, s, site, other, virtuals)?;
     Ok((made, rest))
 }

@@ -5,6 +5,7 @@ ghost use Rattle.mo_scope.specs.Sights.{picked_in};
 ghost use Rattle.mo_scope.specs.Worlds.{Grows, IsFrame, frames_of, table_in, scope_in};
 ghost use Rattle.mo_names.specs.Sights.{IsMember, member_of};
 ghost use Rattle.mo_typing.specs.Outcome.{Gives};
+ghost use Rattle.mo_eval.specs.Keeping.{IsKept};
 ghost use Rattle.mo_eval.specs.Components.{condition_in, value_in};
 ghost use Rattle.mo_eval.specs.Values.{reading, there_of, value_of_element};
 ghost use Rattle.mo_eval.specs.Seen.{AreThere, element_seen, resolved_seen};
@@ -13,8 +14,10 @@ ghost use Rattle.mo_eval.specs.steps.Asking.{bound_in, unbound};
 
 use crate::alone::{alone, truth_of};
 use crate::context::Context;
+use crate::kept::{keep_there, there_kept};
 use crate::layers::{answer, binding, must_be_truth};
 use crate::operations::{broken, if_it_has};
+use crate::reader::Reader;
 use crate::resolve::Site;
 use crate::value::Scalar;
 use crate::variables::{is_replaced, known_in};
@@ -22,24 +25,25 @@ use crate::virtuals::{Element, Resolved};
 use mo_names::child_of_member;
 use mo_scope::{Member, Picked, ScopeAt, Scopes, Sort, pick_here};
 use mo_syntax::{Broken, Expr, FrameId, Kind, List, Place, Stop};
-use std::alloc::Global;
 
 /// Whether a condition holds that stands in a class with this frame, where so many references may still be read.
 #[cycle(resolving)]
 fn condition_in<'t>(
-    alloc: Global,
+    reader: &mut Reader<'t>,
     s: &mut Scopes<'t>,
     left: u64,
     home: FrameId,
     e: &Expr,
 ) -> Result<bool, Stop>
     requires frame { IsFrame s.old home.0 }
+    requires kept { IsKept s.old reader.old }
     ensures grows { Grows s.old s.new }
+    ensures kept { IsKept s.new reader.new }
     ensures exact { Gives result (condition_in (table_in s.old) (reading (table_in s.old) left) (scope_in (frames_of s.old) home.0 []) e.now) }
 {
     let at = ScopeAt {
         frame: home,
-        iters: List::new(alloc),
+        iters: List::new(reader.alloc),
     };
     let site = Site {
         at: &at,
@@ -47,28 +51,37 @@ fn condition_in<'t>(
         room: u64::MAX,
         context: Context::for_value(),
     };
-    let resolved = alone(alloc, s, &site, e)?;
-    let known = truth_of(alloc, s, left, 40, e.place, &resolved)?;
+    let resolved = alone(reader, s, &site, e)?;
+    let known = truth_of(reader, s, left, 40, e.place, &resolved)?;
     answer(must_be_truth(e.place, known))
 }
 
 /// Whether a component is there, where so many references may still be read.
 #[cycle(resolving)]
 pub(crate) fn is_there<'t>(
-    alloc: Global,
+    reader: &mut Reader<'t>,
     s: &mut Scopes<'t>,
     left: u64,
     member: &Member<'t>,
 ) -> Result<bool, Stop>
     requires member { IsMember s.old member.now }
+    requires kept { IsKept s.old reader.old }
     ensures grows { Grows s.old s.new }
+    ensures kept { IsKept s.new reader.new }
     ensures exact { Gives result (there_of (table_in s.old) left (member_of (frames_of s.old) member.now)) }
 {
     match member.declares.sort {
         Sort::Class { .. } => Ok(true),
         Sort::Component(component) => match &component.condition {
             None => Ok(true),
-            Some(e) => condition_in(alloc, s, left, member.home, e),
+            Some(e) => {
+                if let Some(there) = there_kept(reader, left, member) {
+                    return Ok(there);
+                }
+                let there = condition_in(reader, s, left, member.home, e)?;
+                keep_there(reader, left, member, there)?;
+                Ok(there)
+            }
         },
     }
 }
@@ -76,7 +89,7 @@ pub(crate) fn is_there<'t>(
 /// What a binding has at its pending indices: it is of the wanted kind, and fits.
 #[cycle(resolving)]
 fn bound_value<'t>(
-    alloc: Global,
+    reader: &mut Reader<'t>,
     s: &mut Scopes<'t>,
     left: u64,
     want: Kind,
@@ -85,12 +98,14 @@ fn bound_value<'t>(
     resolved: &Resolved<'t>,
 ) -> Result<Option<Scalar>, Stop>
     requires there { AreThere s.old resolved.now.virtuals }
+    requires kept { IsKept s.old reader.old }
     ensures grows { Grows s.old s.new }
+    ensures kept { IsKept s.new reader.new }
     ensures exact { Gives result (bound_in (elements_in s.old left) want place pending.now (resolved_seen (frames_of s.old) resolved.now)) }
 {
-    binding(alloc, want, place, pending, &resolved.expression)?;
+    binding(reader.alloc, want, place, pending, &resolved.expression)?;
     known_in(
-        alloc,
+        reader,
         s,
         left,
         &resolved.expression,
@@ -102,14 +117,16 @@ fn bound_value<'t>(
 /// The value of a binding.
 #[cycle(resolving)]
 fn value_in<'t>(
-    alloc: Global,
+    reader: &mut Reader<'t>,
     s: &mut Scopes<'t>,
     left: u64,
     kind: Kind,
     picked: &Picked,
 ) -> Result<Option<Scalar>, Stop>
     requires frame { IsFrame s.old picked.now.scope.now.frame.0 }
+    requires kept { IsKept s.old reader.old }
     ensures grows { Grows s.old s.new }
+    ensures kept { IsKept s.new reader.new }
     ensures exact { Gives result (value_in (table_in s.old) (reading (table_in s.old) left) kind (picked_in (frames_of s.old) picked.now)) }
 {
     let e = picked.value;
@@ -119,8 +136,8 @@ fn value_in<'t>(
         room: u64::MAX,
         context: Context::for_value(),
     };
-    let resolved = alone(alloc, s, &site, e)?;
-    let known = bound_value(alloc, s, left, kind, e.place, picked.pending, &resolved)?;
+    let resolved = alone(reader, s, &site, e)?;
+    let known = bound_value(reader, s, left, kind, e.place, picked.pending, &resolved)?;
     Ok(if_it_has(kind, known))
 }
 
@@ -140,18 +157,20 @@ fn unbound<'t>(s: &Scopes<'t>, element: &Element<'t>) -> Result<Option<Scalar>, 
 /// that is replaced breaks rule 28 at the reference.
 #[cycle(resolving)]
 pub(crate) fn element_value<'t>(
-    alloc: Global,
+    reader: &mut Reader<'t>,
     s: &mut Scopes<'t>,
     left: u64,
     element: &Element<'t>,
 ) -> Result<Option<Scalar>, Stop>
     requires member { IsMember s.old element.now.member }
+    requires kept { IsKept s.old reader.old }
     ensures grows { Grows s.old s.new }
+    ensures kept { IsKept s.new reader.new }
     ensures exact { Gives result (value_of_element (table_in s.old) left (element_seen (frames_of s.old) element.now)) }
 {
-    let child = child_of_member(alloc, s, &element.member, element.index.as_slice())?;
+    let child = child_of_member(reader.alloc, s, &element.member, element.index.as_slice())?;
     match pick_here(child.sources.as_slice()) {
         None => answer(unbound(s, element)),
-        Some(picked) => value_in(alloc, s, left, element.kind, &picked),
+        Some(picked) => value_in(reader, s, left, element.kind, &picked),
     }
 }

@@ -7,6 +7,7 @@ ghost use Rattle.mo_scope.specs.Worlds.{Grows, IsFrame, frames_of, table_in, sco
 ghost use Rattle.mo_names.specs.Sights.{IsMember, member_of};
 ghost use Rattle.mo_typing.specs.Dims.{size};
 ghost use Rattle.mo_typing.specs.Outcome.{Outcome, and_then, Gives};
+ghost use Rattle.mo_eval.specs.Keeping.{IsKept};
 ghost use Rattle.mo_eval.specs.Components.{dim_at, dims_behind, each_dim, written_dim};
 ghost use Rattle.mo_eval.specs.Contexts.{any_kind, layered};
 ghost use Rattle.mo_eval.specs.Values.{reading, component_dims};
@@ -15,8 +16,10 @@ ghost use Rattle.mo_eval.specs.steps.Sizing.{AreSized, sizes_seen};
 
 use crate::alone::{alone, whole_of};
 use crate::context::Context;
+use crate::kept::{dims_kept, keep_dims};
 use crate::layers::{answer, is_index};
 use crate::operations::broken;
+use crate::reader::Reader;
 use crate::resolve::Site;
 use crate::sizes::{Sizes, all_sizes, count_of};
 use mo_flat::ArrayExpr;
@@ -47,14 +50,16 @@ fn dimension_of(place: Place, n: Result<i64, Stop>) -> Result<u32, Stop>
 /// A dimension that is written.
 #[cycle(resolving)]
 fn written_dim<'t>(
-    alloc: Global,
+    reader: &mut Reader<'t>,
     s: &mut Scopes<'t>,
     left: u64,
     scope: &ScopeAt,
     e: &Expr,
 ) -> Result<u32, Stop>
     requires frame { IsFrame s.old scope.now.frame.0 }
+    requires kept { IsKept s.old reader.old }
     ensures grows { Grows s.old s.new }
+    ensures kept { IsKept s.new reader.new }
     ensures exact { Gives result (written_dim (table_in s.old) (reading (table_in s.old) left) (scope_in (frames_of s.old) scope.now.frame.0 scope.now.iters) e.now) }
 {
     let site = Site {
@@ -63,8 +68,8 @@ fn written_dim<'t>(
         room: u64::MAX,
         context: Context::for_value(),
     };
-    let resolved = alone(alloc, s, &site, e)?;
-    dimension_of(e.place, whole_of(alloc, s, left, e.place, &resolved))
+    let resolved = alone(reader, s, &site, e)?;
+    dimension_of(e.place, whole_of(reader, s, left, e.place, &resolved))
 }
 
 /// The dimensions of an expression that binds so many of them, behind the indices that are pending.
@@ -116,14 +121,16 @@ fn bound_dims(
 /// The dimensions of a binding.
 #[cycle(resolving)]
 fn dims_in<'t>(
-    alloc: Global,
+    reader: &mut Reader<'t>,
     s: &mut Scopes<'t>,
     left: u64,
     picked: &Picked,
     count: usize,
 ) -> Result<List<u32>, Stop>
     requires frame { IsFrame s.old picked.now.scope.now.frame.0 }
+    requires kept { IsKept s.old reader.old }
     ensures grows { Grows s.old s.new }
+    ensures kept { IsKept s.new reader.new }
     ensures exact { Gives result (dims_of_binding (table_in s.old) (reading (table_in s.old) left) count (picked_in (frames_of s.old) picked.now)) }
 {
     let e = picked.value;
@@ -133,8 +140,14 @@ fn dims_in<'t>(
         room: u64::MAX,
         context: Context::for_value(),
     };
-    let resolved = alone(alloc, s, &site, e)?;
-    bound_dims(alloc, e.place, picked.pending, count, &resolved.expression)
+    let resolved = alone(reader, s, &site, e)?;
+    bound_dims(
+        reader.alloc,
+        e.place,
+        picked.pending,
+        count,
+        &resolved.expression,
+    )
 }
 
 /// The component whose dimensions are found: how many there are, and how many references may still be read.
@@ -148,25 +161,27 @@ pub(crate) struct Measured<'a, 't> {
 /// The dimensions of the binding of a component.
 #[cycle(resolving)]
 fn binding_dims<'t>(
-    alloc: Global,
+    reader: &mut Reader<'t>,
     s: &mut Scopes<'t>,
     of: &Measured<'_, 't>,
 ) -> Result<List<u32>, Stop>
     requires member { IsMember s.old of.now.member.now }
+    requires kept { IsKept s.old reader.old }
     ensures grows { Grows s.old s.new }
+    ensures kept { IsKept s.new reader.new }
     ensures exact { Gives result (bound_in s.old of.now) }
 {
-    let child = child_of_member(alloc, s, of.member, &[])?;
+    let child = child_of_member(reader.alloc, s, of.member, &[])?;
     match pick_here(child.sources.as_slice()) {
         None => Err(Stop::Broken(broken(28, of.member.declares.place))),
-        Some(picked) => dims_in(alloc, s, of.left, &picked, of.count),
+        Some(picked) => dims_in(reader, s, of.left, &picked, of.count),
     }
 }
 
 /// The dimension with so many before it: as it is written, or for `:` that of the same place in the binding.
 #[cycle(resolving)]
 fn dim_at<'t>(
-    alloc: Global,
+    reader: &mut Reader<'t>,
     s: &mut Scopes<'t>,
     of: &Measured<'_, 't>,
     scope: &ScopeAt,
@@ -175,13 +190,15 @@ fn dim_at<'t>(
 ) -> Result<u32, Stop>
     requires member { IsMember s.old of.now.member.now }
     requires frame { IsFrame s.old scope.now.frame.0 }
+    requires kept { IsKept s.old reader.old }
     ensures grows { Grows s.old s.new }
+    ensures kept { IsKept s.new reader.new }
     ensures exact { Gives result (dim_at (table_in s.old) (reading (table_in s.old) of.now.left) (bound_in s.old of.now) (scope_in (frames_of s.old) scope.now.frame.0 scope.now.iters) place sub.now) }
 {
     match sub {
-        Some(e) => written_dim(alloc, s, of.left, scope, e),
+        Some(e) => written_dim(reader, s, of.left, scope, e),
         None => {
-            let dims = binding_dims(alloc, s, of)?;
+            let dims = binding_dims(reader, s, of)?;
             match dims.get(place) {
                 Some(n) => Ok(*n),
                 None => Ok(0),
@@ -193,7 +210,7 @@ fn dim_at<'t>(
 /// Puts dimensions of one scope at the end.
 #[cycle(resolving)]
 fn put_dims<'t>(
-    alloc: Global,
+    reader: &mut Reader<'t>,
     s: &mut Scopes<'t>,
     of: &Measured<'_, 't>,
     sizes: &Sizes<'t>,
@@ -201,11 +218,13 @@ fn put_dims<'t>(
 ) -> Result<(), Stop>
     requires member { IsMember s.old of.now.member.now }
     requires frame { IsFrame s.old sizes.now.scope.frame.0 }
+    requires kept { IsKept s.old reader.old }
     ensures grows { Grows s.old s.new }
+    ensures kept { IsKept s.new reader.new }
     ensures exact { (others : Seq (Scope × Optional Tree)) → GoesOn result (dims_more (table_in s.old) (reading (table_in s.old) of.now.left) (bound_in s.old of.now) made.old (scoped (scope_in (frames_of s.old) sizes.now.scope.frame.0 sizes.now.scope.iters) sizes.now.subscripts.now ++ others)) (λ _. dims_more (table_in s.old) (reading (table_in s.old) of.now.left) (bound_in s.old of.now) made.new others) }
 {
     for sub in sizes.subscripts {
-        let n = dim_at(alloc, s, of, &sizes.scope, made.len(), sub)?;
+        let n = dim_at(reader, s, of, &sizes.scope, made.len(), sub)?;
         made.push(n)?;
     }
     Ok(())
@@ -214,19 +233,21 @@ fn put_dims<'t>(
 /// All dimensions that are written.
 #[cycle(resolving)]
 fn all_dims<'t>(
-    alloc: Global,
+    reader: &mut Reader<'t>,
     s: &mut Scopes<'t>,
     of: &Measured<'_, 't>,
     sizes: &[Sizes<'t>],
 ) -> Result<List<u32>, Stop>
     requires member { IsMember s.old of.now.member.now }
     requires there { AreSized s.old sizes.now }
+    requires kept { IsKept s.old reader.old }
     ensures grows { Grows s.old s.new }
+    ensures kept { IsKept s.new reader.new }
     ensures exact { Gives result (dims_more (table_in s.old) (reading (table_in s.old) of.now.left) (bound_in s.old of.now) [] (each_dim (sizes_seen (frames_of s.old) sizes.now))) }
 {
-    let mut made = List::new(alloc);
+    let mut made = List::new(reader.alloc);
     for one in sizes {
-        put_dims(alloc, s, of, one, &mut made)?;
+        put_dims(reader, s, of, one, &mut made)?;
     }
     Ok(made)
 }
@@ -234,21 +255,28 @@ fn all_dims<'t>(
 /// The dimensions of a component, where so many references may still be read.
 #[cycle(resolving)]
 pub(crate) fn dims<'t>(
-    alloc: Global,
+    reader: &mut Reader<'t>,
     s: &mut Scopes<'t>,
     left: u64,
     member: &Member<'t>,
 ) -> Result<List<u32>, Stop>
     requires member { IsMember s.old member.now }
+    requires kept { IsKept s.old reader.old }
     ensures grows { Grows s.old s.new }
+    ensures kept { IsKept s.new reader.new }
     ensures exact { Gives result (component_dims (table_in s.old) left (member_of (frames_of s.old) member.now)) }
 {
-    let sizes = all_sizes(alloc, s, member)?;
+    if let Some(known) = dims_kept(reader, left, member)? {
+        return Ok(known);
+    }
+    let sizes = all_sizes(reader.alloc, s, member)?;
     let count = count_of(sizes.as_slice())?;
     let of = Measured {
         left,
         member,
         count,
     };
-    all_dims(alloc, s, &of, sizes.as_slice())
+    let dims = all_dims(reader, s, &of, sizes.as_slice())?;
+    keep_dims(reader, left, member, dims.as_slice())?;
+    Ok(dims)
 }

@@ -1,9 +1,8 @@
 //! `div`, `mod` and `rem`.
-ghost use Rattle.std.specs.Prelude.{◌≡◌, ◌+◌, ◌∷◌, [], ◌++◌, length, IfOk, Ok, Some, List as Seq};
-ghost use Rattle.mo_flat.specs.declared.array.ArrayNode.{ArrayNode as ArrayNodeTree};
-ghost use Rattle.mo_scope.specs.Frames.{Frame};
+ghost use Rattle.std.specs.Prelude.{◌≡◌, ◌+◌, ◌∷◌, [], ◌++◌, IfOk, Ok, Some, List as Seq};
 ghost use Rattle.mo_scope.specs.Worlds.{World, Grows, IsFrame, frames_of};
-ghost use Rattle.mo_typing.specs.Outcome.{Outcome, Gives};
+ghost use Rattle.mo_typing.specs.Outcome.{Gives};
+ghost use Rattle.mo_eval.specs.Keeping.{IsKept};
 ghost use Rattle.mo_eval.specs.Virtuals.{Division};
 ghost use Rattle.mo_eval.specs.Contexts.{Part as PartOf};
 ghost use Rattle.mo_eval.specs.Calls.{known_of_operands, value_of_division, division_variable, made_division};
@@ -17,6 +16,7 @@ use crate::making::known_number;
 use crate::operands::{checked_operands, two_operands};
 use crate::operations;
 use crate::operations::broken;
+use crate::reader::Reader;
 use crate::resolve::Site;
 use crate::value::Scalar;
 use crate::variables::known_in;
@@ -36,7 +36,7 @@ pub(crate) struct Called {
 /// What a call has by its operands, where so many references may still be read.
 #[cycle(resolving)]
 fn value_of<'t>(
-    alloc: Global,
+    reader: &mut Reader<'t>,
     s: &mut Scopes<'t>,
     left: u64,
     called: Called,
@@ -44,28 +44,32 @@ fn value_of<'t>(
     virtuals: &[Virtual<'t>],
 ) -> Result<Option<Scalar>, Stop>
     requires there { AreThere s.old virtuals.now }
+    requires kept { IsKept s.old reader.old }
     ensures grows { Grows s.old s.new }
+    ensures kept { IsKept s.new reader.new }
     ensures exact { Gives result (known_of_operands (elements_in s.old left) called.place called.function operands.now (virtuals_seen (frames_of s.old) virtuals.now)) }
 {
     let Some((a, b)) = two_operands(operands) else {
         return Err(Stop::Broken(broken(33, called.place)));
     };
-    let m = known_in(alloc, s, left, a, &[], virtuals)?;
-    let n = known_in(alloc, s, left, b, &[], virtuals)?;
+    let m = known_in(reader, s, left, a, &[], virtuals)?;
+    let n = known_in(reader, s, left, b, &[], virtuals)?;
     answer(operations::division(called.place, called.function, m, n))
 }
 
 /// The value of a call in the flat model.
 #[cycle(resolving)]
 fn in_flat<'t>(
-    alloc: Global,
+    reader: &mut Reader<'t>,
     s: &mut Scopes<'t>,
     site: &Site,
     called: Called,
     args: &[Arg],
 ) -> Result<ArrayNode, Stop>
     requires frame { IsFrame s.old site.now.at.now.frame.0 }
+    requires kept { IsKept s.old reader.old }
     ensures grows { Grows s.old s.new }
+    ensures kept { IsKept s.new reader.new }
     ensures exact { (parts : Seq PartOf) → plain_in s.old site.now args.now ≡ Some parts → Gives result (value_of_division (elements_in s.old site.now.left) site.now.context called.place called.function parts) }
 {
     let inner = Site {
@@ -74,11 +78,11 @@ fn in_flat<'t>(
         room: site.room,
         context: site.context.read_in(),
     };
-    let mut virtuals = List::new(alloc);
-    let operands = arguments(alloc, s, &inner, args, &mut virtuals)?;
-    checked_operands(alloc, called.place, operands.as_slice())?;
+    let mut virtuals = List::new(reader.alloc);
+    let operands = arguments(reader, s, &inner, args, &mut virtuals)?;
+    checked_operands(reader.alloc, called.place, operands.as_slice())?;
     let known = value_of(
-        alloc,
+        reader,
         s,
         site.left,
         called,
@@ -147,7 +151,7 @@ fn put<'t>(
 /// A call of `div`, `mod` or `rem`: in the flat model its value, elsewhere a variable.
 #[cycle(resolving)]
 pub(crate) fn division<'t>(
-    alloc: Global,
+    reader: &mut Reader<'t>,
     s: &mut Scopes<'t>,
     site: &Site,
     called: Called,
@@ -156,12 +160,14 @@ pub(crate) fn division<'t>(
 ) -> Result<ArrayNode, Stop>
     requires frame { IsFrame s.old site.now.at.now.frame.0 }
     requires there { AreThere s.old virtuals.old }
+    requires kept { IsKept s.old reader.old }
     ensures grows { Grows s.old s.new }
+    ensures kept { IsKept s.new reader.new }
     ensures there { AreThere s.new virtuals.new }
     ensures exact { (parts : Seq PartOf) → plain_in s.old site.now args.now ≡ Some parts → IsMade s.new result virtuals.new (made_division (elements_in s.old site.now.left) site.now.context called.place called.function parts (virtuals_seen (frames_of s.old) virtuals.old)) }
 {
     if site.context.flat {
-        return in_flat(alloc, s, site, called, args);
+        return in_flat(reader, s, site, called, args);
     }
     let inner = Site {
         at: site.at,
@@ -169,7 +175,7 @@ pub(crate) fn division<'t>(
         room: site.room,
         context: site.context.read_in(),
     };
-    let operands = arguments(alloc, s, &inner, args, virtuals)?;
-    checked_operands(alloc, called.place, operands.as_slice())?;
-    put(alloc, called, operands, virtuals)
+    let operands = arguments(reader, s, &inner, args, virtuals)?;
+    checked_operands(reader.alloc, called.place, operands.as_slice())?;
+    put(reader.alloc, called, operands, virtuals)
 }

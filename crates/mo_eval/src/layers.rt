@@ -1,10 +1,10 @@
 //! The layers behind resolving: what is asked of the kind, the dimensions and the subscripts of a resolved expression.
-ghost use Rattle.std.specs.Prelude.{◌≡◌, ◌≤◌, Ok, length};
+ghost use Rattle.std.specs.Prelude.{◌≡◌, ◌≤◌, Ok};
 ghost use Rattle.mo_typing.specs.Outcome.{Gives};
 ghost use Rattle.mo_typing.specs.Kinds.{accepts};
 ghost use Rattle.mo_typing.specs.Indices.{is_index};
 ghost use Rattle.mo_eval.specs.Contexts.{only_whole, only_truth, only_scalar, scalar_or_vector, any_kind, layered, must_be_whole, must_be_truth};
-ghost use Rattle.mo_eval.specs.Components.{fitted, dims_behind};
+ghost use Rattle.mo_eval.specs.Components.{fitted};
 
 use crate::operations::broken;
 use crate::value::Scalar;
@@ -132,8 +132,9 @@ pub(crate) fn is_index(dims: &[u32], index: &[u32]) -> bool
     }
 }
 
-/// How indices that are pending fit an expression of these dimensions.
-fn fitted(place: Place, index: &[u32], dims: &[u32]) -> Result<(), Broken>
+/// Whether indices that are pending for an expression of these dimensions fit them: a scalar breaks rule 23 at that place, another number
+/// of dimensions rule 33, an index outside rule 31.
+pub fn fitted(place: Place, index: &[u32], dims: &[u32]) -> Result<(), Broken>
     ensures { result ≡ fitted place index.now dims.now }
 {
     if dims.is_empty() {

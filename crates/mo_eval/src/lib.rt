@@ -6,7 +6,11 @@
 //! - [`known`]: what is known of a resolved expression at an index, where [`Told`] says what is read of its variables; or why that is
 //!   not known ([`Halt`]).
 //! - [`Context`]: what an expression is resolved for.
-//! - [`Resolved`], [`Virtual`] and [`Element`]: a resolved expression, and what its variables stand for.
+//! - [`Resolved`], [`Virtual`] and [`Element`]: a resolved expression, and what its variables stand for. [`Sides`]: the two sides of
+//!   an equation.
+//! - [`Ended`] and [`Selected`]: what an end of a connect names and selects.
+//! - [`fitted`]: how pending indices fit the dimensions of an expression.
+//! - [`literal_text`] and [`class_text`]: how literals and classes are printed.
 //! - [`Reader`]: reads the values and the dimensions of expressions, resolves expressions of the flat model, and says whether a
 //!   component is there and which dimensions it has; [`MOST_REFERENCES`] is how many references may be read, one within the other.
 //! - [`next`]: what comes next ([`Step`]) where an element of a resolved expression is wanted and its variables are read one after
@@ -16,6 +20,8 @@
 //! value are then those of the resolved expression. The definitions stand in specs/.
 #![tactic(auto)]
 
+mod absent;
+mod ahead;
 mod alone;
 mod answers;
 mod arithmetic;
@@ -29,7 +35,9 @@ mod context;
 mod dimensions;
 mod division;
 mod elements;
+mod ends;
 mod halt;
+mod kept;
 mod layers;
 mod literals;
 mod making;
@@ -52,9 +60,12 @@ mod virtuals;
 mod walk;
 
 pub use context::Context;
+pub use ends::{Ended, Selected};
 pub use halt::{Halt, Told};
+pub use layers::fitted;
+pub use literals::{class_text, literal_text};
 pub use reader::{MOST_REFERENCES, Reader};
 pub use reading::{Step, mark, next, unread};
 pub use value::{Reckoned, Scalar, Value};
-pub use virtuals::{Element, Resolved, Virtual};
+pub use virtuals::{Element, Resolved, Sides, Virtual};
 pub use walk::known;

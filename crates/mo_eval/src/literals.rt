@@ -4,7 +4,7 @@ ghost use Rattle.mo_scope.specs.Sights.{home_seen};
 ghost use Rattle.mo_typing.specs.Indices.{or_else};
 ghost use Rattle.mo_scope.specs.Lookup.{literals_at, type_names};
 ghost use Rattle.mo_scope.specs.Worlds.{table_in};
-ghost use Rattle.mo_eval.specs.Resolving.{literal_text, path_of_class};
+ghost use Rattle.mo_eval.specs.Resolving.{dotted, literal_text, path_of_class};
 ghost use Rattle.mo_eval.specs.steps.Spelling.{home_path, with_dots};
 
 use mo_names::{literal_name, type_name};
@@ -76,16 +76,37 @@ fn put_class(text: &mut String, s: &Scopes, class: ClassId) -> Result<(), NoMemo
 }
 
 /// A literal as it is printed: the path of its enumeration, and its name. `NoMemory` is the only other answer.
-pub(crate) fn literal_text(
-    alloc: Global,
-    s: &Scopes,
-    class: ClassId,
-    n: u32,
-) -> Result<Text, NoMemory>
+pub fn literal_text(alloc: Global, s: &Scopes, class: ClassId, n: u32) -> Result<Text, NoMemory>
     ensures { IfOk result (λ text. text ≡ literal_text (table_in s.now) class.0 n) }
 {
     let mut text = String::new(alloc);
     put_class(&mut text, s, class)?;
     text.push_str(name_of(s, class, n))?;
+    Ok(Text::from_string(text))
+}
+
+/// Puts the path of a class with dots at the end; of one without a path its name alone.
+fn put_path(text: &mut String, s: &Scopes, class: ClassId) -> Result<(), NoMemory>
+    ensures { OnOk result (string_bytes text.new ≡ string_bytes text.old ++ dotted (path_of_class (table_in s.now) class.0)) }
+{
+    match s.row(class) {
+        Some(row) => {
+            put_home(text, &row.home)?;
+            text.push_str(row.class.name.as_str())?;
+            Ok(())
+        }
+        None => {
+            text.push_str(predefined_name(class))?;
+            Ok(())
+        }
+    }
+}
+
+/// The path of a class with dots; of one without a path its name alone. `NoMemory` is the only other answer.
+pub fn class_text(alloc: Global, s: &Scopes, class: ClassId) -> Result<Text, NoMemory>
+    ensures { IfOk result (λ text. text ≡ dotted (path_of_class (table_in s.now) class.0)) }
+{
+    let mut text = String::new(alloc);
+    put_path(&mut text, s, class)?;
     Ok(Text::from_string(text))
 }

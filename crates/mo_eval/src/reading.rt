@@ -60,7 +60,7 @@ fn told_by<'t>(alloc: Global, it: &Virtual<'t>, before: &[Told]) -> Option<Answe
 
 /// What has to be done first where the variable of that number is needed and not read yet.
 #[cycle(reading)]
-fn reading<'t>(
+pub(crate) fn reading<'t>(
     alloc: Global,
     n: u32,
     virtuals: &[Virtual<'t>],

@@ -1,5 +1,5 @@
 //! References to components (Modelica Language Specification 3.5, sections 4.4.5, 5.3 and 10.5): what they hand in.
-ghost use Rattle.std.specs.Prelude.{◌≡◌, ◌∷◌, ◌++◌, ◌+◌, [], if◌then◌else◌, is_ok, length, map, option_map, IfOk, IfSome, OnOk, List as Seq, Some};
+ghost use Rattle.std.specs.Prelude.{◌≡◌, ◌∷◌, ◌++◌, ◌+◌, [], if◌then◌else◌, is_ok, length, IfOk, List as Seq, Some};
 ghost use Rattle.std.specs.List.{list_any};
 ghost use Rattle.mo_syntax.specs.declared.expr.Expr.{Expr as Tree};
 ghost use Rattle.mo_scope.specs.Frames.{Frame};
@@ -12,22 +12,26 @@ ghost use Rattle.mo_names.specs.Sights.{IsFound, IsMember, found_in, member_of};
 ghost use Rattle.mo_typing.specs.Dims.{subscripted};
 ghost use Rattle.mo_typing.specs.Outcome.{Gives};
 ghost use Rattle.mo_typing.specs.Subscripts.{subscripts};
+ghost use Rattle.mo_eval.specs.Keeping.{IsKept};
 ghost use Rattle.mo_eval.specs.Contexts.{Part as PartOf};
 ghost use Rattle.mo_eval.specs.References.{Components, elements_selected, emptied, every, handed_in, is_inside, kept_dims, kind_accepted, kind_among, kind_of_class, leaf_kind};
 ghost use Rattle.mo_eval.specs.Resolving.{made_name, made_named, made_found};
 ghost use Rattle.mo_eval.specs.Seen.{AreThere, virtuals_seen};
 ghost use Rattle.mo_eval.specs.Sites.{IsMade, ask_of, part_in, scope_of};
 ghost use Rattle.mo_eval.specs.Virtuals.{numbers_behind};
+ghost use Rattle.mo_eval.specs.steps.Absence.{Removal, as_stopped};
 ghost use Rattle.mo_eval.specs.steps.Naming.{AreNames, names_seen};
 ghost use Rattle.mo_eval.specs.steps.Parts.{as_reference};
-ghost use Rattle.mo_eval.specs.steps.Selecting.{elements_as, elements_seen, kind_of_elements, reading_at, selections_seen};
+ghost use Rattle.mo_eval.specs.steps.Selecting.{elements_as, elements_seen, kind_of_elements, reading_in, selections_seen};
 
+use crate::absent::{Absent, or_broken};
 use crate::below::{At, below};
 use crate::context::Context;
 use crate::layers::answer;
 use crate::literals::literal_text;
 use crate::names::{Name, Referred, named};
 use crate::operations::broken;
+use crate::reader::Reader;
 use crate::resolve::Site;
 use crate::selecting::{are_inside, emptied};
 use crate::selections::{Selection, selections};
@@ -40,7 +44,7 @@ use mo_typing::subscripted;
 use std::alloc::Global;
 
 /// What a reference hands in: dimensions and subscripts.
-type Handed = (List<u32>, List<Subscript>);
+pub(crate) type Handed = (List<u32>, List<Subscript>);
 
 /// The dimensions that are left of all.
 fn kept_dims(alloc: Global, chosen: &[Selection]) -> Result<List<u32>, NoMemory>
@@ -83,7 +87,7 @@ fn handed_behind(alloc: Global, before: List<u32>, last: Selection) -> Result<Ha
 }
 
 /// The dimensions and the subscripts that a reference hands in.
-fn handed_in(alloc: Global, chosen: List<Selection>) -> Result<Handed, NoMemory>
+pub(crate) fn handed_in(alloc: Global, chosen: List<Selection>) -> Result<Handed, NoMemory>
     ensures { IfOk result (λ handed. handed ≡ handed_in (selections_seen chosen.entry)) }
 {
     let mut before = chosen;
@@ -110,25 +114,27 @@ const MOST_PARTS: usize = 1000;
 
 /// The elements that a reference selects.
 #[cycle(resolving)]
-fn elements_selected<'t>(
-    alloc: Global,
+pub(crate) fn elements_selected<'t>(
+    reader: &mut Reader<'t>,
     s: &mut Scopes<'t>,
     deeper: u64,
     place: Place,
     member: &Member<'t>,
     chosen: &[Selection],
-) -> Result<List<At<'t>>, Stop>
+) -> Result<List<At<'t>>, Absent>
     requires member { IsMember s.old member.now }
+    requires kept { IsKept s.old reader.old }
     ensures grows { Grows s.old s.new }
+    ensures kept { IsKept s.new reader.new }
     ensures there { IfOk result (Every (λ element. IsMember s.new element.0)) }
-    ensures exact { GivesSeen (elements_seen (frames_of s.new)) result (elements_selected (table_in s.old) (reading_at s.old deeper) place (member_of (frames_of s.old) member.now) (selections_seen chosen.now)) }
+    ensures exact { (asking : Removal) → GivesSeen (elements_seen (frames_of s.new)) (as_stopped asking result) (elements_selected (table_in s.old) (reading_in asking s.old deeper) place (member_of (frames_of s.old) member.now) (selections_seen chosen.now)) }
 {
-    let mut made = List::new(alloc);
+    let mut made = List::new(reader.alloc);
     if chosen.len() > MOST_PARTS {
-        return Err(Stop::NoMemory);
+        return Err(Absent::Stopped(Stop::NoMemory));
     }
     if is_inside(chosen) {
-        below(alloc, s, deeper, place, member, chosen, &mut made)?;
+        below(reader, s, deeper, place, member, chosen, &mut made)?;
     }
     Ok(made)
 }
@@ -299,7 +305,7 @@ fn kind_of_elements<'t>(
 /// no more references may be read, rule 29 is broken.
 #[cycle(resolving)]
 fn components<'t>(
-    alloc: Global,
+    reader: &mut Reader<'t>,
     s: &mut Scopes<'t>,
     site: &Site,
     place: Place,
@@ -309,7 +315,9 @@ fn components<'t>(
     requires frame { IsFrame s.old site.now.at.now.frame.0 }
     requires names { AreNames s.old names.now }
     requires there { AreThere s.old virtuals.old }
+    requires kept { IsKept s.old reader.old }
     ensures grows { Grows s.old s.new }
+    ensures kept { IsKept s.new reader.new }
     ensures there { AreThere s.new virtuals.new }
     ensures exact { IsMade s.new result virtuals.new (made_named (table_in s.old) (ask_of s.old site.now) site.now.context place (Components (names_seen (part_in s.old site.now) (frames_of s.old) names.now)) (virtuals_seen (frames_of s.old) virtuals.old)) }
 {
@@ -322,16 +330,30 @@ fn components<'t>(
     let deeper = site.left - 1;
     let first = names[0].member;
     let last = names[names.len() - 1].member;
-    let chosen = selections(alloc, s, site, deeper, first, names)?;
-    let elements = elements_selected(alloc, s, deeper, place, &first, chosen.as_slice())?;
-    let kind = kind_of_elements(alloc, s, site.context, place, &last, elements.as_slice())?;
+    let chosen = or_broken(selections(reader, s, site, deeper, first, names))?;
+    let elements = or_broken(elements_selected(
+        reader,
+        s,
+        deeper,
+        place,
+        &first,
+        chosen.as_slice(),
+    ))?;
+    let kind = kind_of_elements(
+        reader.alloc,
+        s,
+        site.context,
+        place,
+        &last,
+        elements.as_slice(),
+    )?;
     let common = Common {
         place,
         kind,
         constant: are_constant(names),
     };
-    let (dims, subs) = handed_in(alloc, chosen)?;
-    let vars = put_variables(alloc, common, elements.as_slice(), virtuals)?;
+    let (dims, subs) = handed_in(reader.alloc, chosen)?;
+    let vars = put_variables(reader.alloc, common, elements.as_slice(), virtuals)?;
     Ok(ArrayNode::Vars {
         vars,
         kind,
@@ -361,7 +383,7 @@ fn other(alloc: Global, s: &Scopes, place: Place, found: &Found) -> Result<Array
 /// A name in an expression, with the virtual variables of its elements behind those before.
 #[cycle(resolving)]
 pub(crate) fn name<'t>(
-    alloc: Global,
+    reader: &mut Reader<'t>,
     s: &mut Scopes<'t>,
     site: &Site,
     place: Place,
@@ -370,14 +392,16 @@ pub(crate) fn name<'t>(
 ) -> Result<ArrayNode, Stop>
     requires frame { IsFrame s.old site.now.at.now.frame.0 }
     requires there { AreThere s.old virtuals.old }
+    requires kept { IsKept s.old reader.old }
     ensures grows { Grows s.old s.new }
+    ensures kept { IsKept s.new reader.new }
     ensures there { AreThere s.new virtuals.new }
     ensures exact { IsMade s.new result virtuals.new (made_name (table_in s.old) (ask_of s.old site.now) (scope_of s.old site.now) site.now.context place (as_reference (part_in s.old site.now) reference.now) (virtuals_seen (frames_of s.old) virtuals.old)) }
 {
-    match named(alloc, s, site, reference)? {
+    match named(reader.alloc, s, site, reference)? {
         Referred::Components(names) => {
-            components(alloc, s, site, place, names.as_slice(), virtuals)
+            components(reader, s, site, place, names.as_slice(), virtuals)
         }
-        Referred::Other(found, at) => other(alloc, s, at, &found),
+        Referred::Other(found, at) => other(reader.alloc, s, at, &found),
     }
 }

@@ -5,6 +5,7 @@ ghost use Rattle.mo_flat.specs.declared.array.ArrayNode.{ArrayNode};
 ghost use Rattle.mo_flat.specs.declared.array.ArrayNode.TheVariants.{Decimal, Str, Not, All, Any, Array, Relation, Product};
 ghost use Rattle.mo_scope.specs.Worlds.{World, Grows, IsFrame, frames_of, table_in};
 ghost use Rattle.mo_typing.specs.Outcome.{Outcome, and_then, Gives};
+ghost use Rattle.mo_eval.specs.Keeping.{IsKept};
 ghost use Rattle.mo_eval.specs.declared.virtuals.Virtual.{Virtual as VirtualAt};
 ghost use Rattle.mo_eval.specs.Virtuals.{Virtual as VirtualSeen, make_each};
 ghost use Rattle.mo_eval.specs.Resolving.{Choice, chosen, make_part, make_parts, power_of, sum_of};
@@ -18,6 +19,7 @@ use crate::context::Context;
 use crate::layers::answer;
 use crate::making::{chosen, made_end, placed, power_of, sum_of};
 use crate::operations::broken;
+use crate::reader::Reader;
 use crate::references::name;
 use crate::virtuals::Virtual;
 use mo_flat::{ArrayExpr, ArrayNode};
@@ -136,7 +138,7 @@ fn choose(
 /// An expression, with its virtual variables behind those before.
 #[cycle(resolving)]
 pub(crate) fn resolve<'t>(
-    alloc: Global,
+    reader: &mut Reader<'t>,
     s: &mut Scopes<'t>,
     site: &Site,
     e: &Expr,
@@ -144,7 +146,9 @@ pub(crate) fn resolve<'t>(
 ) -> Result<ArrayExpr, Stop>
     requires frame { IsFrame s.old site.now.at.now.frame.0 }
     requires there { AreThere s.old virtuals.old }
+    requires kept { IsKept s.old reader.old }
     ensures grows { Grows s.old s.new }
+    ensures kept { IsKept s.new reader.new }
     ensures there { AreThere s.new virtuals.new }
     ensures exact { IsMade s.new result virtuals.new ((part_in s.old site.now e.now).1 site.now.context (virtuals_seen (frames_of s.old) virtuals.old)) }
 {
@@ -158,7 +162,7 @@ pub(crate) fn resolve<'t>(
         context: site.context,
     };
     s.descend(DEPTH)?;
-    let made = resolve_node(alloc, s, &inner, e.place, e.node.get(), virtuals);
+    let made = resolve_node(reader, s, &inner, e.place, e.node.get(), virtuals);
     s.ascend(DEPTH);
     made
 }
@@ -166,7 +170,7 @@ pub(crate) fn resolve<'t>(
 /// An operand.
 #[cycle(resolving)]
 pub(crate) fn operand<'t>(
-    alloc: Global,
+    reader: &mut Reader<'t>,
     s: &mut Scopes<'t>,
     site: &Site,
     e: &Expr,
@@ -174,7 +178,9 @@ pub(crate) fn operand<'t>(
 ) -> Result<ArrayExpr, Stop>
     requires frame { IsFrame s.old site.now.at.now.frame.0 }
     requires there { AreThere s.old virtuals.old }
+    requires kept { IsKept s.old reader.old }
     ensures grows { Grows s.old s.new }
+    ensures kept { IsKept s.new reader.new }
     ensures there { AreThere s.new virtuals.new }
     ensures exact { IsMade s.new result virtuals.new (make_part site.now.context (part_in s.old site.now e.now) (virtuals_seen (frames_of s.old) virtuals.old)) }
 {
@@ -184,13 +190,13 @@ pub(crate) fn operand<'t>(
         room: site.room,
         context: site.context.operand(),
     };
-    resolve(alloc, s, &inner, e, virtuals)
+    resolve(reader, s, &inner, e, virtuals)
 }
 
 /// Two operands.
 #[cycle(resolving)]
 pub(crate) fn two<'t>(
-    alloc: Global,
+    reader: &mut Reader<'t>,
     s: &mut Scopes<'t>,
     site: &Site,
     a: &Expr,
@@ -199,19 +205,21 @@ pub(crate) fn two<'t>(
 ) -> Result<(ArrayExpr, ArrayExpr), Stop>
     requires frame { IsFrame s.old site.now.at.now.frame.0 }
     requires there { AreThere s.old virtuals.old }
+    requires kept { IsKept s.old reader.old }
     ensures grows { Grows s.old s.new }
+    ensures kept { IsKept s.new reader.new }
     ensures there { AreThere s.new virtuals.new }
     ensures exact { IsMade s.new result virtuals.new (made_two site.now.context (part_in s.old site.now a.now) (part_in s.old site.now b.now) (virtuals_seen (frames_of s.old) virtuals.old)) }
 {
-    let first = operand(alloc, s, site, a, virtuals)?;
-    let second = operand(alloc, s, site, b, virtuals)?;
+    let first = operand(reader, s, site, a, virtuals)?;
+    let second = operand(reader, s, site, b, virtuals)?;
     Ok((first, second))
 }
 
 /// All operands.
 #[cycle(resolving)]
 fn operands<'t>(
-    alloc: Global,
+    reader: &mut Reader<'t>,
     s: &mut Scopes<'t>,
     site: &Site,
     parts: &[Expr],
@@ -219,13 +227,15 @@ fn operands<'t>(
 ) -> Result<List<ArrayExpr>, Stop>
     requires frame { IsFrame s.old site.now.at.now.frame.0 }
     requires there { AreThere s.old virtuals.old }
+    requires kept { IsKept s.old reader.old }
     ensures grows { Grows s.old s.new }
+    ensures kept { IsKept s.new reader.new }
     ensures there { AreThere s.new virtuals.new }
     ensures exact { IsMade s.new result virtuals.new (make_parts site.now.context (map (part_in s.old site.now) parts.now) (virtuals_seen (frames_of s.old) virtuals.old)) }
 {
-    let mut made = List::new(alloc);
+    let mut made = List::new(reader.alloc);
     for part in parts {
-        let one = operand(alloc, s, site, part, virtuals)?;
+        let one = operand(reader, s, site, part, virtuals)?;
         made.push(one)?;
     }
     Ok(made)
@@ -234,7 +244,7 @@ fn operands<'t>(
 /// The terms of a sum.
 #[cycle(resolving)]
 fn terms<'t>(
-    alloc: Global,
+    reader: &mut Reader<'t>,
     s: &mut Scopes<'t>,
     site: &Site,
     terms: &[Term],
@@ -242,13 +252,15 @@ fn terms<'t>(
 ) -> Result<List<Signed>, Stop>
     requires frame { IsFrame s.old site.now.at.now.frame.0 }
     requires there { AreThere s.old virtuals.old }
+    requires kept { IsKept s.old reader.old }
     ensures grows { Grows s.old s.new }
+    ensures kept { IsKept s.new reader.new }
     ensures there { AreThere s.new virtuals.new }
     ensures exact { IsMade s.new result virtuals.new (make_each (made_term site.now.context) (map (as_term (part_in s.old site.now)) terms.now) (virtuals_seen (frames_of s.old) virtuals.old)) }
 {
-    let mut made = List::new(alloc);
+    let mut made = List::new(reader.alloc);
     for term in terms {
-        let one = operand(alloc, s, site, &term.value, virtuals)?;
+        let one = operand(reader, s, site, &term.value, virtuals)?;
         made.push((term.minus, term.dotted, one))?;
     }
     Ok(made)
@@ -257,7 +269,7 @@ fn terms<'t>(
 /// The factors of a product.
 #[cycle(resolving)]
 fn factors<'t>(
-    alloc: Global,
+    reader: &mut Reader<'t>,
     s: &mut Scopes<'t>,
     site: &Site,
     factors: &[Factor],
@@ -265,13 +277,15 @@ fn factors<'t>(
 ) -> Result<List<Signed>, Stop>
     requires frame { IsFrame s.old site.now.at.now.frame.0 }
     requires there { AreThere s.old virtuals.old }
+    requires kept { IsKept s.old reader.old }
     ensures grows { Grows s.old s.new }
+    ensures kept { IsKept s.new reader.new }
     ensures there { AreThere s.new virtuals.new }
     ensures exact { IsMade s.new result virtuals.new (make_each (made_factor site.now.context) (map (as_factor (part_in s.old site.now)) factors.now) (virtuals_seen (frames_of s.old) virtuals.old)) }
 {
-    let mut made = List::new(alloc);
+    let mut made = List::new(reader.alloc);
     for factor in factors {
-        let one = operand(alloc, s, site, &factor.value, virtuals)?;
+        let one = operand(reader, s, site, &factor.value, virtuals)?;
         made.push((factor.divide, factor.dotted, one))?;
     }
     Ok(made)
@@ -280,7 +294,7 @@ fn factors<'t>(
 /// A node at its place.
 #[cycle(resolving)]
 fn resolve_node<'t>(
-    alloc: Global,
+    reader: &mut Reader<'t>,
     s: &mut Scopes<'t>,
     site: &Site,
     place: Place,
@@ -289,66 +303,72 @@ fn resolve_node<'t>(
 ) -> Result<ArrayExpr, Stop>
     requires frame { IsFrame s.old site.now.at.now.frame.0 }
     requires there { AreThere s.old virtuals.old }
+    requires kept { IsKept s.old reader.old }
     ensures grows { Grows s.old s.new }
+    ensures kept { IsKept s.new reader.new }
     ensures there { AreThere s.new virtuals.new }
     ensures exact { IsMade s.new result virtuals.new (made_below (table_in s.old) (ask_of s.old site.now) (scope_of s.old site.now) node.now place site.now.context (virtuals_seen (frames_of s.old) virtuals.old)) }
 {
     match node {
-        Node::Whole(n) => at_place(alloc, place, Ok(ArrayNode::Whole(*n))),
-        Node::Decimal(text) => at_place(alloc, place, decimal(alloc, text)),
-        Node::Str(text) => at_place(alloc, place, string(alloc, text)),
-        Node::Truth(b) => at_place(alloc, place, Ok(ArrayNode::Truth(*b))),
+        Node::Whole(n) => at_place(reader.alloc, place, Ok(ArrayNode::Whole(*n))),
+        Node::Decimal(text) => at_place(reader.alloc, place, decimal(reader.alloc, text)),
+        Node::Str(text) => at_place(reader.alloc, place, string(reader.alloc, text)),
+        Node::Truth(b) => at_place(reader.alloc, place, Ok(ArrayNode::Truth(*b))),
         Node::Sum(parts) => {
-            let parts = terms(alloc, s, site, parts.as_slice(), virtuals);
-            at_place(alloc, place, sum(place, parts))
+            let parts = terms(reader, s, site, parts.as_slice(), virtuals);
+            at_place(reader.alloc, place, sum(place, parts))
         }
         Node::Product(parts) => {
-            let parts = factors(alloc, s, site, parts.as_slice(), virtuals);
-            at_place(alloc, place, product(parts))
+            let parts = factors(reader, s, site, parts.as_slice(), virtuals);
+            at_place(reader.alloc, place, product(parts))
         }
         Node::Power(base, dotted, exponent) => {
-            let operands = two(alloc, s, site, base, exponent, virtuals);
-            at_place(alloc, place, power(alloc, place, *dotted, operands))
+            let operands = two(reader, s, site, base, exponent, virtuals);
+            at_place(
+                reader.alloc,
+                place,
+                power(reader.alloc, place, *dotted, operands),
+            )
         }
         Node::Relation(op, left, right) => {
-            let operands = two(alloc, s, site, left, right, virtuals);
-            at_place(alloc, place, relation(*op, operands))
+            let operands = two(reader, s, site, left, right, virtuals);
+            at_place(reader.alloc, place, relation(*op, operands))
         }
         Node::Not(inner) => {
-            let inner = operand(alloc, s, site, inner, virtuals);
-            at_place(alloc, place, negation(inner))
+            let inner = operand(reader, s, site, inner, virtuals);
+            at_place(reader.alloc, place, negation(inner))
         }
         Node::All(parts) => {
-            let parts = operands(alloc, s, site, parts.as_slice(), virtuals);
-            at_place(alloc, place, all_of(parts))
+            let parts = operands(reader, s, site, parts.as_slice(), virtuals);
+            at_place(reader.alloc, place, all_of(parts))
         }
         Node::Any(parts) => {
-            let parts = operands(alloc, s, site, parts.as_slice(), virtuals);
-            at_place(alloc, place, any_of(parts))
+            let parts = operands(reader, s, site, parts.as_slice(), virtuals);
+            at_place(reader.alloc, place, any_of(parts))
         }
         Node::Array(parts) => {
-            let parts = operands(alloc, s, site, parts.as_slice(), virtuals);
-            at_place(alloc, place, array_of(parts))
+            let parts = operands(reader, s, site, parts.as_slice(), virtuals);
+            at_place(reader.alloc, place, array_of(parts))
         }
-        Node::EndMark => at_place(alloc, place, answer(made_end(site.context, place))),
+        Node::EndMark => at_place(reader.alloc, place, answer(made_end(site.context, place))),
         Node::Tuple(_) => Err(Stop::Broken(broken(34, place))),
         Node::ArrayFor(_, _) => Err(Stop::Broken(broken(34, place))),
         Node::Matrix(_) => Err(Stop::Broken(broken(34, place))),
         Node::Ref(reference) => {
-            let made = name(alloc, s, site, place, reference, virtuals);
-            at_place(alloc, place, made)
+            let made = name(reader, s, site, place, reference, virtuals);
+            at_place(reader.alloc, place, made)
         }
         Node::Range(first, step, last) => {
-            let made = range(alloc, s, site, place, first, step, last);
-            at_place(alloc, place, made)
+            let made = range(reader, s, site, place, first, step, last);
+            at_place(reader.alloc, place, made)
         }
         Node::If(branches, other) => {
-            let made = choice(alloc, s, site, branches.as_slice(), other, virtuals);
-            choose(alloc, place, made)
+            let made = choice(reader, s, site, branches.as_slice(), other, virtuals);
+            choose(reader.alloc, place, made)
         }
         Node::Call(callee, args) => {
-            let made = call(alloc, s, site, place, callee, args, virtuals);
-            at_place(alloc, place, made)
+            let made = call(reader, s, site, place, callee, args, virtuals);
+            at_place(reader.alloc, place, made)
         }
     }
 }

@@ -7,18 +7,22 @@ ghost use Rattle.mo_scope.specs.Outcome.{Gives as GivesSeen};
 ghost use Rattle.mo_scope.specs.Worlds.{Grows, IsFrame, frame_at, frames_of, table_in};
 ghost use Rattle.mo_names.specs.Sights.{IsMember, member_of};
 ghost use Rattle.mo_typing.specs.Outcome.{Gives};
+ghost use Rattle.mo_eval.specs.Keeping.{IsKept};
 ghost use Rattle.mo_eval.specs.Contexts.{Part as PartOf};
 ghost use Rattle.mo_eval.specs.References.{component_behind, dims_at, selection_at, selections, there};
 ghost use Rattle.mo_eval.specs.Sites.{part_in, elements_in};
+ghost use Rattle.mo_eval.specs.steps.Absence.{Removal, as_stopped};
 ghost use Rattle.mo_eval.specs.steps.Naming.{AreNames, name_seen, names_seen};
 ghost use Rattle.mo_eval.specs.steps.Parts.{as_identifier};
-ghost use Rattle.mo_eval.specs.steps.Selecting.{component_in, component_standing, member_behind, next_behind, next_selected, reading_at, selection_seen, selections_seen, dims_there};
+ghost use Rattle.mo_eval.specs.steps.Selecting.{component_in, component_standing, member_behind, next_behind, next_selected, reading_in, selection_seen, selections_seen, dims_there};
 
+use crate::absent::Absent;
 use crate::components::is_there;
 use crate::dimensions::dims;
 use crate::layers::answer;
 use crate::names::Name;
 use crate::operations::broken;
+use crate::reader::Reader;
 use crate::resolve::Site;
 use crate::selecting::{selected, within};
 use crate::sizes::count_of_dims;
@@ -38,41 +42,45 @@ pub(crate) struct Selection<'a> {
     pub(crate) subs: List<Subscript>,
 }
 
-/// Asks that a component is there.
+/// Asks that a component is there, at its identifier.
 #[cycle(resolving)]
 pub(crate) fn there<'t>(
-    alloc: Global,
+    reader: &mut Reader<'t>,
     s: &mut Scopes<'t>,
     deeper: u64,
     place: Place,
     member: &Member<'t>,
-) -> Result<(), Stop>
+) -> Result<(), Absent>
     requires member { IsMember s.old member.now }
+    requires kept { IsKept s.old reader.old }
     ensures grows { Grows s.old s.new }
-    ensures exact { Gives result (there (reading_at s.old deeper) place (member_of (frames_of s.old) member.now)) }
+    ensures kept { IsKept s.new reader.new }
+    ensures exact { (asking : Removal) → Gives (as_stopped asking result) (there (reading_in asking s.old deeper) place (member_of (frames_of s.old) member.now)) }
 {
-    if is_there(alloc, s, deeper, member)? {
-        Ok(())
-    } else {
-        Err(Stop::Broken(broken(12, place)))
+    let there = is_there(reader, s, deeper, member)?;
+    if !there {
+        return Err(Absent::Removed(place));
     }
+    Ok(())
 }
 
 /// The dimensions of a component that is there.
 #[cycle(resolving)]
 pub(crate) fn dims_there<'t>(
-    alloc: Global,
+    reader: &mut Reader<'t>,
     s: &mut Scopes<'t>,
     deeper: u64,
     place: Place,
     member: &Member<'t>,
-) -> Result<List<u32>, Stop>
+) -> Result<List<u32>, Absent>
     requires member { IsMember s.old member.now }
+    requires kept { IsKept s.old reader.old }
     ensures grows { Grows s.old s.new }
-    ensures exact { Gives result (dims_there (reading_at s.old deeper) place (member_of (frames_of s.old) member.now)) }
+    ensures kept { IsKept s.new reader.new }
+    ensures exact { (asking : Removal) → Gives (as_stopped asking result) (dims_there (reading_in asking s.old deeper) place (member_of (frames_of s.old) member.now)) }
 {
-    there(alloc, s, deeper, place, member)?;
-    dims(alloc, s, deeper, member)
+    there(reader, s, deeper, place, member)?;
+    Ok(dims(reader, s, deeper, member)?)
 }
 
 /// So many dimensions of size 0.
@@ -89,22 +97,24 @@ fn nothings(alloc: Global, n: usize) -> Result<List<u32>, NoMemory>
 /// The dimensions of the first element that is selected; where none is, as many of size 0.
 #[cycle(resolving)]
 fn dims_at<'t>(
-    alloc: Global,
+    reader: &mut Reader<'t>,
     s: &mut Scopes<'t>,
     deeper: u64,
     member: &Option<Member<'t>>,
     name: &Name<'_, 't>,
-) -> Result<List<u32>, Stop>
+) -> Result<List<u32>, Absent>
     requires member { IfSome member.now (IsMember s.old) }
     requires name { IsMember s.old name.now.member }
+    requires kept { IsKept s.old reader.old }
     ensures grows { Grows s.old s.new }
-    ensures exact { (f : Tree → PartOf) → Gives result (dims_at (table_in s.old) (reading_at s.old deeper) (option_map (member_of (frames_of s.old)) member.now) (name_seen f (frames_of s.old) name.now)) }
+    ensures kept { IsKept s.new reader.new }
+    ensures exact { (asking : Removal) (f : Tree → PartOf) → Gives (as_stopped asking result) (dims_at (table_in s.old) (reading_in asking s.old deeper) (option_map (member_of (frames_of s.old)) member.now) (name_seen f (frames_of s.old) name.now)) }
 {
     match member {
-        Some(member) => dims_there(alloc, s, deeper, name.part.place, member),
+        Some(member) => dims_there(reader, s, deeper, name.part.place, member),
         None => {
-            let n = count_of_dims(alloc, s, &name.member)?;
-            Ok(nothings(alloc, n)?)
+            let n = count_of_dims(reader.alloc, s, &name.member)?;
+            Ok(nothings(reader.alloc, n)?)
         }
     }
 }
@@ -112,23 +122,25 @@ fn dims_at<'t>(
 /// What an identifier selects.
 #[cycle(resolving)]
 fn selection_at<'a, 't>(
-    alloc: Global,
+    reader: &mut Reader<'t>,
     s: &mut Scopes<'t>,
     site: &Site,
     deeper: u64,
     member: &Option<Member<'t>>,
     name: &Name<'a, 't>,
-) -> Result<Selection<'a>, Stop>
+) -> Result<Selection<'a>, Absent>
     requires depth { deeper < site.now.left }
     requires frame { IsFrame s.old site.now.at.now.frame.0 }
     requires member { IfSome member.now (IsMember s.old) }
     requires name { IsMember s.old name.now.member }
+    requires kept { IsKept s.old reader.old }
     ensures grows { Grows s.old s.new }
-    ensures exact { GivesSeen selection_seen result (selection_at (table_in s.old) (reading_at s.old deeper) (elements_in s.old site.now.left) (option_map (member_of (frames_of s.old)) member.now) (name_seen (part_in s.old site.now) (frames_of s.old) name.now)) }
+    ensures kept { IsKept s.new reader.new }
+    ensures exact { (asking : Removal) → GivesSeen selection_seen (as_stopped asking result) (selection_at (table_in s.old) (reading_in asking s.old deeper) (elements_in s.old site.now.left) (option_map (member_of (frames_of s.old)) member.now) (name_seen (part_in s.old site.now) (frames_of s.old) name.now)) }
 {
     let part = name.part;
-    let dims = dims_at(alloc, s, deeper, member, name)?;
-    let subs = read_subscripts(alloc, s, site, dims.as_slice(), part.subs.as_slice())?;
+    let dims = dims_at(reader, s, deeper, member, name)?;
+    let subs = read_subscripts(reader, s, site, dims.as_slice(), part.subs.as_slice())?;
     Ok(Selection {
         name: &part.name,
         place: part.place,
@@ -262,25 +274,27 @@ fn member_behind<'t>(
 /// What the identifiers of a reference select, along the first element of each.
 #[cycle(resolving)]
 pub(crate) fn selections<'a, 't>(
-    alloc: Global,
+    reader: &mut Reader<'t>,
     s: &mut Scopes<'t>,
     site: &Site,
     deeper: u64,
     first: Member<'t>,
     names: &[Name<'a, 't>],
-) -> Result<List<Selection<'a>>, Stop>
+) -> Result<List<Selection<'a>>, Absent>
     requires depth { deeper < site.now.left }
     requires frame { IsFrame s.old site.now.at.now.frame.0 }
     requires first { IsMember s.old first }
     requires names { AreNames s.old names.now }
+    requires kept { IsKept s.old reader.old }
     ensures grows { Grows s.old s.new }
-    ensures exact { GivesSeen selections_seen result (selections (table_in s.old) (reading_at s.old deeper) (elements_in s.old site.now.left) (Some (member_of (frames_of s.old) first.entry)) (names_seen (part_in s.old site.now) (frames_of s.old) names.now)) }
+    ensures kept { IsKept s.new reader.new }
+    ensures exact { (asking : Removal) → GivesSeen selections_seen (as_stopped asking result) (selections (table_in s.old) (reading_in asking s.old deeper) (elements_in s.old site.now.left) (Some (member_of (frames_of s.old) first.entry)) (names_seen (part_in s.old site.now) (frames_of s.old) names.now)) }
 {
-    let mut made = List::new(alloc);
+    let mut made = List::new(reader.alloc);
     let mut member = Some(first);
     for i in 0..names.len() {
-        let selection = selection_at(alloc, s, site, deeper, &member, &names[i])?;
-        member = member_behind(alloc, s, &member, &selection, &names[i + 1..])?;
+        let selection = selection_at(reader, s, site, deeper, &member, &names[i])?;
+        member = member_behind(reader.alloc, s, &member, &selection, &names[i + 1..])?;
         made.push(selection)?;
     }
     Ok(made)

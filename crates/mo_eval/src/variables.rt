@@ -3,6 +3,7 @@ ghost use Rattle.std.specs.Prelude.{◌≡◌, ◌-◌, ◌||◌, IfOk, Some, sl
 ghost use Rattle.mo_scope.specs.Worlds.{Grows, frames_of};
 ghost use Rattle.mo_names.specs.Sights.{IsMember};
 ghost use Rattle.mo_typing.specs.Outcome.{Outcome, Gives};
+ghost use Rattle.mo_eval.specs.Keeping.{IsKept};
 ghost use Rattle.mo_eval.specs.Scalars.{has_values};
 ghost use Rattle.mo_eval.specs.References.{is_replaced};
 ghost use Rattle.mo_eval.specs.Walk.{known_by, known_of_virtuals};
@@ -11,16 +12,18 @@ ghost use Rattle.mo_eval.specs.Seen.{AreThere, element_seen, virtuals_seen};
 ghost use Rattle.mo_eval.specs.Sequence.{IsElement};
 ghost use Rattle.mo_eval.specs.Sites.{elements_in, variables_in};
 
+use crate::ahead::{Ahead, next_step};
 use crate::components::element_value;
 use crate::halt::Told;
+use crate::kept::{heed, keep_value, value_kept};
 use crate::operations::{broken, has_values};
-use crate::reading::{Step, mark, next, unread};
+use crate::reader::Reader;
+use crate::reading::{Step, mark, unread};
 use crate::value::Scalar;
 use crate::virtuals::{Element, Virtual};
 use mo_flat::ArrayExpr;
 use mo_scope::Scopes;
 use mo_syntax::{Broken, NoMemory, Stop};
-use std::alloc::Global;
 
 /// Whether an element is a constant that is replaced: it has no instance.
 pub(crate) fn is_replaced<'t>(s: &Scopes<'t>, element: &Element<'t>) -> bool
@@ -42,13 +45,15 @@ fn is_read<'t>(s: &Scopes<'t>, element: &Element<'t>) -> bool
 /// read.
 #[cycle(resolving)]
 fn element_known<'t>(
-    alloc: Global,
+    reader: &mut Reader<'t>,
     s: &mut Scopes<'t>,
     left: u64,
     element: &Element<'t>,
 ) -> Result<Option<Scalar>, Stop>
     requires member { IsMember s.old element.now.member }
+    requires kept { IsKept s.old reader.old }
     ensures grows { Grows s.old s.new }
+    ensures kept { IsKept s.new reader.new }
     ensures exact { Gives result (elements_in s.old left (element_seen (frames_of s.old) element.now)) }
 {
     if !is_read(s, element) {
@@ -57,7 +62,12 @@ fn element_known<'t>(
     if left == 0 {
         return Err(Stop::Broken(broken(29, element.place)));
     }
-    element_value(alloc, s, left - 1, element)
+    if let Some(known) = value_kept(reader, left - 1, element) {
+        return Ok(known);
+    }
+    let known = element_value(reader, s, left - 1, element)?;
+    keep_value(reader, left - 1, element, known)?;
+    Ok(known)
 }
 
 /// An answer as an outcome.
@@ -74,7 +84,7 @@ fn outcome_of<T: Drop>(answer: Result<T, Stop>) -> Result<Result<T, Broken>, NoM
 /// What the variable of that number has, an element of a component. `NoMemory` is the only other answer.
 #[cycle(resolving)]
 fn variable_known<'t>(
-    alloc: Global,
+    reader: &mut Reader<'t>,
     s: &mut Scopes<'t>,
     left: u64,
     virtuals: &[Virtual<'t>],
@@ -82,11 +92,13 @@ fn variable_known<'t>(
 ) -> Result<Result<Option<Scalar>, Broken>, NoMemory>
     requires there { AreThere s.old virtuals.now }
     requires element { IsElement (virtuals_seen (frames_of s.old) virtuals.now) n }
+    requires kept { IsKept s.old reader.old }
     ensures grows { Grows s.old s.new }
+    ensures kept { IsKept s.new reader.new }
     ensures exact { IfOk result (λ outcome. slice_get (known_of_virtuals (elements_in s.old left) (virtuals_seen (frames_of s.old) virtuals.now)) (n - 1) ≡ Some outcome) }
 {
     match virtuals.get(n.saturating_sub(1) as usize) {
-        Some(Virtual::Component(element)) => outcome_of(element_known(alloc, s, left, element)),
+        Some(Virtual::Component(element)) => outcome_of(element_known(reader, s, left, element)),
         Some(Virtual::Division { .. }) => Err(NoMemory),
         None => Err(NoMemory),
     }
@@ -96,7 +108,7 @@ fn variable_known<'t>(
 /// read; what is read on the way is put down.
 #[cycle(resolving)]
 pub(crate) fn known_with<'t>(
-    alloc: Global,
+    reader: &mut Reader<'t>,
     s: &mut Scopes<'t>,
     left: u64,
     e: &ArrayExpr,
@@ -106,15 +118,19 @@ pub(crate) fn known_with<'t>(
 ) -> Result<Option<Scalar>, Stop>
     requires there { AreThere s.old virtuals.now }
     requires read { AreRead reads.old.items (variables_in s.old left virtuals.now) }
+    requires kept { IsKept s.old reader.old }
     ensures grows { Grows s.old s.new }
+    ensures kept { IsKept s.new reader.new }
     ensures read { AreRead reads.new.items (variables_in s.old left virtuals.now) }
     ensures exact { Gives result (known_by (variables_in s.old left virtuals.now) e.now index.now) }
 {
+    let mut ahead = Ahead::nothing();
     'reading: loop {
-        match next(alloc, e, index, virtuals, reads)? {
+        match next_step(reader, e, index, virtuals, reads, &mut ahead)? {
             Step::Known(known) => return Ok(known),
             Step::Read(n) => {
-                let outcome = variable_known(alloc, s, left, virtuals, n)?;
+                let outcome = variable_known(reader, s, left, virtuals, n)?;
+                heed(reader, &outcome);
                 mark(reads, n, outcome);
             }
             Step::Divided(n, outcome) => mark(reads, n, outcome),
@@ -125,7 +141,7 @@ pub(crate) fn known_with<'t>(
 /// What is known of an element of a resolved expression, where so many references may still be read.
 #[cycle(resolving)]
 pub(crate) fn known_in<'t>(
-    alloc: Global,
+    reader: &mut Reader<'t>,
     s: &mut Scopes<'t>,
     left: u64,
     e: &ArrayExpr,
@@ -133,9 +149,11 @@ pub(crate) fn known_in<'t>(
     virtuals: &[Virtual<'t>],
 ) -> Result<Option<Scalar>, Stop>
     requires there { AreThere s.old virtuals.now }
+    requires kept { IsKept s.old reader.old }
     ensures grows { Grows s.old s.new }
+    ensures kept { IsKept s.new reader.new }
     ensures exact { Gives result (known_by (variables_in s.old left virtuals.now) e.now index.now) }
 {
-    let mut reads = unread(alloc, virtuals.len())?;
-    known_with(alloc, s, left, e, index, virtuals, &mut reads)
+    let mut reads = unread(reader.alloc, virtuals.len())?;
+    known_with(reader, s, left, e, index, virtuals, &mut reads)
 }

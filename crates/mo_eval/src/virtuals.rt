@@ -36,3 +36,11 @@ pub struct Resolved<'t> {
     pub expression: ArrayExpr,
     pub virtuals: List<Virtual<'t>>,
 }
+
+/// The two sides of an equation, resolved over one list of variables, the left one first.
+#[derive(Drop)]
+pub struct Sides<'t> {
+    pub left: ArrayExpr,
+    pub right: ArrayExpr,
+    pub virtuals: List<Virtual<'t>>,
+}

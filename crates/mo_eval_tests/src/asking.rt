@@ -96,11 +96,11 @@ fn put_asked(
     let mut reader = Reader::new(alloc);
     match index {
         Some(index) => {
-            let value = reader.value(alloc, s, at, e, index)?;
+            let value = reader.value(s, at, e, index)?;
             Ok(put_value(out, value)?)
         }
         None => {
-            let sizes = reader.sizes(alloc, s, at, e)?;
+            let sizes = reader.sizes(s, at, e)?;
             Ok(put_sizes(out, sizes.as_slice())?)
         }
     }

@@ -221,6 +221,25 @@ StateSelect.prefer||literal 3
 AssertionLevel.error||literal 1",
 ];
 
+// Each parameter, condition and dimension is read once: read anew for each reference, none of these would come to an end.
+const READ_ONCE: [&str; 3] = [
+    "parameter Integer p0 = 1; parameter Integer p1 = p0 + p0; parameter Integer p2 = p1 + p1; parameter Integer p3 = p2 + p2; parameter Integer p4 = p3 + p3; parameter Integer p5 = p4 + p4; parameter Integer p6 = p5 + p5; parameter Integer p7 = p6 + p6; parameter Integer p8 = p7 + p7; parameter Integer p9 = p8 + p8; parameter Integer p10 = p9 + p9; parameter Integer p11 = p10 + p10; parameter Integer p12 = p11 + p11; parameter Integer p13 = p12 + p12; parameter Integer p14 = p13 + p13; parameter Integer p15 = p14 + p14; parameter Integer p16 = p15 + p15; parameter Integer p17 = p16 + p16; parameter Integer p18 = p17 + p17; parameter Integer p19 = p18 + p18; parameter Integer p20 = p19 + p19; parameter Integer p21 = p20 + p20; parameter Integer p22 = p21 + p21; parameter Integer p23 = p22 + p22; parameter Integer p24 = p23 + p23; parameter Integer p25 = p24 + p24; parameter Integer p26 = p25 + p25; parameter Integer p27 = p26 + p26; parameter Integer p28 = p27 + p27; parameter Integer p29 = p28 + p28; parameter Integer p30 = p29 + p29; parameter Integer p31 = p30 + p30; parameter Integer p32 = p31 + p31; parameter Integer p33 = p32 + p32; parameter Integer p34 = p33 + p33; parameter Integer p35 = p34 + p34; parameter Integer p36 = p35 + p35; parameter Integer p37 = p36 + p36; parameter Integer p38 = p37 + p37; parameter Integer p39 = p38 + p38; parameter Integer p40 = p39 + p39;
+p40||1099511627776",
+    "parameter Boolean c0 = true; parameter Boolean c1 = c0 if c0; parameter Boolean c2 = c1 if c1; parameter Boolean c3 = c2 if c2; parameter Boolean c4 = c3 if c3; parameter Boolean c5 = c4 if c4; parameter Boolean c6 = c5 if c5; parameter Boolean c7 = c6 if c6; parameter Boolean c8 = c7 if c7; parameter Boolean c9 = c8 if c8; parameter Boolean c10 = c9 if c9; parameter Boolean c11 = c10 if c10; parameter Boolean c12 = c11 if c11; parameter Boolean c13 = c12 if c12; parameter Boolean c14 = c13 if c13; parameter Boolean c15 = c14 if c14; parameter Boolean c16 = c15 if c15; parameter Boolean c17 = c16 if c16; parameter Boolean c18 = c17 if c17; parameter Boolean c19 = c18 if c18; parameter Boolean c20 = c19 if c19; parameter Boolean c21 = c20 if c20; parameter Boolean c22 = c21 if c21; parameter Boolean c23 = c22 if c22; parameter Boolean c24 = c23 if c23; parameter Boolean c25 = c24 if c24; parameter Boolean c26 = c25 if c25; parameter Boolean c27 = c26 if c26; parameter Boolean c28 = c27 if c27; parameter Boolean c29 = c28 if c28; parameter Boolean c30 = c29 if c29;
+c30||true",
+    "Real x0[1]; Real x1[size(x0, 1)]; Real x2[size(x1, 1)]; Real x3[size(x2, 1)]; Real x4[size(x3, 1)]; Real x5[size(x4, 1)]; Real x6[size(x5, 1)]; Real x7[size(x6, 1)]; Real x8[size(x7, 1)]; Real x9[size(x8, 1)]; Real x10[size(x9, 1)]; Real x11[size(x10, 1)]; Real x12[size(x11, 1)]; Real x13[size(x12, 1)]; Real x14[size(x13, 1)]; Real x15[size(x14, 1)]; Real x16[size(x15, 1)]; Real x17[size(x16, 1)]; Real x18[size(x17, 1)]; Real x19[size(x18, 1)]; Real x20[size(x19, 1)]; Real x21[size(x20, 1)]; Real x22[size(x21, 1)]; Real x23[size(x22, 1)]; Real x24[size(x23, 1)]; Real x25[size(x24, 1)]; Real x26[size(x25, 1)]; Real x27[size(x26, 1)]; Real x28[size(x27, 1)]; Real x29[size(x28, 1)]; Real x30[size(x29, 1)];
+x30|sizes|{ 1 }",
+];
+
+// What a sum reads ahead of its walks changes no answer: of what stands behind an operand that decides, no rule is broken.
+const AHEAD: [&str; 1] = [
+    "parameter Integer x[200] = 1:200; parameter Integer y = 9223372036854775807 + 1;
+sum(x)||20100
+sum(x) > 0 or y > 0||true
+sum(x) < 0 or y > 0||30 before 64
+sum(x) + y + sum(x)||30 before 64",
+];
+
 #[test]
 fn values_of_literals(rt: HostRuntime) -> Result<(), NoMemory> {
     check(&rt, rt.alloc(), &LITERALS)
@@ -264,4 +283,14 @@ fn values_of_subscripts(rt: HostRuntime) -> Result<(), NoMemory> {
 #[test]
 fn values_of_what_references_need(rt: HostRuntime) -> Result<(), NoMemory> {
     check(&rt, rt.alloc(), &NEEDS)
+}
+
+#[test]
+fn values_that_are_read_once(rt: HostRuntime) -> Result<(), NoMemory> {
+    check(&rt, rt.alloc(), &READ_ONCE)
+}
+
+#[test]
+fn values_that_are_read_ahead(rt: HostRuntime) -> Result<(), NoMemory> {
+    check(&rt, rt.alloc(), &AHEAD)
 }

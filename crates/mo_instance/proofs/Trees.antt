@@ -17,7 +17,7 @@ use Rattle.mo_scope.specs.Lookup.{Inherited, Walked, final_frame, members_in}
 use Rattle.mo_scope.specs.Names.{Child, child_of_member, component_frame, walk_of}
 use Rattle.mo_scope.specs.Instances.{Instance, Leaf, IsAt, IsBelow, Follows, Follow, IsRoot, IsInstanceTree, tree}
 use Rattle.mo_scope.specs.Redeclarations.{Checked, each_checked, redeclarations_checked}
-use Rattle.mo_scope.proofs.laws.Standing.{every_append, every_weaker, every_map}
+use Rattle.mo_scope.proofs.laws.Standing.{every_append, every_back, every_front, every_weaker, every_map}
 use Rattle.mo_mods.proofs.PathTests.{text_test}
 use Rattle.mo_typing.specs.Dims.{Dims}
 use Rattle.mo_typing.specs.Indices.{Index, indices, numbers_to}
@@ -111,6 +111,27 @@ ExtendsTo naming Q so_far (Err broken) = Unit {0}
 
 nothing_added : (naming : Naming) (Q : Indexed → Type 0) (so_far : List Instance) → Extended naming Q so_far so_far
 nothing_added naming Q so_far = record { added = []; is = sym (append-nil so_far); follow = tt; within = tt }
+
+-- paths of their own, whatever classes there are
+abbrev pub DistinctPaths : List Instance → Type 0
+DistinctPaths [] = Unit {0}
+DistinctPaths (x ∷ xs) = Every (λ y. y.path ≡ x.path → ⊥) xs × DistinctPaths xs
+
+-- what follows instances has other paths than one of them
+others_distinct : (naming : Naming) (x : Instance) (before others : List Instance) → ((P : Instance → Type 0) → Every P before → P x) → Follow_paths naming before others →
+    Every (λ y. y.path ≡ x.path → ⊥) others
+others_distinct naming x before [] among h = tt
+others_distinct naming x before (y ∷ ys) among h = (
+  λ same. among (λ other. other.path ≡ y.path → ⊥) h.0.new (sym same),
+  others_distinct naming x (before ++ y ∷ []) ys (λ P all. among P (every_front P before (y ∷ []) all)) h.1,
+)
+
+follow_distinct : (naming : Naming) (before others : List Instance) → Follow_paths naming before others → DistinctPaths others
+follow_distinct naming before [] h = tt
+follow_distinct naming before (y ∷ ys) h = (
+  others_distinct naming y (before ++ y ∷ []) ys (λ P all. (every_back P before (y ∷ []) all).0) h.1,
+  follow_distinct naming (before ++ y ∷ []) ys h.1,
+)
 
 follow_append : (naming : Naming) (before xs ys : List Instance) → Follow_paths naming before xs → Follow_paths naming (before ++ xs) ys → Follow_paths naming before (xs ++ ys)
 follow_append naming before [] ys h k = subst (λ b. Follow_paths naming b ys) (append-nil before) k
@@ -448,22 +469,46 @@ module _ (naming : Naming) (table : Table) (named : Every (RowNamed naming) tabl
       as_recursion [] all = tt
       as_recursion (y ∷ ys) all = (all.0, as_recursion ys all.1)
 
-  -- The instances of a class are a tree, where the classes of their frames exist.
-  pub tree_is : (row : Row) (instances : List Instance) → instances_in table row ≡ Ok instances → Every HasClass instances → IsInstanceTree naming table instances
-  tree_is row instances made classes =
+  -- what the parts of the asked class add behind it
+  whole_extended : (row : Row) (instances : List Instance) → instances_in table row ≡ Ok instances → Extended naming (OfParts []) (root_instance table row ∷ []) instances
+  whole_extended row instances made =
       let checked = then_inverse (frame_checked table row.class.place (root_frame table row)) _ instances made in
       let found : walk_of table (root_frame table row) ≡ Ok checked.0 = checked_walk table row.class.place (root_frame table row) checked.0 checked.1 in
       let extends : ExtendsTo naming (OfParts []) (root_instance table row ∷ []) (parts_entered table (deeper table most_names) (around_root row) checked.0 (root_instance table row ∷ []))
       = (parts_extend (deeper table most_names) (deeper_extends most_names)).law (around_root row) (root_frame table row) checked.0 (root_instance table row ∷ []) [] found refl refl (inl refl) ((λ own. nothing own), tt) in
-      let whole : Extended naming (OfParts []) (root_instance table row ∷ []) instances = subst (ExtendsTo naming (OfParts []) (root_instance table row ∷ [])) checked.2 extends in
-      let all : Every HasClass (root_instance table row ∷ whole.added) = subst (Every HasClass) whole.is classes in
-      subst (IsInstanceTree naming table) (sym whole.is)
-      (tree (record { path = refl; frame = refl; class = all.0; dims = refl; leaf = refl }) (whole_follow (root_instance table row ∷ []) whole.added whole.follow all.1))
+      subst (ExtendsTo naming (OfParts []) (root_instance table row ∷ [])) checked.2 extends
     where
       nothing : OfParts [] [] → ⊥
       nothing own = cc
+
+  -- The instances of a class are a tree, where the classes of their frames exist.
+  pub tree_is : (row : Row) (instances : List Instance) → instances_in table row ≡ Ok instances → Every HasClass instances → IsInstanceTree naming table instances
+  tree_is row instances made classes =
+      let whole = whole_extended row instances made in
+      let all : Every HasClass (root_instance table row ∷ whole.added) = subst (Every HasClass) whole.is classes in
+      subst (IsInstanceTree naming table) (sym whole.is)
+      (tree (record { path = refl; frame = refl; class = all.0; dims = refl; leaf = refl }) (whole_follow (root_instance table row ∷ []) whole.added whole.follow all.1))
+
+  -- each instance of a class has a path of its own
+  pub distinct_in : (row : Row) (instances : List Instance) → instances_in table row ≡ Ok instances → DistinctPaths instances
+  distinct_in row instances made =
+      let whole = whole_extended row instances made in
+      let first = root_instance table row in
+      subst DistinctPaths (sym whole.is) (others_distinct naming first (first ∷ []) whole.added (λ P all. all.0) whole.follow, follow_distinct naming (first ∷ []) whole.added whole.follow)
 
 -- the same of the class with a number, whatever the names are
 pub tree_of : (table : Table) (class : ℕ) (row : Row) (instances : List Instance) → row_at table class ≡ Some row → instances_of table class ≡ Ok instances →
     Every (λ one. class_of one.frame < number_of_classes table) instances → IsInstanceTree any_name table instances
 tree_of table class row instances at made classes = tree_is any_name table (all_named table) row instances (sym (ap (instances_by table) at) ∙ made) classes
+
+-- each instance of the class with a number has a path of its own
+pub distinct_of : (table : Table) (class : ℕ) (instances : List Instance) → instances_of table class ≡ Ok instances → DistinctPaths instances
+distinct_of table class instances made = by (row_at table class) made
+  where
+    list_in : Outcome (List Instance) → List Instance
+    list_in (Ok xs) = xs
+    list_in (Err broken) = []
+
+    by : (found : Option Row) → instances_by table found ≡ Ok instances → DistinctPaths instances
+    by None e = subst DistinctPaths (ap list_in e) tt
+    by (Some row) e = distinct_in any_name table (all_named table) row instances e

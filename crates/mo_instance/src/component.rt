@@ -95,7 +95,7 @@ pub(crate) fn component_asked<'t>(
     ensures value { Gives (λ asked. (around_seen asked.0, asked.1)) result (asked_of_component (table_in s.old) (around_seen around.now) (member_of (frames_of s.old) member.now)) }
 {
     let class = component_class(alloc, s, member)?;
-    let dims = reader.dims(alloc, s, member)?;
+    let dims = reader.dims(s, member)?;
     let below = around_parts(alloc, s, around, member, class)?;
     Ok((below, dims))
 }
@@ -121,5 +121,5 @@ pub(crate) fn is_entered<'t>(
         outer_checked(alloc, s, member)?;
         return Ok(false);
     }
-    reader.is_there(alloc, s, member)
+    reader.is_there(s, member)
 }

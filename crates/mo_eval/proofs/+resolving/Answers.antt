@@ -3,45 +3,48 @@ use Rattle.mo_eval.proofs.Arguing.{called_partly, called_plain, derived_partly, 
 use Rattle.mo_eval.proofs.Bindings.{bound_is, child_halts, picked_exists, unbound_is, value_by_bound}
 use Rattle.mo_eval.proofs.Calling.{each_more, from_halts, none_by, plain_at, plain_length, seen_halts}
 use Rattle.mo_eval.proofs.Choosing.{behind_made, branch_ok, none_left, none_left_halts, one_halts, one_last, one_more}
-use Rattle.mo_eval.proofs.Chosen.{agrees_halts, dims_agree}
+use Rattle.mo_eval.proofs.Chosen.{agrees_halts, dims_agree, more_of_none}
 use Rattle.mo_eval.proofs.Dividing.{flat_is, kept_is, none_known, operands_halt, operands_made}
 use Rattle.mo_eval.proofs.EachBelow.{agreeing_halts, all_below, all_put, below_agreed, each_done, each_earlier, every_put, few_left, no_part, none_left as none_left_of_eachbelow, nothing_below, nothing_chosen}
 use Rattle.mo_eval.proofs.Earlier.{are_elements_later, elements_later, halt_seen, halts_seen, of_member, seen_as, seen_halt, every_at}
 use Rattle.mo_eval.proofs.Forms.{at_All, at_Any, at_Array, at_ArrayFor, at_Call, at_Decimal, at_EndMark, at_If, at_Matrix, at_Not, at_Power, at_Product, at_Range, at_Ref, at_Relation, at_Str, at_Sum, at_Truth, at_Tuple, at_Whole, made_expression}
 use Rattle.mo_eval.proofs.Growing.{behind, behind_made as behind_made_of_growing, each_go_on, each_halt, given_made, gives_as, gives_halt, halts_through, made_as, parts_go_on, parts_halt, same_asked, same_elements, same_known, same_made, same_making, same_part, two_halt, two_made, two_then}
-use Rattle.mo_eval.proofs.Grown.{frame_stays, grows_on, grows_still, member_still, same_element, same_table, same_virtuals, there_still}
+use Rattle.mo_eval.proofs.Grown.{frame_stays, grows_on, grows_still, dims_still, is_there_still, kept_still, member_still, same_element, same_table, same_virtuals, there_still, value_still}
 use Rattle.mo_eval.proofs.Measuring.{binding_halts, component_by, dim_earlier, dim_more, dim_stops, dims_as, dims_bound, dims_done, no_binding, sizes_done, sizes_more, sizes_stop}
 use Rattle.mo_eval.proofs.Naming.{goes_halt}
 use Rattle.mo_eval.proofs.OneDeeper.{not_read, read_deeper, read_past}
 use Rattle.mo_eval.proofs.Prefixes.{fewer_unread, length-known, told_at}
 use Rattle.mo_eval.proofs.Reference.{made_halts}
 use Rattle.mo_eval.proofs.Referring.{all_made, elements_earlier, kind_earlier, made_as_put, named_components, named_member, named_other, no_choice, no_elements, no_kind, none_left_of}
+use Rattle.mo_eval.proofs.Removing.{breaks_nothing, dims_for, if_told, is_there_for, removed_for, there_stops, told_broken}
 use Rattle.mo_eval.proofs.Sizing.{same_plain, size_by}
 use Rattle.mo_eval.proofs.Splitting.{got}
-use Rattle.mo_eval.proofs.Subscripting.{behind_nothing, by_none, by_some, get_same, halts_as, number_halts as number_halts_of_subscripting, number_more as number_more_of_subscripting, numbers_end, subscript_by, subscript_halts, subscript_more, subscripts_end}
+use Rattle.mo_eval.proofs.Subscripting.{behind_nothing, by_none, by_some, get_same, number_halts as number_halts_of_subscripting, number_more as number_more_of_subscripting, numbers_end, subscript_by, subscript_halts, subscript_more, subscripts_end}
 use Rattle.mo_eval.proofs.Telling.{if_ok, step_halts}
-use Rattle.mo_eval.specs.Calls.{checked_operands, derivative_of, division_variable, function_named, known_number, known_of_operands, made_function, made_size, make_arguments, read_size, read_sizes, takes, value_of_division}
+use Rattle.mo_eval.specs.Calls.{checked_operands, derivative_of, function_named, known_number, known_of_operands, made_function, make_arguments, read_size, read_sizes, takes, value_of_division}
 use Rattle.mo_eval.specs.Components.{binding_dims, each_dim, place_of, value_in}
-use Rattle.mo_eval.specs.Contexts.{Part, alone, argument_of_size, layered, must_be_truth, must_be_whole, only_whole, operand, place_of as place_of_of_contexts, read_in, scalar_or_vector, subscript_of, truth_of, whole_of}
+use Rattle.mo_eval.specs.Contexts.{alone, argument_of_size, layered, must_be_truth, must_be_whole, only_whole, operand, place_of as place_of_of_contexts, read_in, scalar_or_vector, subscript_of, truth_of, whole_of}
 use Rattle.mo_eval.specs.References.{dims_at, numbers_of, read_subscripts, selected, there}
 use Rattle.mo_eval.specs.Resolving.{made_choice, made_range, make_part, make_parts, power_of, range_of, read_end, read_step}
 use Rattle.mo_eval.specs.Scalars.{Known, division, if_it_has}
 use Rattle.mo_eval.specs.Seen.{element_seen, resolved_seen, virtual_seen, virtuals_seen}
 use Rattle.mo_eval.specs.Sites.{ask_of, elements_in, part_in, scope_of, variables_in}
 use Rattle.mo_eval.specs.Told.{AreRead, IsUnread}
-use Rattle.mo_eval.specs.Values.{component_dims, reading, value_of_element}
-use Rattle.mo_eval.specs.Virtuals.{Resolved, Virtual, make, make_each, make_from}
+use Rattle.mo_eval.specs.Values.{component_dims, reading, there_of}
+use Rattle.mo_eval.specs.Virtuals.{Virtual, make, make_each, make_from}
 use Rattle.mo_eval.specs.Walk.{known_at, known_by, known_of_virtuals, numbered}
 use Rattle.mo_eval.specs.declared.choice.BranchMade.TheVariants.{Dropped}
 use Rattle.mo_eval.specs.declared.dimensions.Measured.{Measured}
 use Rattle.mo_eval.specs.declared.virtuals.Virtual.TheVariants.{Component}
+use Rattle.mo_eval.specs.declared.absent.Absent.TheVariants.{Stopped}
+use Rattle.mo_eval.specs.steps.Absence.{Breaks, as_stopped, stop_for}
 use Rattle.mo_eval.specs.steps.Asking.{bound_in, end_in, unbound}
 use Rattle.mo_eval.specs.steps.Calling.{filled_with, number_of_size}
-use Rattle.mo_eval.specs.steps.Choosing.{kept_in, last_in, made_branch, truth_in}
-use Rattle.mo_eval.specs.steps.Measuring.{bound_in as bound_in_of_measuring, dims_more, dims_of_binding, scoped}
+use Rattle.mo_eval.specs.steps.Choosing.{made_branch, truth_in}
+use Rattle.mo_eval.specs.steps.Measuring.{bound_in as bound_in_of_measuring, dims_more, dims_of_binding}
 use Rattle.mo_eval.specs.steps.Naming.{name_seen}
 use Rattle.mo_eval.specs.steps.Parts.{as_branch, as_factor, as_part, as_reference, as_term, made_arguments, made_factor, made_term, made_two}
-use Rattle.mo_eval.specs.steps.Selecting.{each_below, elements_more, elements_seen, reading_at, selection_seen, selections_seen}
+use Rattle.mo_eval.specs.steps.Selecting.{each_below, elements_more, elements_seen, reading_at, reading_in, selection_seen, selections_seen}
 use Rattle.mo_eval.specs.steps.Sizing.{all_sizes, sizes_seen}
 use Rattle.mo_eval.specs.steps.Subscripting.{numbers_by, subscript_at, subscript_in}
 use Rattle.mo_flat.specs.declared.array.ArrayExpr.{roll-ArrayExpr}
@@ -49,25 +52,25 @@ use Rattle.mo_flat.specs.declared.array.ArrayNode.{ArrayNode}
 use Rattle.mo_flat.specs.declared.array.ArrayNode.TheVariants.{Relation, Size, Sized, Truth, Whole}
 use Rattle.mo_flat.specs.declared.array.Subscript.{Subscript}
 use Rattle.mo_flat.specs.declared.array.Subscript.TheVariants.{Many, One}
-use Rattle.mo_names.proofs.Later.{grows_refl, grows_trans, is_member_later, member_later, table_later, is_frame_later}
+use Rattle.mo_names.proofs.Later.{grows_refl, grows_trans, is_member_later, table_later, is_frame_later}
 use Rattle.mo_names.specs.Children.{child_seen}
-use Rattle.mo_names.specs.Sights.{IsMember, member_of}
+use Rattle.mo_names.specs.Sights.{member_of}
 use Rattle.mo_names.specs.declared.found.Child.{Child as ChildAt}
 use Rattle.mo_scope.specs.Frames.{Member}
 use Rattle.mo_scope.specs.Parts.{Picked, picked_here}
 use Rattle.mo_scope.specs.Sights.{picked_in, source_seen}
 use Rattle.mo_scope.specs.Sizes.{count_sizes}
-use Rattle.mo_scope.specs.Worlds.{Grows, frames_of, scope_in, sources_in, table_in, IsFrame}
+use Rattle.mo_scope.specs.Worlds.{frames_of, scope_in, table_in, IsFrame}
 use Rattle.mo_syntax.specs.declared.expr.Args.{out-Args}
 use Rattle.mo_typing.proofs.Gathering.{opened}
 use Rattle.mo_typing.specs.Indices.{Index}
-use Rattle.mo_typing.specs.Outcome.{Gives, and_then}
-use Rattle.std.proofs.Common.{Err, List, None, Ok, Option, Some, [], add-one, ap, arith, drop, false, get_or, length, map, refl, rules, subst, suc, sym, true, ℕ, ℤ, ◌++◌, ◌+◌, ◌-◌, ◌<◌, ◌∙◌, ◌∷◌, ◌≡◌}
+use Rattle.mo_typing.specs.Outcome.{and_then}
+use Rattle.std.proofs.Common.{Err, List, None, Ok, Some, [], add-one, ap, arith, drop, false, get_or, length, map, refl, rules, subst, suc, sym, true, ℕ, ℤ, ◌++◌, ◌+◌, ◌-◌, ◌<◌, ◌∙◌, ◌∷◌, ◌≡◌}
 use Rattle.std.proofs.lemmas.Grind.{common_steps}
 use Rattle.std.proofs.lemmas.List.{append-nil, drop-map, drop_all, length-map, map-append}
 use Rattle.std.proofs.lemmas.Option.{slice_get-map}
 use Rattle.std.specs.Option.{option_map}
-use Rattle.std.specs.Prelude.{List as Seq, option_map as mapped, option_map as option_map_of_prelude, slice_get}
+use Rattle.std.specs.Prelude.{option_map as mapped, option_map as option_map_of_prelude, slice_get}
 use Rattle.mo_eval.specs.declared.sizes.Sizes.{Sizes as SizesAt}
 use Rattle.mo_eval.proofs.+resolving.Goals.{references::elements_selected-then-is_inside+in_ok-below, references::elements_selected-else-is_inside}
 use Rattle.mo_eval.proofs.+resolving.Goals as goal
@@ -110,6 +113,9 @@ components::element_value-returns-in_err-child-clause-exact t c =
     let p : c.from_residual.result ≡ Err stop = search rules in
     rw p (child_halts table (reading table c.args.left) element {T = ChildAt} (child_seen (frames_of c.child_of_member.new.s)) stop (rw c.as_slice.ensures at c.in_err-child.ensures.value))
 
+pub components::element_value-returns-in_err-child-clause-kept : goal.components::element_value-returns-in_err-child-clause-kept
+components::element_value-returns-in_err-child-clause-kept t c = kept_still _ _ c.child_of_member.ensures.grows _ c.requires.kept
+
 pub components::element_value-unbound-requires : goal.components::element_value-unbound-requires
 components::element_value-unbound-requires t c = record { member = member_still _ _ c.child_of_member.ensures.grows c.args.element.now.member c.requires.member }
 
@@ -124,10 +130,13 @@ components::element_value-returns-in-None-clause-exact t c =
     let same = same_element c.args.s.now mid c.child_of_member.ensures.grows c.args.element.now c.requires.member in
     gives_as c.answer.result _ _ (ap unbound same ∙ sym (unbound_is table (reading table c.args.left) element child found none)) (rw c.unbound.ensures at c.answer.ensures)
 
+pub components::element_value-returns-in-None-clause-kept : goal.components::element_value-returns-in-None-clause-kept
+components::element_value-returns-in-None-clause-kept t c = kept_still _ _ c.child_of_member.ensures.grows _ c.requires.kept
+
 pub components::element_value-value_in-requires : goal.components::element_value-value_in-requires
 components::element_value-value_in-requires t c =
     let mid = c.child_of_member.new.s in
-    (search rules, picked_exists mid (map source_seen c.in_ok-child.child.sources) c.in-Some.picked c.in_ok-child.ensures.stand.sources (rw c.as_slice-2.ensures at (c.in-Some.ensures (frames_of mid))))
+    (search rules, (picked_exists mid (map source_seen c.in_ok-child.child.sources) c.in-Some.picked c.in_ok-child.ensures.stand.sources (rw c.as_slice-2.ensures at (c.in-Some.ensures (frames_of mid))), kept_still _ _ c.child_of_member.ensures.grows _ c.requires.kept))
 
 pub components::element_value-returns-clause-exact : goal.components::element_value-returns-clause-exact
 components::element_value-returns-clause-exact t c =
@@ -151,9 +160,28 @@ pub variables::element_known-returns-then-left-eq0-clause-exact : goal.variables
 variables::element_known-returns-then-left-eq0-clause-exact t c =
     rw c.broken.ensures (read_past (table_in c.args.s.now) c.args.left (element_seen (frames_of c.args.s.now) c.args.element.now) (cc) (omega arith))
 
+pub variables::element_known-returns-in-Some-clause-exact : goal.variables::element_known-returns-in-Some-clause-exact
+variables::element_known-returns-in-Some-clause-exact t c =
+    rw (read_deeper (table_in c.args.s.now) c.args.left (c.args.left - 1) (element_seen (frames_of c.args.s.now) c.args.element.now) (cc) (omega arith)) (rw c.in-Some.is at (c.value_kept.ensures c.args.s.now c.requires.kept c.requires.member))
+
+pub variables::element_known-returns-in_err-known-clause-exact : goal.variables::element_known-returns-in_err-known-clause-exact
+variables::element_known-returns-in_err-known-clause-exact t c =
+    let stop = c.in_err-known.field-0.0 in
+    let p : c.from_residual.result ≡ Err stop = search rules in
+    rw (p, read_deeper (table_in c.args.s.now) c.args.left (c.args.left - 1) (element_seen (frames_of c.args.s.now) c.args.element.now) (cc) (omega arith)) c.in_err-known.ensures.exact
+
+pub variables::element_known-returns-in_err-keep_value-clause-kept : goal.variables::element_known-returns-in_err-keep_value-clause-kept
+variables::element_known-returns-in_err-keep_value-clause-kept t c =
+    c.keep_value.ensures c.element_value.new.s c.element_value.ensures.kept (member_still _ _ c.element_value.ensures.grows _ c.requires.member)
+    (value_still _ _ c.element_value.ensures.grows (c.args.left - 1) c.args.element.now c.requires.member c.in_ok-known.known c.in_ok-known.ensures.exact)
+
+pub variables::element_known-returns-clause-kept : goal.variables::element_known-returns-clause-kept
+variables::element_known-returns-clause-kept t c =
+    c.keep_value.ensures c.element_value.new.s c.element_value.ensures.kept (member_still _ _ c.element_value.ensures.grows _ c.requires.member)
+    (value_still _ _ c.element_value.ensures.grows (c.args.left - 1) c.args.element.now c.requires.member c.in_ok-known.known c.in_ok-known.ensures.exact)
+
 pub variables::element_known-returns-clause-exact : goal.variables::element_known-returns-clause-exact
-variables::element_known-returns-clause-exact t c =
-    rw (read_deeper (table_in c.args.s.now) c.args.left (c.args.left - 1) (element_seen (frames_of c.args.s.now) c.args.element.now) (cc) (omega arith)) c.element_value.ensures.exact
+variables::element_known-returns-clause-exact t c = rw (read_deeper (table_in c.args.s.now) c.args.left (c.args.left - 1) (element_seen (frames_of c.args.s.now) c.args.element.now) (cc) (omega arith)) c.in_ok-known.ensures.exact
 
 pub variables::variable_known-element_known-requires : goal.variables::variable_known-element_known-requires
 variables::variable_known-element_known-requires t c =
@@ -161,7 +189,7 @@ variables::variable_known-element_known-requires t c =
     let it = c.in-Some-Component.field-0.now in
     let lookup = c.in-Some-Component.ensures.lookup in
     let found : slice_get c.args.virtuals.now at ≡ Some it = got c.args.virtuals.now at it lookup.3.0 lookup.1 in
-    (search rules, c.requires.there.each at c.in-Some-Component.element (found ∙ ap Some c.in-Some-Component.field-0-is))
+    (search rules, (c.requires.there.each at c.in-Some-Component.element (found ∙ ap Some c.in-Some-Component.field-0-is), c.requires.kept))
 
 pub variables::variable_known-returns-in-Some-Component-clause-exact : goal.variables::variable_known-returns-in-Some-Component-clause-exact
 variables::variable_known-returns-in-Some-Component-clause-exact t c =
@@ -198,7 +226,7 @@ variables::known_with-variable_known-requires t c =
       search rules,
       (
         there_still _ _ c.reading.invariant.0 _ c.requires.there,
-        rw (same_virtuals c.args.s.now c.reading.s c.reading.invariant.0 c.args.virtuals.now c.requires.there) step.1,
+        (rw (same_virtuals c.args.s.now c.reading.s c.reading.invariant.0 c.args.virtuals.now c.requires.there) step.1, c.reading.invariant.2),
       ),
     )
 
@@ -221,6 +249,7 @@ variables::known_with-reading-preserved-in-Read t c =
       grows_on _ _ _ c.reading.invariant.0 c.variable_known.ensures.grows,
       c.mark.ensures.read (known_of_virtuals (elements_in c.args.s.now c.args.left) (virtuals_seen (frames_of c.args.s.now) c.args.virtuals.now)) c.reading.invariant.1
           (rw same at c.in_ok-outcome-in-Read.ensures.exact),
+      c.heed.ensures _ c.variable_known.ensures.kept,
     )
 
 pub variables::known_with-mark-requires-in-Divided : goal.variables::known_with-mark-requires-in-Divided
@@ -242,13 +271,14 @@ variables::known_with-reading-preserved t c =
     let step = rw c.in-Divided.is at (c.in_ok-known.ensures (frames_of c.args.s.now) (elements_in c.args.s.now c.args.left) read) in (
       c.reading.invariant.0,
       c.mark-in-Divided.ensures.read (known_of_virtuals (elements_in c.args.s.now c.args.left) (virtuals_seen (frames_of c.args.s.now) c.args.virtuals.now)) c.reading.invariant.1 step.1,
+      c.reading.invariant.2,
     )
 
 pub variables::known_in-known_with-requires : goal.variables::known_in-known_with-requires
 variables::known_in-known_with-requires t c =
     let read = elements_in c.args.s.now c.args.left in
     let virtuals = virtuals_seen (frames_of c.args.s.now) c.args.virtuals.now in
-    (search rules, (c.requires.there, c.in_ok-reads.ensures (known_of_virtuals read virtuals) (length-known read virtuals ∙ length-map c.args.virtuals.now (virtual_seen (frames_of c.args.s.now)))))
+    (search rules, (c.requires.there, (c.in_ok-reads.ensures (known_of_virtuals read virtuals) (length-known read virtuals ∙ length-map c.args.virtuals.now (virtual_seen (frames_of c.args.s.now))), c.requires.kept)))
 
 pub division::value_of-returns-in_default-clause-exact : goal.division::value_of-returns-in_default-clause-exact
 division::value_of-returns-in_default-clause-exact t c =
@@ -278,7 +308,7 @@ division::value_of-returns-clause-exact t c =
     rw (c.in-Some.ensures, c.in_ok-m.ensures.exact, sym same ∙ c.in_ok-n.ensures.exact) (rw c.division.ensures.exact at c.answer.ensures)
 
 pub division::value_of-known_in-requires-2 : goal.division::value_of-known_in-requires-2
-division::value_of-known_in-requires-2 t c = (search rules, there_still _ _ c.known_in.ensures.grows _ c.requires.there)
+division::value_of-known_in-requires-2 t c = (search rules, (there_still _ _ c.known_in.ensures.grows _ c.requires.there, c.known_in.ensures.kept))
 
 pub alone::read_end-returns-clause-exact : goal.alone::read_end-returns-clause-exact
 alone::read_end-returns-clause-exact t c =
@@ -351,7 +381,7 @@ choice::made_branch-operand-requires t c = (
   search rules,
   (
     frame_stays _ _ _ c.read_condition.ensures.grows c.requires.frame,
-    there_still _ _ c.read_condition.ensures.grows _ c.requires.there,
+    (there_still _ _ c.read_condition.ensures.grows _ c.requires.there, c.read_condition.ensures.kept),
   ),
 )
 
@@ -360,7 +390,7 @@ choice::made_branch-two-requires t c = (
   search rules,
   (
     frame_stays _ _ _ c.read_condition.ensures.grows c.requires.frame,
-    there_still _ _ c.read_condition.ensures.grows _ c.requires.there,
+    (there_still _ _ c.read_condition.ensures.grows _ c.requires.there, c.read_condition.ensures.kept),
   ),
 )
 
@@ -456,6 +486,7 @@ choice::choice-loop-one-preserved t c =
       c.made_branch.ensures.there,
       rw c.in_ok-value.ensures.made
           (sym (one_more read context (f c.args.other.now) c.loop-one.made (as_branch f x) rest before after c.in_ok-step.step step (sym c.in_ok-value.ensures.last ∙ none)) ∙ opening),
+      c.made_branch.ensures.kept,
     )
 
 pub choice::choice-returns-in_err-rest-clause-exact : goal.choice::choice-returns-in_err-rest-clause-exact
@@ -514,6 +545,7 @@ calls::arguments-loop-arg-preserved t c =
           rw (pushed, add-one)
           (sym (each_go_on (λ argument. argument.1 (operand context)) c.loop-arg.made (f e) (drop (suc i) parts) before c.in_ok-one.one after one)
           ∙ (ap (λ xs. and_then (make_arguments context xs before) (behind_made_of_growing c.loop-arg.made)) (sym first) ∙ c.loop-arg.invariant.2 parts all)),
+      c.operand.ensures.kept,
     )
 
 pub calls::arguments-returns-clause-exact : goal.calls::arguments-returns-clause-exact
@@ -557,6 +589,7 @@ calls::sizes-loop-arg-preserved t c =
           rw (pushed, add-one)
           (sym (each_more (read_size read context) c.loop-arg.made (f e) (drop (suc i) parts) c.in_ok-one.one (sym same ∙ c.in_ok-one.ensures.exact))
           ∙ (ap (λ xs. and_then (read_sizes read context xs) (λ more. Ok (c.loop-arg.made ++ more))) (sym first) ∙ c.loop-arg.invariant.1 parts all)),
+      c.read_size.ensures.kept,
     )
 
 pub calls::sizes-returns-clause-exact : goal.calls::sizes-returns-clause-exact
@@ -608,7 +641,7 @@ calls::number-arguments-requires t c = (
   search rules,
   (
     frame_stays _ _ _ c.read_size.ensures.grows c.requires.frame,
-    there_still _ _ c.read_size.ensures.grows _ c.requires.there,
+    (there_still _ _ c.read_size.ensures.grows _ c.requires.there, c.read_size.ensures.kept),
   ),
 )
 
@@ -834,6 +867,9 @@ calls::call-returns-in_err-function_code-in-Named-clause-exact t c =
     rw (p, c.in-Named.is)
     (from_halts _ stop _ (function_named (table_in c.args.s.now) (scope_of c.args.s.now c.args.site.now) c.args.place reference) (virtuals_seen (frames_of c.args.s.now) c.args.virtuals.now) _ c.in_err-function_code-in-Named.ensures.exact)
 
+pub calls::call-returns-in_err-function_code-in-Named-clause-kept : goal.calls::call-returns-in_err-function_code-in-Named-clause-kept
+calls::call-returns-in_err-function_code-in-Named-clause-kept t c = kept_still _ _ c.function_named.ensures.grows _ c.requires.kept
+
 pub calls::call-returns-then-not-are_plain-clause-there : goal.calls::call-returns-then-not-are_plain-clause-there
 calls::call-returns-then-not-are_plain-clause-there t c = there_still _ _ c.function_named.ensures.grows _ c.requires.there
 
@@ -850,12 +886,15 @@ calls::call-returns-then-not-are_plain-clause-exact t c =
           c.in_ok-function_code-in-Named.ensures.exact (sym (none_by _ (sym (c.are_plain.ensures table ask scope) ∙ no)));
     })
 
+pub calls::call-returns-then-not-are_plain-clause-kept : goal.calls::call-returns-then-not-are_plain-clause-kept
+calls::call-returns-then-not-are_plain-clause-kept t c = kept_still _ _ c.function_named.ensures.grows _ c.requires.kept
+
 pub calls::call-function-requires : goal.calls::call-function-requires
 calls::call-function-requires t c = (
   search rules,
   (
     frame_stays _ _ _ c.function_named.ensures.grows c.requires.frame,
-    there_still _ _ c.function_named.ensures.grows _ c.requires.there,
+    (there_still _ _ c.function_named.ensures.grows _ c.requires.there, kept_still _ _ c.function_named.ensures.grows _ c.requires.kept),
   ),
 )
 
@@ -1049,6 +1088,7 @@ resolve::operands-loop-part-preserved t c =
       rw pushed
           (sym (parts_go_on c.args.site.now.context f c.loop-part.made x (drop (i + 1) c.args.parts.now) before c.in_ok-one.one (virtuals_seen (frames_of c.operand.new.s) c.operand.new.virtuals) (same_made _ _ _ c.args.site.now.context _ _ _ same c.in_ok-one.ensures.exact).is)
           ∙ (opened (λ xs. and_then (make_parts c.args.site.now.context (map f xs) before) (behind c.loop-part.made)) c.args.parts.now i x c.loop-part-test.true c.part-item.is ∙ c.loop-part.invariant.2)),
+      c.operand.ensures.kept,
     )
 
 pub resolve::resolve_node-returns-in-Whole-clause-exact : goal.resolve::resolve_node-returns-in-Whole-clause-exact
@@ -1141,6 +1181,7 @@ resolve::terms-loop-term-preserved t c =
       rw pushed
           (sym (each_go_on (made_term c.args.site.now.context) c.loop-term.made (as_term f x) (map (as_term f) (drop (i + 1) c.args.terms.now)) before (x.minus, x.dotted, c.in_ok-one.one) after (rw one refl))
           ∙ (opened (λ xs. and_then (make_each (made_term c.args.site.now.context) (map (as_term f) xs) before) (behind_made_of_growing c.loop-term.made)) c.args.terms.now i x c.loop-term-test.true c.term-item.is ∙ c.loop-term.invariant.2)),
+      c.operand.ensures.kept,
     )
 
 pub resolve::factors-returns-in_err-one-clause-exact : goal.resolve::factors-returns-in_err-one-clause-exact
@@ -1171,6 +1212,7 @@ resolve::factors-loop-factor-preserved t c =
       rw pushed
           (sym (each_go_on (made_factor c.args.site.now.context) c.loop-factor.made (as_factor f x) (map (as_factor f) (drop (i + 1) c.args.factors.now)) before (x.divide, x.dotted, c.in_ok-one.one) after (rw one refl))
           ∙ (opened (λ xs. and_then (make_each (made_factor c.args.site.now.context) (map (as_factor f) xs) before) (behind_made_of_growing c.loop-factor.made)) c.args.factors.now i x c.loop-factor-test.true c.factor-item.is ∙ c.loop-factor.invariant.2)),
+      c.operand.ensures.kept,
     )
 
 pub resolve::resolve_node-returns-in-Sum-clause-exact : goal.resolve::resolve_node-returns-in-Sum-clause-exact
@@ -1236,8 +1278,29 @@ components::is_there-returns-in-Class-clause-exact t c = rw c.in-Class.is refl
 pub components::is_there-returns-in-None-clause-exact : goal.components::is_there-returns-in-None-clause-exact
 components::is_there-returns-in-None-clause-exact t c = rw (c.in-Component.is, c.in-None.is) refl
 
-pub components::is_there-returns-in-Some-clause-exact : goal.components::is_there-returns-in-Some-clause-exact
-components::is_there-returns-in-Some-clause-exact t c = rw (c.in-Component.is, c.in-Some.is) c.condition_in.ensures.exact
+pub components::is_there-returns-in-Some-there_kept-clause-exact : goal.components::is_there-returns-in-Some-there_kept-clause-exact
+components::is_there-returns-in-Some-there_kept-clause-exact t c = rw c.in-Some-there_kept.is at (c.there_kept.ensures c.args.s.now c.requires.kept c.requires.member)
+
+pub components::is_there-returns-in_err-there-in-Some-clause-exact : goal.components::is_there-returns-in_err-there-in-Some-clause-exact
+components::is_there-returns-in_err-there-in-Some-clause-exact t c =
+    let stop = c.in_err-there-in-Some.field-0.0 in
+    let p : c.from_residual.result ≡ Err stop = search rules in
+    rw (p, c.in-Component.is, c.in-Some.is) c.in_err-there-in-Some.ensures.exact
+
+pub components::is_there-returns-in_err-keep_there-in-Some-clause-kept : goal.components::is_there-returns-in_err-keep_there-in-Some-clause-kept
+components::is_there-returns-in_err-keep_there-in-Some-clause-kept t c =
+    let told : there_of (table_in c.args.s.now) c.args.left (member_of (frames_of c.args.s.now) c.args.member.now) ≡ Ok c.in_ok-there-in-Some.there = rw (c.in-Component.is, c.in-Some.is) c.in_ok-there-in-Some.ensures.exact in
+    c.keep_there.ensures c.condition_in.new.s c.condition_in.ensures.kept (member_still _ _ c.condition_in.ensures.grows _ c.requires.member)
+    (is_there_still _ _ c.condition_in.ensures.grows c.args.left c.args.member.now c.requires.member c.in_ok-there-in-Some.there told)
+
+pub components::is_there-returns-in_ok-keep_there-in-Some-clause-kept : goal.components::is_there-returns-in_ok-keep_there-in-Some-clause-kept
+components::is_there-returns-in_ok-keep_there-in-Some-clause-kept t c =
+    let told : there_of (table_in c.args.s.now) c.args.left (member_of (frames_of c.args.s.now) c.args.member.now) ≡ Ok c.in_ok-there-in-Some.there = rw (c.in-Component.is, c.in-Some.is) c.in_ok-there-in-Some.ensures.exact in
+    c.keep_there.ensures c.condition_in.new.s c.condition_in.ensures.kept (member_still _ _ c.condition_in.ensures.grows _ c.requires.member)
+    (is_there_still _ _ c.condition_in.ensures.grows c.args.left c.args.member.now c.requires.member c.in_ok-there-in-Some.there told)
+
+pub components::is_there-returns-in_ok-keep_there-in-Some-clause-exact : goal.components::is_there-returns-in_ok-keep_there-in-Some-clause-exact
+components::is_there-returns-in_ok-keep_there-in-Some-clause-exact t c = rw (c.in-Component.is, c.in-Some.is) c.in_ok-there-in-Some.ensures.exact
 
 pub subscripts::numbers_of-loop-k-init : goal.subscripts::numbers_of-loop-k-init
 subscripts::numbers_of-loop-k-init t c =
@@ -1246,6 +1309,7 @@ subscripts::numbers_of-loop-k-init t c =
       grows_still c.args.s.now,
       c.in_ok-reads.ensures (known_of_virtuals read virtuals) (length-known read virtuals ∙ (length-map c.args.resolved.now.virtuals (virtual_seen (frames_of c.args.s.now)) ∙ sym c.len.ensures)),
       rw c.new-made.ensures (behind_nothing _),
+      c.requires.kept,
     )
 
 pub subscripts::numbers_of-known_with-requires : goal.subscripts::numbers_of-known_with-requires
@@ -1254,7 +1318,7 @@ subscripts::numbers_of-known_with-requires t c =
       search rules,
       (
         rw c.as_slice.ensures (there_still c.args.s.now c.loop-k.s c.loop-k.invariant.0 c.args.resolved.now.virtuals c.requires.there),
-        rw c.as_slice.ensures (subst (λ known. AreRead c.loop-k.reads.items (numbered known)) (sym same) c.loop-k.invariant.1),
+        (rw c.as_slice.ensures (subst (λ known. AreRead c.loop-k.reads.items (numbered known)) (sym same) c.loop-k.invariant.1), c.loop-k.invariant.3),
       ),
     )
 
@@ -1296,6 +1360,7 @@ subscripts::numbers_of-loop-k-preserved t c =
       grows_on c.args.s.now c.loop-k.s c.known_with.new.s c.loop-k.invariant.0 c.in_ok-known.ensures.grows,
       subst (λ known. AreRead c.known_with.new.reads.items (numbered known)) same (rw c.as_slice.ensures at c.in_ok-known.ensures.read),
       rw pushed (number_more_of_subscripting (λ k. and_then (known (k ∷ [])) (must_be_whole c.args.place)) c.loop-k.made c.args.size c.loop-k.k _ c.loop-k.invariant.2 c.in_ok-n.n c.loop-k-test.true n),
+      c.known_with.ensures.kept,
     )
 
 pub subscripts::numbers_of-returns-clause-exact : goal.subscripts::numbers_of-returns-clause-exact
@@ -1386,7 +1451,7 @@ subscripts::subscript_at-returns-in-Some-clause-exact t c =
     gives_as c.read_subscript.result _ _ (some ∙ sym (ap (subscript_at read c.args.size) (drop-map (option_map part) c.args.k c.args.subs.now))) c.read_subscript.ensures.exact
 
 pub subscripts::read_subscripts-loop-k-init : goal.subscripts::read_subscripts-loop-k-init
-subscripts::read_subscripts-loop-k-init t c = (grows_still c.args.s.now, rw c.new-made.ensures (behind_nothing _))
+subscripts::read_subscripts-loop-k-init t c = (grows_still c.args.s.now, rw c.new-made.ensures (behind_nothing _), c.requires.kept)
 
 pub subscripts::read_subscripts-returns-in_err-sub-clause-exact : goal.subscripts::read_subscripts-returns-in_err-sub-clause-exact
 subscripts::read_subscripts-returns-in_err-sub-clause-exact t c =
@@ -1413,6 +1478,7 @@ subscripts::read_subscripts-loop-k-preserved t c =
     let pushed : c.push.new.self ≡ c.loop-k.made ++ c.in_ok-sub.sub ∷ [] = search rules in (
       grows_on c.args.s.now c.loop-k.s c.subscript_of.new.s c.loop-k.invariant.0 c.subscript_of.ensures.grows,
       rw pushed (subscript_more read c.loop-k.made dims subs k _ c.loop-k.invariant.1 size c.in_ok-sub.sub small (get_same dims k 0 size small) (sym same ∙ c.in_ok-sub.ensures.exact)),
+      c.subscript_of.ensures.kept,
     )
 
 pub subscripts::read_subscripts-returns-clause-exact : goal.subscripts::read_subscripts-returns-clause-exact
@@ -1443,6 +1509,9 @@ dimensions::binding_dims-returns-in_err-child-clause-exact t c =
     let p : c.from_residual.result ≡ Err stop = search rules in
     rw p (binding_halts table (reading table of.left) (member_of (frames_of c.args.s.now) of.member.now) of.count {T = ChildAt} (child_seen (frames_of c.child_of_member.new.s)) stop c.in_err-child.ensures.value)
 
+pub dimensions::binding_dims-returns-in_err-child-clause-kept : goal.dimensions::binding_dims-returns-in_err-child-clause-kept
+dimensions::binding_dims-returns-in_err-child-clause-kept t c = kept_still _ _ c.child_of_member.ensures.grows _ c.requires.kept
+
 pub dimensions::binding_dims-returns-in-None-clause-exact : goal.dimensions::binding_dims-returns-in-None-clause-exact
 dimensions::binding_dims-returns-in-None-clause-exact t c =
     let table = table_in c.args.s.now in
@@ -1452,10 +1521,13 @@ dimensions::binding_dims-returns-in-None-clause-exact t c =
     let none : picked_here child.sources ≡ None = sym (rw c.as_slice.ensures at (c.in-None.ensures (frames_of mid))) in
     no_binding table (reading table of.left) (member_of (frames_of c.args.s.now) of.member.now) of.count child c.in_ok-child.ensures.value none ∙ ap Err (sym (search rules))
 
+pub dimensions::binding_dims-returns-in-None-clause-kept : goal.dimensions::binding_dims-returns-in-None-clause-kept
+dimensions::binding_dims-returns-in-None-clause-kept t c = kept_still _ _ c.child_of_member.ensures.grows _ c.requires.kept
+
 pub dimensions::binding_dims-dims_in-requires : goal.dimensions::binding_dims-dims_in-requires
 dimensions::binding_dims-dims_in-requires t c =
     let mid = c.child_of_member.new.s in
-    (search rules, picked_exists mid (map source_seen c.in_ok-child.child.sources) c.in-Some.picked c.in_ok-child.ensures.stand.sources (rw c.as_slice.ensures at (c.in-Some.ensures (frames_of mid))))
+    (search rules, (picked_exists mid (map source_seen c.in_ok-child.child.sources) c.in-Some.picked c.in_ok-child.ensures.stand.sources (rw c.as_slice.ensures at (c.in-Some.ensures (frames_of mid))), kept_still _ _ c.child_of_member.ensures.grows _ c.requires.kept))
 
 pub dimensions::binding_dims-returns-clause-exact : goal.dimensions::binding_dims-returns-clause-exact
 dimensions::binding_dims-returns-clause-exact t c =
@@ -1471,7 +1543,7 @@ dimensions::binding_dims-returns-clause-exact t c =
     c.dims_in.ensures.exact
 
 pub dimensions::put_dims-loop-sub-init : goal.dimensions::put_dims-loop-sub-init
-dimensions::put_dims-loop-sub-init t c = record { grows = grows_refl c.args.s.now; is = λ others. refl }
+dimensions::put_dims-loop-sub-init t c = record { grows = grows_refl c.args.s.now; is = λ others. refl; kept = c.requires.kept }
 
 pub dimensions::put_dims-returns-in_err-n-clause-exact : goal.dimensions::put_dims-returns-in_err-n-clause-exact
 dimensions::put_dims-returns-in_err-n-clause-exact t c = λ others.
@@ -1503,6 +1575,7 @@ dimensions::put_dims-loop-sub-preserved t c =
     record {
       grows = grows_trans s c.loop-sub.s c.dim_at.new.s c.loop-sub.invariant.grows c.in_ok-n.ensures.grows;
       is = rw pushed (dim_more T (reading T of.left) (bound_in_of_measuring s of) scope subs c.loop-sub.made i _ c.loop-sub.invariant.is sub c.in_ok-n.n c.loop-sub-test.true c.sub-item.is (rw c.len.ensures at (sym same ∙ c.in_ok-n.ensures.exact)));
+      kept = c.dim_at.ensures.kept;
     }
 
 pub dimensions::put_dims-returns-clause-exact : goal.dimensions::put_dims-returns-clause-exact
@@ -1515,7 +1588,7 @@ dimensions::put_dims-returns-clause-exact t c = λ others.
     sym (dims_done T (reading T of.left) (bound_in_of_measuring s of) scope c.args.sizes.now.subscripts.now c.loop-sub.made c.loop-sub.sub-index _ c.loop-sub.invariant.is (omega arith) others)
 
 pub dimensions::all_dims-loop-one-init : goal.dimensions::all_dims-loop-one-init
-dimensions::all_dims-loop-one-init t c = record { grows = grows_refl c.args.s.now; is = rw c.new-made.ensures refl }
+dimensions::all_dims-loop-one-init t c = record { grows = grows_refl c.args.s.now; is = rw c.new-made.ensures refl; kept = c.requires.kept }
 
 pub dimensions::all_dims-returns-in_err-put_dims-clause-exact : goal.dimensions::all_dims-returns-in_err-put_dims-clause-exact
 dimensions::all_dims-returns-in_err-put_dims-clause-exact t c =
@@ -1538,6 +1611,7 @@ dimensions::all_dims-loop-one-preserved t c =
     record {
       grows = grows_trans s now c.put_dims.new.s c.loop-one.invariant.grows c.in_ok-put_dims.ensures.grows;
       is = sizes_more s now c.loop-one.invariant.grows c.args.of.now c.requires.member sizes c.requires.there c.loop-one.made i c.one-item.result _ c.loop-one-test.true c.one-item.is c.loop-one.invariant.is c.put_dims.new.made (c.in_ok-put_dims.ensures.exact others);
+      kept = c.put_dims.ensures.kept;
     }
 
 pub dimensions::all_dims-returns-clause-exact : goal.dimensions::all_dims-returns-clause-exact
@@ -1553,10 +1627,58 @@ dimensions::dims-returns-in_err-sizes-clause-exact t c =
     let ask = reading T c.args.left in
     let member = member_of (frames_of c.args.s.now) c.args.member.now in
     let stop = c.in_err-sizes.field-0.0 in
-    let p : c.from_residual.result ≡ Err stop = search rules in
+    let p : c.from_residual-in_err-sizes.result ≡ Err stop = search rules in
     rw p
     (gives_as (Err stop) _ _ (sym (component_by T ask member))
     (seen_halts (sizes_seen (frames_of c.all_sizes.new.s)) stop (all_sizes T member) (λ sizes. dims_more T ask (binding_dims T ask member (count_sizes sizes)) [] (each_dim sizes)) c.in_err-sizes.ensures.exact))
+
+pub dimensions::dims-returns-in-Some-clause-exact : goal.dimensions::dims-returns-in-Some-clause-exact
+dimensions::dims-returns-in-Some-clause-exact t c = rw c.in-Some.is at (c.in_ok-known.ensures c.args.s.now c.requires.kept c.requires.member)
+
+pub dimensions::dims-returns-in_err-sizes-clause-kept : goal.dimensions::dims-returns-in_err-sizes-clause-kept
+dimensions::dims-returns-in_err-sizes-clause-kept t c = kept_still _ _ c.all_sizes.ensures.grows _ c.requires.kept
+
+pub dimensions::dims-returns-in_err-count-clause-kept : goal.dimensions::dims-returns-in_err-count-clause-kept
+dimensions::dims-returns-in_err-count-clause-kept t c = kept_still _ _ c.all_sizes.ensures.grows _ c.requires.kept
+
+pub dimensions::dims-returns-in_err-dims-clause-exact : goal.dimensions::dims-returns-in_err-dims-clause-exact
+dimensions::dims-returns-in_err-dims-clause-exact t c =
+    let stop = c.in_err-dims.field-0.0 in
+    let p : c.from_residual-in_err-dims.result ≡ Err stop = search rules in
+    let s = c.args.s.now in
+    let mid = c.all_sizes.new.s in
+    let sizes = c.in_ok-sizes.sizes in
+    let of : Measured = record { left = c.args.left; member = c.args.member; count = c.in_ok-count.count } in
+    let counted : of.count ≡ count_sizes (sizes_seen (frames_of mid) sizes) = rw c.as_slice.ensures at (c.in_ok-count.ensures (frames_of mid)) in
+    rw p (gives_as {A = List ℕ} (Err stop) _ _ (dims_as s mid c.in_ok-sizes.ensures.grows of c.requires.member (sizes_seen (frames_of mid) sizes) c.in_ok-sizes.ensures.exact counted) (rw c.as_slice-2.ensures at c.in_err-dims.ensures.exact))
+
+pub dimensions::dims-returns-in_err-keep_dims-clause-kept : goal.dimensions::dims-returns-in_err-keep_dims-clause-kept
+dimensions::dims-returns-in_err-keep_dims-clause-kept t c =
+    let s = c.args.s.now in
+    let mid = c.all_sizes.new.s in
+    let sizes = c.in_ok-sizes.sizes in
+    let of : Measured = record { left = c.args.left; member = c.args.member; count = c.in_ok-count.count } in
+    let counted : of.count ≡ count_sizes (sizes_seen (frames_of mid) sizes) = rw c.as_slice.ensures at (c.in_ok-count.ensures (frames_of mid)) in
+    let told : component_dims (table_in s) c.args.left (member_of (frames_of s) c.args.member.now) ≡ Ok c.in_ok-dims.dims =
+    gives_as {A = List ℕ} (Ok c.in_ok-dims.dims) _ _ (dims_as s mid c.in_ok-sizes.ensures.grows of c.requires.member (sizes_seen (frames_of mid) sizes) c.in_ok-sizes.ensures.exact counted) (rw c.as_slice-2.ensures at c.in_ok-dims.ensures.exact) in
+    let end = c.all_dims.new.s in
+    let grown = grows_trans s mid end c.all_sizes.ensures.grows c.all_dims.ensures.grows in
+    c.keep_dims.ensures end c.all_dims.ensures.kept (is_member_later s end c.args.member.now grown c.requires.member)
+    (rw c.as_slice-3.ensures (dims_still s end grown c.args.left c.args.member.now c.requires.member c.in_ok-dims.dims told))
+
+pub dimensions::dims-returns-clause-kept : goal.dimensions::dims-returns-clause-kept
+dimensions::dims-returns-clause-kept t c =
+    let s = c.args.s.now in
+    let mid = c.all_sizes.new.s in
+    let sizes = c.in_ok-sizes.sizes in
+    let of : Measured = record { left = c.args.left; member = c.args.member; count = c.in_ok-count.count } in
+    let counted : of.count ≡ count_sizes (sizes_seen (frames_of mid) sizes) = rw c.as_slice.ensures at (c.in_ok-count.ensures (frames_of mid)) in
+    let told : component_dims (table_in s) c.args.left (member_of (frames_of s) c.args.member.now) ≡ Ok c.in_ok-dims.dims =
+    gives_as {A = List ℕ} (Ok c.in_ok-dims.dims) _ _ (dims_as s mid c.in_ok-sizes.ensures.grows of c.requires.member (sizes_seen (frames_of mid) sizes) c.in_ok-sizes.ensures.exact counted) (rw c.as_slice-2.ensures at c.in_ok-dims.ensures.exact) in
+    let end = c.all_dims.new.s in
+    let grown = grows_trans s mid end c.all_sizes.ensures.grows c.all_dims.ensures.grows in
+    c.keep_dims.ensures end c.all_dims.ensures.kept (is_member_later s end c.args.member.now grown c.requires.member)
+    (rw c.as_slice-3.ensures (dims_still s end grown c.args.left c.args.member.now c.requires.member c.in_ok-dims.dims told))
 
 pub dimensions::dims-returns-clause-exact : goal.dimensions::dims-returns-clause-exact
 dimensions::dims-returns-clause-exact t c =
@@ -1565,83 +1687,140 @@ dimensions::dims-returns-clause-exact t c =
     let sizes = c.in_ok-sizes.sizes in
     let of : Measured = record { left = c.args.left; member = c.args.member; count = c.in_ok-count.count } in
     let counted : of.count ≡ count_sizes (sizes_seen (frames_of mid) sizes) = rw c.as_slice.ensures at (c.in_ok-count.ensures (frames_of mid)) in
-    gives_as c.all_dims.result _ _ (dims_as s mid c.in_ok-sizes.ensures.grows of c.requires.member (sizes_seen (frames_of mid) sizes) c.in_ok-sizes.ensures.exact counted) (rw c.as_slice-2.ensures at c.all_dims.ensures.exact)
+    gives_as {A = List ℕ} (Ok c.in_ok-dims.dims) _ _ (dims_as s mid c.in_ok-sizes.ensures.grows of c.requires.member (sizes_seen (frames_of mid) sizes) c.in_ok-sizes.ensures.exact counted) (rw c.as_slice-2.ensures at c.in_ok-dims.ensures.exact)
+
+pub selections::there-returns-in_err-there-clause-exact : goal.selections::there-returns-in_err-there-clause-exact
+selections::there-returns-in_err-there-clause-exact t c = λ asking.
+    let stop = c.in_err-there.field-0.0 in
+    let p : c.from_residual.result ≡ Err (Stopped stop) = search rules in
+    rw p (there_stops asking (reading_at c.args.s.now c.args.deeper) c.args.place (member_of (frames_of c.args.s.now) c.args.member.now) stop c.in_err-there.ensures.exact)
+
+pub selections::there-returns-then-not-there-clause-exact : goal.selections::there-returns-then-not-there-clause-exact
+selections::there-returns-then-not-there-clause-exact t c = λ asking.
+    let no : c.in_ok-there.there ≡ false = search rules in
+    removed_for asking (reading_at c.args.s.now c.args.deeper) c.args.place (member_of (frames_of c.args.s.now) c.args.member.now) (rw no at c.in_ok-there.ensures.exact)
+
+pub selections::there-returns-clause-exact : goal.selections::there-returns-clause-exact
+selections::there-returns-clause-exact t c = λ asking.
+    let yes : c.in_ok-there.there ≡ true = search rules in
+    is_there_for asking (reading_at c.args.s.now c.args.deeper) c.args.place (member_of (frames_of c.args.s.now) c.args.member.now) (rw yes at c.in_ok-there.ensures.exact)
 
 pub selections::dims_there-returns-in_err-there-clause-exact : goal.selections::dims_there-returns-in_err-there-clause-exact
-selections::dims_there-returns-in_err-there-clause-exact t c =
-    let stop = c.in_err-there.field-0.0 in
+selections::dims_there-returns-in_err-there-clause-exact t c = λ asking.
+    let absent = c.in_err-there.field-0.0 in
+    let stop = stop_for asking absent in
     let member = member_of (frames_of c.args.s.now) c.args.member.now in
-    let reading = reading_at c.args.s.now c.args.deeper in
-    let p : c.from_residual.result ≡ Err stop = search rules in
-    rw p (gives_halt stop (there reading c.args.place member) (λ _. reading.dims member) c.in_err-there.ensures.exact)
+    let reading = reading_in asking c.args.s.now c.args.deeper in
+    let p : c.from_residual.result ≡ Err absent = search rules in
+    rw p (gives_halt stop (there reading c.args.place member) (λ _. reading.dims member) (c.in_err-there.ensures.exact asking))
+
+pub selections::dims_there-returns-in_err-dims-clause-exact : goal.selections::dims_there-returns-in_err-dims-clause-exact
+selections::dims_there-returns-in_err-dims-clause-exact t c = λ asking.
+    let stop = c.in_err-dims.field-0.0 in
+    let p : c.from_residual-in_err-dims.result ≡ Err (Stopped stop) = search rules in
+    let member = member_of (frames_of c.args.s.now) c.args.member.now in
+    rw (p, c.in_ok-there.ensures.exact asking)
+    (gives_as {A = List ℕ} (Err stop) _ _
+    (of_member (λ table member. component_dims table c.args.deeper member) c.args.s.now c.there.new.s c.in_ok-there.ensures.grows c.args.member.now c.requires.member ∙ sym (dims_for asking (reading_at c.args.s.now c.args.deeper) member))
+    c.in_err-dims.ensures.exact)
 
 pub selections::dims_there-returns-clause-exact : goal.selections::dims_there-returns-clause-exact
-selections::dims_there-returns-clause-exact t c =
-    rw c.in_ok-there.ensures.exact
-    (gives_as c.dims.result _ _ (of_member (λ table member. component_dims table c.args.deeper member) c.args.s.now c.there.new.s c.in_ok-there.ensures.grows c.args.member.now c.requires.member) c.dims.ensures.exact)
+selections::dims_there-returns-clause-exact t c = λ asking.
+    let member = member_of (frames_of c.args.s.now) c.args.member.now in
+    rw (c.in_ok-there.ensures.exact asking)
+    (gives_as {A = List ℕ} (Ok c.in_ok-dims.field-0) _ _
+    (of_member (λ table member. component_dims table c.args.deeper member) c.args.s.now c.there.new.s c.in_ok-there.ensures.grows c.args.member.now c.requires.member ∙ sym (dims_for asking (reading_at c.args.s.now c.args.deeper) member))
+    c.in_ok-dims.ensures.exact)
 
 pub selections::dims_at-returns-in-Some-clause-exact : goal.selections::dims_at-returns-in-Some-clause-exact
-selections::dims_at-returns-in-Some-clause-exact t c = λ f. rw c.in-Some.is c.dims_there.ensures.exact
+selections::dims_at-returns-in-Some-clause-exact t c = λ asking f. rw c.in-Some.is (c.dims_there.ensures.exact asking)
+
+pub selections::dims_at-returns-in_err-n-in-None-clause-kept : goal.selections::dims_at-returns-in_err-n-in-None-clause-kept
+selections::dims_at-returns-in_err-n-in-None-clause-kept t c = kept_still _ _ c.count_of_dims.ensures.grows _ c.requires.kept
+
+pub selections::dims_at-returns-in_err-nothings-in-None-clause-kept : goal.selections::dims_at-returns-in_err-nothings-in-None-clause-kept
+selections::dims_at-returns-in_err-nothings-in-None-clause-kept t c = kept_still _ _ c.count_of_dims.ensures.grows _ c.requires.kept
+
+pub selections::dims_at-returns-in_ok-nothings-in-None-clause-kept : goal.selections::dims_at-returns-in_ok-nothings-in-None-clause-kept
+selections::dims_at-returns-in_ok-nothings-in-None-clause-kept t c = kept_still _ _ c.count_of_dims.ensures.grows _ c.requires.kept
 
 pub below::agrees-returns-in_err-dims-clause-exact : goal.below::agrees-returns-in_err-dims-clause-exact
-below::agrees-returns-in_err-dims-clause-exact t c =
-    let stop = c.in_err-dims.field-0.0 in
-    let p : c.from_residual.result ≡ Err stop = search rules in
-    rw p (agrees_halts (reading_at c.args.s.now c.args.deeper) c.args.place (selection_seen c.args.selection.now) (member_of (frames_of c.args.s.now) c.args.member.now) stop c.in_err-dims.ensures.exact)
+below::agrees-returns-in_err-dims-clause-exact t c = λ asking.
+    let absent = c.in_err-dims.field-0.0 in
+    let p : c.from_residual.result ≡ Err absent = search rules in
+    rw p (agrees_halts (reading_in asking c.args.s.now c.args.deeper) c.args.place (selection_seen c.args.selection.now) (member_of (frames_of c.args.s.now) c.args.member.now) (stop_for asking absent) (c.in_err-dims.ensures.exact asking))
+
+pub below::agrees-returns-then-are_equal-clause-exact : goal.below::agrees-returns-then-are_equal-clause-exact
+below::agrees-returns-then-are_equal-clause-exact t c = λ asking.
+    dims_agree (reading_in asking c.args.s.now c.args.deeper) c.args.place (selection_seen c.args.selection.now) (member_of (frames_of c.args.s.now) c.args.member.now) c.in_ok-dims.dims true (c.in_ok-dims.ensures.exact asking)
+    (sym (rw (c.as_slice.ensures, c.as_slice-2.ensures) at c.are_equal.ensures) ∙ c.if-are_equal.true)
+
+pub below::agrees-returns-clause-exact : goal.below::agrees-returns-clause-exact
+below::agrees-returns-clause-exact t c = λ asking.
+    rw c.broken.ensures
+    (dims_agree (reading_in asking c.args.s.now c.args.deeper) c.args.place (selection_seen c.args.selection.now) (member_of (frames_of c.args.s.now) c.args.member.now) c.in_ok-dims.dims false (c.in_ok-dims.ensures.exact asking)
+    (sym (rw (c.as_slice.ensures, c.as_slice-2.ensures) at c.are_equal.ensures) ∙ c.if-are_equal.false))
 
 pub selections::selection_at-returns-in_err-dims-clause-exact : goal.selections::selection_at-returns-in_err-dims-clause-exact
-selections::selection_at-returns-in_err-dims-clause-exact t c =
-    let stop = c.in_err-dims.field-0.0 in
+selections::selection_at-returns-in_err-dims-clause-exact t c = λ asking.
+    let absent = c.in_err-dims.field-0.0 in
     let part = part_in c.args.s.now c.args.site.now in
-    let p : c.from_residual.result ≡ Err stop = search rules in
-    rw p (halts_seen selection_seen stop (dims_at (table_in c.args.s.now) (reading_at c.args.s.now c.args.deeper) (mapped (member_of (frames_of c.args.s.now)) c.args.member.now) (name_seen part (frames_of c.args.s.now) c.args.name.now)) _ (c.in_err-dims.ensures.exact part))
+    let p : c.from_residual.result ≡ Err absent = search rules in
+    rw p (halts_seen selection_seen (stop_for asking absent) (dims_at (table_in c.args.s.now) (reading_in asking c.args.s.now c.args.deeper) (mapped (member_of (frames_of c.args.s.now)) c.args.member.now) (name_seen part (frames_of c.args.s.now) c.args.name.now)) _ (c.in_err-dims.ensures.exact asking part))
 
 pub selections::selection_at-returns-in_err-subs-clause-exact : goal.selections::selection_at-returns-in_err-subs-clause-exact
-selections::selection_at-returns-in_err-subs-clause-exact t c =
+selections::selection_at-returns-in_err-subs-clause-exact t c = λ asking.
     let stop = c.in_err-subs.field-0.0 in
     let part = part_in c.args.s.now c.args.site.now in
     let subs = c.args.name.now.part.now.subs in
     let dims = c.in_ok-dims.dims in
     let same = same_asked (λ read part. read_subscripts read dims (map (option_map part) subs)) c.args.s.now c.dims_at.new.s c.args.site.now c.in_ok-dims.ensures.grows c.requires.frame in
-    let p : c.from_residual-in_err-subs.result ≡ Err stop = search rules in
-    rw (p, c.in_ok-dims.ensures.exact part)
+    let p : c.from_residual-in_err-subs.result ≡ Err (Stopped stop) = search rules in
+    rw (p, c.in_ok-dims.ensures.exact asking part)
     (halts_seen selection_seen stop (read_subscripts (elements_in c.args.s.now c.args.site.now.left) dims (map (option_map part) subs)) _
     (gives_as {A = List Subscript} (Err stop) _ _ same (rw (c.as_slice.ensures, c.as_slice-2.ensures) at c.in_err-subs.ensures.exact)))
 
 pub selections::selection_at-returns-clause-exact : goal.selections::selection_at-returns-clause-exact
-selections::selection_at-returns-clause-exact t c =
+selections::selection_at-returns-clause-exact t c = λ asking.
     let part = part_in c.args.s.now c.args.site.now in
     let subs = c.args.name.now.part.now.subs in
     let dims = c.in_ok-dims.dims in
     let same = same_asked (λ read part. read_subscripts read dims (map (option_map part) subs)) c.args.s.now c.dims_at.new.s c.args.site.now c.in_ok-dims.ensures.grows c.requires.frame in
     let told : read_subscripts (elements_in c.args.s.now c.args.site.now.left) dims (map (option_map part) subs) ≡ Ok c.in_ok-subs.subs =
     gives_as {A = List Subscript} (Ok c.in_ok-subs.subs) _ _ same (rw (c.as_slice.ensures, c.as_slice-2.ensures) at c.in_ok-subs.ensures.exact) in
-    rw (c.in_ok-dims.ensures.exact part, told) refl
+    rw (c.in_ok-dims.ensures.exact asking part, told) refl
 
 pub selections::selections-loop-i-init : goal.selections::selections-loop-i-init
-selections::selections-loop-i-init t c = record { grows = grows_refl c.args.s.now; member = c.requires.first; is = rw c.new-made.ensures (behind_nothing _) }
+selections::selections-loop-i-init t c = record { grows = grows_refl c.args.s.now; member = c.requires.first; is = λ asking. rw c.new-made.ensures (behind_nothing _); kept = c.requires.kept }
 
 pub selections::selections-returns-in_err-selection-clause-exact : goal.selections::selections-returns-in_err-selection-clause-exact
-selections::selections-returns-in_err-selection-clause-exact t c =
+selections::selections-returns-in_err-selection-clause-exact t c = λ asking.
     let s = c.args.s.now in
-    let stop = c.in_err-selection.field-0.0 in
-    let p : c.from_residual.result ≡ Err stop = search rules in
+    let absent = c.in_err-selection.field-0.0 in
+    let stop = stop_for asking absent in
+    let p : c.from_residual.result ≡ Err absent = search rules in
     rw p
     (halt_seen selections_seen stop _
-    (selecting_halts s c.loop-i.s c.selection_at.new.s c.loop-i.invariant.grows c.in_err-selection.ensures.grows c.args.site.now c.requires.frame c.args.deeper c.args.names.now c.requires.names c.loop-i.i c.index-names-i.result c.loop-i-test.true c.index-names-i.is
-    c.loop-i.member c.loop-i.invariant.member c.loop-i.made _ c.loop-i.invariant.is selection_seen stop c.in_err-selection.ensures.exact))
+    (selecting_halts s c.loop-i.s c.selection_at.new.s c.loop-i.invariant.grows c.in_err-selection.ensures.grows c.args.site.now c.requires.frame asking c.args.deeper c.args.names.now c.requires.names c.loop-i.i c.index-names-i.result c.loop-i-test.true c.index-names-i.is
+    c.loop-i.member c.loop-i.invariant.member c.loop-i.made _ (c.loop-i.invariant.is asking) selection_seen stop (c.in_err-selection.ensures.exact asking)))
 
 pub selections::selections-returns-in_err-member-clause-exact : goal.selections::selections-returns-in_err-member-clause-exact
-selections::selections-returns-in_err-member-clause-exact t c =
+selections::selections-returns-in_err-member-clause-exact t c = λ asking.
     let s = c.args.s.now in
     let stop = c.in_err-member.field-0.0 in
     let view = option_map_of_prelude (member_of (frames_of c.member_behind.new.s)) in
     let told = rw (rest_of c.args.names.now (c.loop-i.i + 1) (omega (arith, c.loop-i-test.true))) at (c.in_err-member.ensures.exact (part_in s c.args.site.now)) in
-    let p : c.from_residual-in_err-member.result ≡ Err stop = search rules in
+    let p : c.from_residual-in_err-member.result ≡ Err (Stopped stop) = search rules in
     rw p
     (halt_seen selections_seen stop _
-    (going_halts s c.loop-i.s c.selection_at.new.s c.loop-i.invariant.grows c.in_ok-selection.ensures.grows c.args.site.now c.requires.frame c.args.deeper c.args.names.now c.requires.names c.loop-i.i c.index-names-i.result c.loop-i-test.true c.index-names-i.is
-    c.loop-i.member c.loop-i.invariant.member c.loop-i.made _ c.loop-i.invariant.is (selection_seen c.in_ok-selection.selection) c.in_ok-selection.ensures.exact view stop told))
+    (going_halts s c.loop-i.s c.selection_at.new.s c.loop-i.invariant.grows c.in_ok-selection.ensures.grows c.args.site.now c.requires.frame asking c.args.deeper c.args.names.now c.requires.names c.loop-i.i c.index-names-i.result c.loop-i-test.true c.index-names-i.is
+    c.loop-i.member c.loop-i.invariant.member c.loop-i.made _ (c.loop-i.invariant.is asking) (selection_seen c.in_ok-selection.selection) (c.in_ok-selection.ensures.exact asking) view stop told))
+
+pub selections::selections-returns-in_err-member-clause-kept : goal.selections::selections-returns-in_err-member-clause-kept
+selections::selections-returns-in_err-member-clause-kept t c = kept_still _ _ c.member_behind.ensures.grows _ c.selection_at.ensures.kept
+
+pub selections::selections-returns-in_err-push-clause-kept : goal.selections::selections-returns-in_err-push-clause-kept
+selections::selections-returns-in_err-push-clause-kept t c = kept_still _ _ c.member_behind.ensures.grows _ c.selection_at.ensures.kept
 
 pub selections::selections-loop-i-preserved : goal.selections::selections-loop-i-preserved
 selections::selections-loop-i-preserved t c =
@@ -1655,11 +1834,16 @@ selections::selections-loop-i-preserved t c =
     record {
       grows = grows_trans s c.loop-i.s end c.loop-i.invariant.grows (grows_trans c.loop-i.s mid end c.in_ok-selection.ensures.grows c.in_ok-member.ensures.grows);
       member = c.in_ok-member.ensures.there;
-      is = rw pushed
-          (going_on s c.loop-i.s mid c.loop-i.invariant.grows c.in_ok-selection.ensures.grows c.args.site.now c.requires.frame c.args.deeper c.args.names.now c.requires.names c.loop-i.i c.index-names-i.result c.loop-i-test.true c.index-names-i.is
-          c.loop-i.member c.loop-i.invariant.member made _ c.loop-i.invariant.is (selection_seen selection) c.in_ok-selection.ensures.exact (option_map_of_prelude (member_of (frames_of end)) c.in_ok-member.member) (made ++ selection ∷ []) (map-append selection_seen made (selection ∷ []))
+      is = λ asking. rw pushed
+          (going_on s c.loop-i.s mid c.loop-i.invariant.grows c.in_ok-selection.ensures.grows c.args.site.now c.requires.frame asking c.args.deeper c.args.names.now c.requires.names c.loop-i.i c.index-names-i.result c.loop-i-test.true c.index-names-i.is
+          c.loop-i.member c.loop-i.invariant.member made _ (c.loop-i.invariant.is asking) (selection_seen selection) (c.in_ok-selection.ensures.exact asking) (option_map_of_prelude (member_of (frames_of end)) c.in_ok-member.member) (made ++ selection ∷ []) (map-append selection_seen made (selection ∷ []))
           told);
+      kept = kept_still _ _ c.member_behind.ensures.grows _ c.selection_at.ensures.kept;
     }
+
+pub selections::selections-returns-clause-exact : goal.selections::selections-returns-clause-exact
+selections::selections-returns-clause-exact t c = λ asking.
+    all_selected c.args.s.now c.args.site.now asking c.args.deeper _ c.args.names.now c.loop-i.i c.loop-i.made _ (omega arith) (c.loop-i.invariant.is asking)
 
 pub references::components-returns-then-site-eq0-clause-exact : goal.references::components-returns-then-site-eq0-clause-exact
 references::components-returns-then-site-eq0-clause-exact t c =
@@ -1669,7 +1853,7 @@ references::components-returns-then-site-eq0-clause-exact t c =
     rw c.broken-then-site-eq0.ensures (record { is = none_left_of w c.args.site.now c.args.place names (virtuals_seen (frames_of w) c.args.virtuals.now) some c.if-site-eq0.true })
 
 pub references::components-returns-in_err-chosen-clause-there : goal.references::components-returns-in_err-chosen-clause-there
-references::components-returns-in_err-chosen-clause-there t c = there_still _ _ c.in_err-chosen.ensures.grows _ c.requires.there
+references::components-returns-in_err-chosen-clause-there t c = there_still _ _ c.selections.ensures.grows _ c.requires.there
 
 pub references::components-returns-in_err-chosen-clause-exact : goal.references::components-returns-in_err-chosen-clause-exact
 references::components-returns-in_err-chosen-clause-exact t c =
@@ -1684,10 +1868,10 @@ references::components-returns-in_err-chosen-clause-exact t c =
     rw p
     (made_halts _ stop _ _
     (no_choice w c.args.site.now c.args.place names first (virtuals_seen (frames_of w) c.args.virtuals.now) some front (c.args.site.now.left - 1) more stop
-    (seen_halt selections_seen stop _ c.in_err-chosen.ensures.exact)))
+    (seen_halt selections_seen stop _ (told_broken selections_seen c.selections.result (Err stop) _ c.in_err-chosen.ensures (c.selections.ensures.exact Breaks)))))
 
 pub references::components-returns-in_err-elements-clause-there : goal.references::components-returns-in_err-elements-clause-there
-references::components-returns-in_err-elements-clause-there t c = there_still _ _ (grows_trans _ _ _ c.in_ok-chosen.ensures.grows c.in_err-elements.ensures.grows) _ c.requires.there
+references::components-returns-in_err-elements-clause-there t c = there_still _ _ (grows_trans _ _ _ c.selections.ensures.grows c.elements_selected.ensures.grows) _ c.requires.there
 
 pub references::components-returns-in_err-elements-clause-exact : goal.references::components-returns-in_err-elements-clause-exact
 references::components-returns-in_err-elements-clause-exact t c =
@@ -1703,18 +1887,21 @@ references::components-returns-in_err-elements-clause-exact t c =
     let chosen = selections_seen c.in_ok-chosen.chosen in
     let is = named_member w names 0 first some front c.requires.names in
     let p : c.from_residual-in_err-elements.result ≡ Err stop = search rules in
-    let told = seen_halt (elements_seen (frames_of c.elements_selected.new.s)) stop _ c.in_err-elements.ensures.exact in
+    let told = seen_halt (elements_seen (frames_of c.elements_selected.new.s)) stop _ (told_broken (elements_seen (frames_of c.elements_selected.new.s)) c.elements_selected.result (Err stop) _ c.in_err-elements.ensures (c.elements_selected.ensures.exact Breaks)) in
     rw p
     (made_halts _ stop _ _
-    (no_elements w c.args.site.now c.args.place names first (virtuals_seen (frames_of w) c.args.virtuals.now) some front deeper more chosen c.in_ok-chosen.ensures.exact stop
-    (rw (elements_earlier w u c.in_ok-chosen.ensures.grows first.member is deeper c.args.place chosen) at (rw c.as_slice.ensures at told))))
+    (no_elements w c.args.site.now c.args.place names first (virtuals_seen (frames_of w) c.args.virtuals.now) some front deeper more chosen (told_broken selections_seen c.selections.result (Ok c.in_ok-chosen.chosen) _ c.in_ok-chosen.ensures (c.selections.ensures.exact Breaks)) stop
+    (rw (elements_earlier w u c.selections.ensures.grows first.member is deeper c.args.place chosen) at (rw c.as_slice.ensures at told))))
 
 pub references::components-returns-in_err-kind-clause-grows : goal.references::components-returns-in_err-kind-clause-grows
-references::components-returns-in_err-kind-clause-grows t c = grows_trans _ _ _ c.in_ok-chosen.ensures.grows (grows_trans _ _ _ c.in_ok-elements.ensures.grows c.in_err-kind.ensures.grows)
+references::components-returns-in_err-kind-clause-grows t c = grows_trans _ _ _ c.selections.ensures.grows (grows_trans _ _ _ c.elements_selected.ensures.grows c.in_err-kind.ensures.grows)
+
+pub references::components-returns-in_err-kind-clause-kept : goal.references::components-returns-in_err-kind-clause-kept
+references::components-returns-in_err-kind-clause-kept t c = kept_still _ _ c.kind_of_elements.ensures.grows _ c.elements_selected.ensures.kept
 
 pub references::components-returns-in_err-kind-clause-there : goal.references::components-returns-in_err-kind-clause-there
 references::components-returns-in_err-kind-clause-there t c =
-    there_still _ _ (grows_trans _ _ _ c.in_ok-chosen.ensures.grows (grows_trans _ _ _ c.in_ok-elements.ensures.grows c.in_err-kind.ensures.grows)) _ c.requires.there
+    there_still _ _ (grows_trans _ _ _ c.selections.ensures.grows (grows_trans _ _ _ c.elements_selected.ensures.grows c.in_err-kind.ensures.grows)) _ c.requires.there
 
 pub references::components-returns-in_err-kind-clause-exact : goal.references::components-returns-in_err-kind-clause-exact
 references::components-returns-in_err-kind-clause-exact t c =
@@ -1733,38 +1920,47 @@ references::components-returns-in_err-kind-clause-exact t c =
     let chosen = selections_seen c.in_ok-chosen.chosen in
     let is = named_member w names 0 first some front c.requires.names in
     let ends = named_member w names (length names - 1) last (omega (arith, some)) back c.requires.names in
-    let grown = grows_trans w u v c.in_ok-chosen.ensures.grows c.in_ok-elements.ensures.grows in
+    let grown = grows_trans w u v c.selections.ensures.grows c.elements_selected.ensures.grows in
     let elements = elements_seen (frames_of v) c.in_ok-elements.elements in
-    let all = sym (elements_earlier w u c.in_ok-chosen.ensures.grows first.member is deeper c.args.place chosen) ∙ (rw c.as_slice.ensures at c.in_ok-elements.ensures.exact) in
+    let all = sym (elements_earlier w u c.selections.ensures.grows first.member is deeper c.args.place chosen) ∙ (rw c.as_slice.ensures at (told_broken (elements_seen (frames_of c.elements_selected.new.s)) c.elements_selected.result (Ok c.in_ok-elements.elements) _ c.in_ok-elements.ensures (c.elements_selected.ensures.exact Breaks))) in
     let told = rw c.as_slice-2.ensures at c.in_err-kind.ensures.exact in
     let p : c.from_residual-in_err-kind.result ≡ Err stop = search rules in
     rw p
     (made_halts _ stop _ _
-    (no_kind w c.args.site.now c.args.place names first (virtuals_seen (frames_of w) c.args.virtuals.now) some front deeper more chosen c.in_ok-chosen.ensures.exact elements all last back stop
+    (no_kind w c.args.site.now c.args.place names first (virtuals_seen (frames_of w) c.args.virtuals.now) some front deeper more chosen (told_broken selections_seen c.selections.result (Ok c.in_ok-chosen.chosen) _ c.in_ok-chosen.ensures (c.selections.ensures.exact Breaks)) elements all last back stop
     (rw (kind_earlier w v grown last.member ends c.args.site.now.context c.args.place elements) at told)))
 
 pub references::components-returns-in_err-dims-clause-grows : goal.references::components-returns-in_err-dims-clause-grows
-references::components-returns-in_err-dims-clause-grows t c = grows_trans _ _ _ c.in_ok-chosen.ensures.grows (grows_trans _ _ _ c.in_ok-elements.ensures.grows c.in_ok-kind.ensures.grows)
+references::components-returns-in_err-dims-clause-grows t c = grows_trans _ _ _ c.selections.ensures.grows (grows_trans _ _ _ c.elements_selected.ensures.grows c.in_ok-kind.ensures.grows)
 
 pub references::components-returns-in_err-dims-clause-there : goal.references::components-returns-in_err-dims-clause-there
 references::components-returns-in_err-dims-clause-there t c =
-    there_still _ _ (grows_trans _ _ _ c.in_ok-chosen.ensures.grows (grows_trans _ _ _ c.in_ok-elements.ensures.grows c.in_ok-kind.ensures.grows)) _ c.requires.there
+    there_still _ _ (grows_trans _ _ _ c.selections.ensures.grows (grows_trans _ _ _ c.elements_selected.ensures.grows c.in_ok-kind.ensures.grows)) _ c.requires.there
+
+pub references::components-returns-in_err-dims-clause-kept : goal.references::components-returns-in_err-dims-clause-kept
+references::components-returns-in_err-dims-clause-kept t c = kept_still _ _ c.kind_of_elements.ensures.grows _ c.elements_selected.ensures.kept
 
 pub references::components-returns-in_err-vars-clause-grows : goal.references::components-returns-in_err-vars-clause-grows
-references::components-returns-in_err-vars-clause-grows t c = grows_trans _ _ _ c.in_ok-chosen.ensures.grows (grows_trans _ _ _ c.in_ok-elements.ensures.grows c.in_ok-kind.ensures.grows)
+references::components-returns-in_err-vars-clause-grows t c = grows_trans _ _ _ c.selections.ensures.grows (grows_trans _ _ _ c.elements_selected.ensures.grows c.in_ok-kind.ensures.grows)
 
 pub references::components-returns-in_err-vars-clause-there : goal.references::components-returns-in_err-vars-clause-there
 references::components-returns-in_err-vars-clause-there t c =
-    let grown = grows_trans _ _ _ c.in_ok-chosen.ensures.grows (grows_trans _ _ _ c.in_ok-elements.ensures.grows c.in_ok-kind.ensures.grows) in
-    c.in_err-vars.ensures.there _ (there_still _ _ grown _ c.requires.there) (rw c.as_slice-3.ensures (are_elements_later _ _ c.in_ok-kind.ensures.grows _ c.in_ok-elements.ensures.there))
+    let grown = grows_trans _ _ _ c.selections.ensures.grows (grows_trans _ _ _ c.elements_selected.ensures.grows c.in_ok-kind.ensures.grows) in
+    c.in_err-vars.ensures.there _ (there_still _ _ grown _ c.requires.there) (rw c.as_slice-3.ensures (are_elements_later _ _ c.in_ok-kind.ensures.grows _ (if_told c.elements_selected.result c.in_ok-elements.elements _ c.in_ok-elements.ensures c.elements_selected.ensures.there)))
+
+pub references::components-returns-in_err-vars-clause-kept : goal.references::components-returns-in_err-vars-clause-kept
+references::components-returns-in_err-vars-clause-kept t c = kept_still _ _ c.kind_of_elements.ensures.grows _ c.elements_selected.ensures.kept
 
 pub references::components-returns-clause-grows : goal.references::components-returns-clause-grows
-references::components-returns-clause-grows t c = grows_trans _ _ _ c.in_ok-chosen.ensures.grows (grows_trans _ _ _ c.in_ok-elements.ensures.grows c.in_ok-kind.ensures.grows)
+references::components-returns-clause-grows t c = grows_trans _ _ _ c.selections.ensures.grows (grows_trans _ _ _ c.elements_selected.ensures.grows c.in_ok-kind.ensures.grows)
 
 pub references::components-returns-clause-there : goal.references::components-returns-clause-there
 references::components-returns-clause-there t c =
-    let grown = grows_trans _ _ _ c.in_ok-chosen.ensures.grows (grows_trans _ _ _ c.in_ok-elements.ensures.grows c.in_ok-kind.ensures.grows) in
-    c.in_ok-vars.ensures.there _ (there_still _ _ grown _ c.requires.there) (rw c.as_slice-3.ensures (are_elements_later _ _ c.in_ok-kind.ensures.grows _ c.in_ok-elements.ensures.there))
+    let grown = grows_trans _ _ _ c.selections.ensures.grows (grows_trans _ _ _ c.elements_selected.ensures.grows c.in_ok-kind.ensures.grows) in
+    c.in_ok-vars.ensures.there _ (there_still _ _ grown _ c.requires.there) (rw c.as_slice-3.ensures (are_elements_later _ _ c.in_ok-kind.ensures.grows _ (if_told c.elements_selected.result c.in_ok-elements.elements _ c.in_ok-elements.ensures c.elements_selected.ensures.there)))
+
+pub references::components-returns-clause-kept : goal.references::components-returns-clause-kept
+references::components-returns-clause-kept t c = kept_still _ _ c.kind_of_elements.ensures.grows _ c.elements_selected.ensures.kept
 
 pub references::components-returns-clause-exact : goal.references::components-returns-clause-exact
 references::components-returns-clause-exact t c =
@@ -1783,18 +1979,18 @@ references::components-returns-clause-exact t c =
     let chosen = selections_seen c.in_ok-chosen.chosen in
     let is = named_member w names 0 first some front c.requires.names in
     let ends = named_member w names (length names - 1) last (omega (arith, some)) back c.requires.names in
-    let grown = grows_trans w u v c.in_ok-chosen.ensures.grows c.in_ok-elements.ensures.grows in
+    let grown = grows_trans w u v c.selections.ensures.grows c.elements_selected.ensures.grows in
     let grown_on = grows_trans w v x grown c.in_ok-kind.ensures.grows in
     let elements = elements_seen (frames_of v) c.in_ok-elements.elements in
-    let all = sym (elements_earlier w u c.in_ok-chosen.ensures.grows first.member is deeper c.args.place chosen) ∙ (rw c.as_slice.ensures at c.in_ok-elements.ensures.exact) in
+    let all = sym (elements_earlier w u c.selections.ensures.grows first.member is deeper c.args.place chosen) ∙ (rw c.as_slice.ensures at (told_broken (elements_seen (frames_of c.elements_selected.new.s)) c.elements_selected.result (Ok c.in_ok-elements.elements) _ c.in_ok-elements.ensures (c.elements_selected.ensures.exact Breaks))) in
     let kinds = sym (kind_earlier w v grown last.member ends c.args.site.now.context c.args.place elements) ∙ (rw c.as_slice-2.ensures at c.in_ok-kind.ensures.exact) in
-    let made = all_made w c.args.site.now c.args.place names first (virtuals_seen (frames_of w) c.args.virtuals.now) some front deeper more chosen c.in_ok-chosen.ensures.exact elements all last back
+    let made = all_made w c.args.site.now c.args.place names first (virtuals_seen (frames_of w) c.args.virtuals.now) some front deeper more chosen (told_broken selections_seen c.selections.result (Ok c.in_ok-chosen.chosen) _ c.in_ok-chosen.ensures (c.selections.ensures.exact Breaks)) elements all last back
     c.in_ok-kind.kind c.are_constant.result kinds (c.are_constant.ensures (part_in w c.args.site.now) (frames_of w)) in
     let put = rw c.as_slice-3.ensures at (c.in_ok-vars.ensures.exact (frames_of x)) in
     record {
       is = made_as_put w v x _ c.args.virtuals.now c.put_variables.new.virtuals c.in_ok-elements.elements (record { place = c.args.place; kind = c.in_ok-kind.kind; constant = c.are_constant.result }) c.in_ok-vars.vars _ _ _ made
           (same_virtuals w x grown_on c.args.virtuals.now c.requires.there)
-          (elements_later v x c.in_ok-kind.ensures.grows c.in_ok-elements.elements c.in_ok-elements.ensures.there)
+          (elements_later v x c.in_ok-kind.ensures.grows c.in_ok-elements.elements (if_told c.elements_selected.result c.in_ok-elements.elements _ c.in_ok-elements.ensures c.elements_selected.ensures.there))
           (ap (λ h. h.0) c.in_ok-dims.ensures)
           (ap (λ h. h.1) c.in_ok-dims.ensures)
           put.0
@@ -1804,6 +2000,9 @@ references::components-returns-clause-exact t c =
 pub references::name-returns-in_err-names-clause-there : goal.references::name-returns-in_err-names-clause-there
 references::name-returns-in_err-names-clause-there t c = there_still _ _ c.in_err-names.ensures.grows _ c.requires.there
 
+pub references::name-returns-in_err-names-clause-kept : goal.references::name-returns-in_err-names-clause-kept
+references::name-returns-in_err-names-clause-kept t c = kept_still _ _ c.in_err-names.ensures.grows _ c.requires.kept
+
 pub references::name-components-requires : goal.references::name-components-requires
 references::name-components-requires t c = (
   search rules,
@@ -1811,7 +2010,7 @@ references::name-components-requires t c = (
     frame_stays _ _ _ c.in_ok-names.ensures.grows c.requires.frame,
     (
       rw c.as_slice.ensures (rw c.in-Components.is at c.in_ok-names.ensures.there),
-      there_still _ _ c.in_ok-names.ensures.grows _ c.requires.there,
+      (there_still _ _ c.in_ok-names.ensures.grows _ c.requires.there, kept_still _ _ c.in_ok-names.ensures.grows _ c.requires.kept),
     ),
   ),
 )
@@ -1826,24 +2025,34 @@ references::name-returns-in-Components-clause-exact t c =
 pub references::name-returns-in-Other-clause-there : goal.references::name-returns-in-Other-clause-there
 references::name-returns-in-Other-clause-there t c = there_still _ _ c.in_ok-names.ensures.grows _ c.requires.there
 
+pub references::name-returns-in-Other-clause-kept : goal.references::name-returns-in-Other-clause-kept
+references::name-returns-in-Other-clause-kept t c = kept_still _ _ c.in_ok-names.ensures.grows _ c.requires.kept
+
 pub references::name-returns-in-Other-clause-exact : goal.references::name-returns-in-Other-clause-exact
 references::name-returns-in-Other-clause-exact t c =
     named_other c.args.s.now c.named.new.s c.in_ok-names.ensures.grows c.args.site.now c.args.place c.args.reference.now c.in-Other.found c.in-Other.at _ c.args.virtuals.now c.requires.there
     (rw c.in-Other.is at c.in_ok-names.ensures.exact) c.other.ensures
 
 pub below::below-returns-in_default-clause-exact : goal.below::below-returns-in_default-clause-exact
-below::below-returns-in_default-clause-exact t c =
-    nothing_chosen (table_in c.args.s.now) (reading_at c.args.s.now c.args.deeper) c.args.place (member_of (frames_of c.args.s.now) c.args.member.now) (elements_seen (frames_of c.args.s.now) c.args.made.now) c.args.chosen.now (omega (arith, c.in_default.len_below))
+below::below-returns-in_default-clause-exact t c = λ asking.
+    nothing_chosen (table_in c.args.s.now) (reading_in asking c.args.s.now c.args.deeper) c.args.place (member_of (frames_of c.args.s.now) c.args.member.now) (elements_seen (frames_of c.args.s.now) c.args.made.now) c.args.chosen.now (omega (arith, c.in_default.len_below))
 
 pub below::below-returns-in_err-agrees-clause-exact : goal.below::below-returns-in_err-agrees-clause-exact
-below::below-returns-in_err-agrees-clause-exact t c =
+below::below-returns-in_err-agrees-clause-exact t c = λ asking.
     let s = c.args.s.now in
-    let stop = c.in_err-agrees.field-0.0 in
-    let p : c.from_residual.result ≡ Err stop = search rules in
+    let absent = c.in_err-agrees.field-0.0 in
+    let stop = stop_for asking absent in
+    let p : c.from_residual.result ≡ Err absent = search rules in
     rw p
     (halt_seen (λ (x : Unit {0}). elements_seen (frames_of c.agrees.new.s) c.args.made.now) stop _
-    (agreeing_halts (table_in s) (reading_at s c.args.deeper) c.args.place (member_of (frames_of s) c.args.member.now) (elements_seen (frames_of s) c.args.made.now) c.args.chosen.now c.selection-item.result (omega (arith, c.in-len1-up.len_at_least)) c.selection-item.is stop
-    c.in_err-agrees.ensures.exact))
+    (agreeing_halts (table_in s) (reading_in asking s c.args.deeper) c.args.place (member_of (frames_of s) c.args.member.now) (elements_seen (frames_of s) c.args.made.now) c.args.chosen.now c.selection-item.result (omega (arith, c.in-len1-up.len_at_least)) c.selection-item.is stop
+    (c.in_err-agrees.ensures.exact asking)))
+
+pub below::below-returns-in_err-indices-clause-exact : goal.below::below-returns-in_err-indices-clause-exact
+below::below-returns-in_err-indices-clause-exact t c = λ asking.
+    let stop = c.in_err-indices.field-0.0 in
+    let p : c.from_residual-in_err-indices.result ≡ Err (Stopped stop) = search rules in
+    rw p (breaks_nothing {T = Unit {0}} stop _ (λ (x : Unit {0}). elements_seen (frames_of c.agrees.new.s) c.args.made.now) _ c.in_err-indices.ensures.told)
 
 pub below::below-below_each-requires : goal.below::below-below_each-requires
 below::below-below_each-requires t c = (
@@ -1852,68 +2061,72 @@ below::below-below_each-requires t c = (
     is_member_later c.args.s.now c.agrees.new.s c.args.member.now c.in_ok-agrees.ensures.grows c.requires.member,
     (
       are_elements_later c.args.s.now c.agrees.new.s c.in_ok-agrees.ensures.grows c.args.made.now c.requires.there,
-      few_left c.args.chosen.now 1000 (omega (arith, c.in-len1-up.len_at_least)) c.requires.few,
+      (few_left c.args.chosen.now 1000 (omega (arith, c.in-len1-up.len_at_least)) c.requires.few, c.agrees.ensures.kept),
     ),
   ),
 )
 
 pub below::below-returns-clause-exact : goal.below::below-returns-clause-exact
-below::below-returns-clause-exact t c =
+below::below-returns-clause-exact t c = λ asking.
     let s = c.args.s.now in
     let mid = c.agrees.new.s in
     let member = member_of (frames_of s) c.args.member.now in
     let chosen = c.args.chosen.now in
     let selection = c.selection-item.result in
     let some : 0 < length chosen = omega (arith, c.in-len1-up.len_at_least) in
-    let indices : c.in_ok-indices.indices ≡ selected selection.dims selection.subs = rw (c.as_slice.ensures, c.as_slice-2.ensures) at c.in_ok-indices.ensures in
-    let told = rw (rest_of chosen 1 (omega (arith, c.in-len1-up.len_at_least)), c.as_slice-3.ensures, indices) at c.below_each.ensures.exact in
-    seen_as _ c.below_each.result _ _
-    (each_earlier s mid c.in_ok-agrees.ensures.grows c.args.deeper c.args.place c.args.member.now c.requires.member c.args.made.now c.requires.there _ _
-    ∙ sym (below_agreed (table_in s) (reading_at s c.args.deeper) c.args.place member (elements_seen (frames_of s) c.args.made.now) chosen selection some c.selection-item.is c.in_ok-agrees.ensures.exact))
+    let indices : c.in_ok-indices.indices ≡ selected selection.dims selection.subs = c.in_ok-indices.ensures.value in
+    let told = rw (rest_of chosen 1 (omega (arith, c.in-len1-up.len_at_least)), c.as_slice.ensures, indices) at (c.below_each.ensures.exact asking) in
+    seen_as _ (as_stopped asking c.below_each.result) _ _
+    (each_earlier s mid c.in_ok-agrees.ensures.grows asking c.args.deeper c.args.place c.args.member.now c.requires.member c.args.made.now c.requires.there _ _
+    ∙ sym (below_agreed (table_in s) (reading_in asking s c.args.deeper) c.args.place member (elements_seen (frames_of s) c.args.made.now) chosen selection some c.selection-item.is (c.in_ok-agrees.ensures.exact asking)))
     told
 
 pub below::below_each-returns-in_default-clause-there : goal.below::below_each-returns-in_default-clause-there
 below::below_each-returns-in_default-clause-there t c = rw c.in_ok-put_elements.ensures (every_put c.args.s.now c.args.made.now c.args.at.0.now c.args.at.1.now c.requires.there c.requires.member)
 
 pub below::below_each-returns-in_default-clause-exact : goal.below::below_each-returns-in_default-clause-exact
-below::below_each-returns-in_default-clause-exact t c =
+below::below_each-returns-in_default-clause-exact t c = λ asking.
     let s = c.args.s.now in
     let frames = frames_of s in
     let m = c.args.at.0.now in
     let indices = c.args.at.1.now in
-    ap (λ xs. elements_more (elements_seen frames c.args.made.now) (each_below (table_in s) (reading_at s c.args.deeper) c.args.place (member_of frames m) (selections_seen xs) indices)) (none_left_of_eachbelow c.args.chosen.now (omega (arith, c.in_default.len_below)))
+    ap (λ xs. elements_more (elements_seen frames c.args.made.now) (each_below (table_in s) (reading_in asking s c.args.deeper) c.args.place (member_of frames m) (selections_seen xs) indices)) (none_left_of_eachbelow c.args.chosen.now (omega (arith, c.in_default.len_below)))
     ∙ ap Ok (sym (all_put frames c.args.made.now m indices) ∙ ap (elements_seen frames) (sym c.in_ok-put_elements.ensures))
 
 pub below::below_each-loop-index-init : goal.below::below_each-loop-index-init
-below::below_each-loop-index-init t c = record { grows = grows_refl c.args.s.now; there = c.requires.there; is = refl }
+below::below_each-loop-index-init t c = record { grows = grows_refl c.args.s.now; there = c.requires.there; is = λ asking. refl; kept = c.requires.kept }
 
 pub below::below_each-returns-in_err-part-clause-exact : goal.below::below_each-returns-in_err-part-clause-exact
-below::below_each-returns-in_err-part-clause-exact t c =
+below::below_each-returns-in_err-part-clause-exact t c = λ asking.
     let s = c.args.s.now in
     let stop = c.in_err-part.field-0.0 in
     let view = member_of (frames_of c.component_behind.new.s) in
     let told = rw c.as_slice.ensures at c.in_err-part.ensures.exact in
-    let p : c.from_residual-in_err-part.result ≡ Err stop = search rules in
+    let p : c.from_residual-in_err-part.result ≡ Err (Stopped stop) = search rules in
     rw p
     (halt_seen (λ (x : Unit {0}). elements_seen (frames_of c.component_behind.new.s) c.loop-index.made) stop _
-    (no_part s c.loop-index.s c.loop-index.invariant.grows c.args.deeper c.args.place c.args.at.0.now c.requires.member c.args.chosen.now c.next-item.result (omega (arith, c.in-len1-up.len_at_least)) c.next-item.is c.args.at.1.now c.loop-index.index-index
-    c.loop-index.made c.loop-index.invariant.there _ c.loop-index.invariant.is c.index-item.result c.loop-index-test.true c.index-item.is view stop told))
+    (no_part s c.loop-index.s c.loop-index.invariant.grows asking c.args.deeper c.args.place c.args.at.0.now c.requires.member c.args.chosen.now c.next-item.result (omega (arith, c.in-len1-up.len_at_least)) c.next-item.is c.args.at.1.now c.loop-index.index-index
+    c.loop-index.made c.loop-index.invariant.there _ (c.loop-index.invariant.is asking) c.index-item.result c.loop-index-test.true c.index-item.is view stop told))
+
+pub below::below_each-returns-in_err-part-clause-kept : goal.below::below_each-returns-in_err-part-clause-kept
+below::below_each-returns-in_err-part-clause-kept t c = kept_still _ _ c.component_behind.ensures.grows _ c.loop-index.invariant.kept
 
 pub below::below_each-below-requires : goal.below::below_each-below-requires
-below::below_each-below-requires t c = (search rules, (c.in_ok-part.ensures.there, (are_elements_later c.loop-index.s c.component_behind.new.s c.in_ok-part.ensures.grows c.loop-index.made c.loop-index.invariant.there, c.requires.few)))
+below::below_each-below-requires t c = (search rules, (c.in_ok-part.ensures.there, (are_elements_later c.loop-index.s c.component_behind.new.s c.in_ok-part.ensures.grows c.loop-index.made c.loop-index.invariant.there, (c.requires.few, kept_still _ _ c.in_ok-part.ensures.grows _ c.loop-index.invariant.kept))))
 
 pub below::below_each-returns-in_err-below-clause-exact : goal.below::below_each-returns-in_err-below-clause-exact
-below::below_each-returns-in_err-below-clause-exact t c =
+below::below_each-returns-in_err-below-clause-exact t c = λ asking.
     let s = c.args.s.now in
     let mid = c.component_behind.new.s in
-    let stop = c.in_err-below.field-0.0 in
+    let absent = c.in_err-below.field-0.0 in
+    let stop = stop_for asking absent in
     let found = rw c.as_slice.ensures at c.in_ok-part.ensures.exact in
-    let p : c.from_residual-in_err-below.result ≡ Err stop = search rules in
+    let p : c.from_residual-in_err-below.result ≡ Err absent = search rules in
     let view : Unit {0} → List (Member × Index) = λ x. elements_seen (frames_of c.below.new.s) c.below.new.made in
     rw p
     (halt_seen view stop _
-    (nothing_below s c.loop-index.s c.loop-index.invariant.grows c.args.deeper c.args.place c.args.at.0.now c.requires.member c.args.chosen.now c.next-item.result (omega (arith, c.in-len1-up.len_at_least)) c.next-item.is c.args.at.1.now c.loop-index.index-index
-    c.loop-index.made c.loop-index.invariant.there _ c.loop-index.invariant.is c.index-item.result c.loop-index-test.true c.index-item.is mid c.in_ok-part.ensures.grows (member_of (frames_of mid) c.in_ok-part.part) found view stop c.in_err-below.ensures.exact))
+    (nothing_below s c.loop-index.s c.loop-index.invariant.grows asking c.args.deeper c.args.place c.args.at.0.now c.requires.member c.args.chosen.now c.next-item.result (omega (arith, c.in-len1-up.len_at_least)) c.next-item.is c.args.at.1.now c.loop-index.index-index
+    c.loop-index.made c.loop-index.invariant.there _ (c.loop-index.invariant.is asking) c.index-item.result c.loop-index-test.true c.index-item.is mid c.in_ok-part.ensures.grows (member_of (frames_of mid) c.in_ok-part.part) found view stop (c.in_err-below.ensures.exact asking)))
 
 pub below::below_each-loop-index-preserved : goal.below::below_each-loop-index-preserved
 below::below_each-loop-index-preserved t c =
@@ -1924,15 +2137,16 @@ below::below_each-loop-index-preserved t c =
     record {
       grows = grows_trans s c.loop-index.s end c.loop-index.invariant.grows (grows_trans c.loop-index.s mid end c.in_ok-part.ensures.grows c.in_ok-below.ensures.grows);
       there = c.in_ok-below.ensures.there;
-      is = all_below s c.loop-index.s c.loop-index.invariant.grows c.args.deeper c.args.place c.args.at.0.now c.requires.member c.args.chosen.now c.next-item.result (omega (arith, c.in-len1-up.len_at_least)) c.next-item.is c.args.at.1.now c.loop-index.index-index
-          c.loop-index.made c.loop-index.invariant.there _ c.loop-index.invariant.is c.index-item.result c.loop-index-test.true c.index-item.is mid c.in_ok-part.ensures.grows (member_of (frames_of mid) c.in_ok-part.part) found
-          (elements_seen (frames_of end) c.below.new.made) c.in_ok-below.ensures.exact;
+      is = λ asking. all_below s c.loop-index.s c.loop-index.invariant.grows asking c.args.deeper c.args.place c.args.at.0.now c.requires.member c.args.chosen.now c.next-item.result (omega (arith, c.in-len1-up.len_at_least)) c.next-item.is c.args.at.1.now c.loop-index.index-index
+          c.loop-index.made c.loop-index.invariant.there _ (c.loop-index.invariant.is asking) c.index-item.result c.loop-index-test.true c.index-item.is mid c.in_ok-part.ensures.grows (member_of (frames_of mid) c.in_ok-part.part) found
+          (elements_seen (frames_of end) c.below.new.made) (c.in_ok-below.ensures.exact asking);
+      kept = c.below.ensures.kept;
     }
 
 pub below::below_each-returns-clause-exact : goal.below::below_each-returns-clause-exact
-below::below_each-returns-clause-exact t c =
-    each_done c.args.s.now c.loop-index.s c.loop-index.invariant.grows c.args.deeper c.args.place c.args.at.0.now c.requires.member c.args.chosen.now c.next-item.result (omega (arith, c.in-len1-up.len_at_least)) c.next-item.is c.args.at.1.now c.loop-index.index-index
-    c.loop-index.made c.loop-index.invariant.there _ c.loop-index.invariant.is (omega arith)
+below::below_each-returns-clause-exact t c = λ asking.
+    each_done c.args.s.now c.loop-index.s c.loop-index.invariant.grows asking c.args.deeper c.args.place c.args.at.0.now c.requires.member c.args.chosen.now c.next-item.result (omega (arith, c.in-len1-up.len_at_least)) c.next-item.is c.args.at.1.now c.loop-index.index-index
+    c.loop-index.made c.loop-index.invariant.there _ (c.loop-index.invariant.is asking) (omega arith)
 
 pub dimensions::all_dims-put_dims-requires : goal.dimensions::all_dims-put_dims-requires
 dimensions::all_dims-put_dims-requires t c =
@@ -1941,21 +2155,27 @@ dimensions::all_dims-put_dims-requires t c =
     let one = c.one-item.result in
     let i = c.loop-one.one-index in
     let grows = c.loop-one.invariant.grows in
-    let frame : IsFrame s one.scope.frame.0 = subst (λ (one : SizesAt). IsFrame s one.scope.frame.0) (sym c.one-item.is) (every_at (λ (one : SizesAt). IsFrame s one.scope.frame.0) c.args.sizes.now i one c.loop-one-test.true c.requires.there) in
-    (search rules, (is_member_later s now c.args.of.now.member.now grows c.requires.member, is_frame_later s now one.scope.frame.0 grows frame))
+    let frame : IsFrame s one.scope.frame.0 = subst (λ (one : SizesAt). IsFrame s one.scope.frame.0) (sym c.one-item.is) (every_at (λ (one : SizesAt). IsFrame s one.scope.frame.0) c.args.sizes.now i one c.loop-one-test.true c.requires.there) in (
+      search rules,
+      (is_member_later s now c.args.of.now.member.now grows c.requires.member, (is_frame_later s now one.scope.frame.0 grows frame, c.loop-one.invariant.kept)),
+    )
 
 pub dimensions::dims-all_dims-requires : goal.dimensions::dims-all_dims-requires
 dimensions::dims-all_dims-requires t c =
     let s = c.args.s.now in
-    let mid = c.all_sizes.new.s in
-    (search rules, (is_member_later s mid c.args.member.now c.in_ok-sizes.ensures.grows c.requires.member, rw c.as_slice-2.ensures c.in_ok-sizes.ensures.there))
+    let mid = c.all_sizes.new.s in (
+      search rules,
+      (is_member_later s mid c.args.member.now c.in_ok-sizes.ensures.grows c.requires.member, (rw c.as_slice-2.ensures c.in_ok-sizes.ensures.there, kept_still s mid c.in_ok-sizes.ensures.grows c.args.reader.now c.requires.kept)),
+    )
 
 pub dimensions::put_dims-dim_at-requires : goal.dimensions::put_dims-dim_at-requires
 dimensions::put_dims-dim_at-requires t c =
     let s = c.args.s.now in
     let now = c.loop-sub.s in
-    let grows = c.loop-sub.invariant.grows in
-    (search rules, (is_member_later s now c.args.of.now.member.now grows c.requires.member, is_frame_later s now c.args.sizes.now.scope.frame.0 grows c.requires.frame))
+    let grows = c.loop-sub.invariant.grows in (
+      search rules,
+      (is_member_later s now c.args.of.now.member.now grows c.requires.member, (is_frame_later s now c.args.sizes.now.scope.frame.0 grows c.requires.frame, c.loop-sub.invariant.kept)),
+    )
 
 pub references::components-elements_selected-requires : goal.references::components-elements_selected-requires
 references::components-elements_selected-requires t c =
@@ -1965,7 +2185,7 @@ references::components-elements_selected-requires t c =
     let front : first ≡ get_or names 0 first = ap (get_or names 0) c.index-names-0.is in
     let some : 0 < length names = grind (arith, common_steps, c.is_empty.ensures, c.if-is_empty.false) in
     let is = named_member w names 0 first some front c.requires.names in
-    (search rules, is_member_later w c.selections.new.s first.member c.in_ok-chosen.ensures.grows is)
+    (search rules, (is_member_later w c.selections.new.s first.member c.selections.ensures.grows is, c.selections.ensures.kept))
 
 pub references::components-kind_of_elements-requires-clause-member : goal.references::components-kind_of_elements-requires-clause-member
 references::components-kind_of_elements-requires-clause-member t c =
@@ -1975,7 +2195,7 @@ references::components-kind_of_elements-requires-clause-member t c =
     let back : last ≡ get_or names (length names - 1) last = ap (get_or names (length names - 1)) c.index-names-names.is in
     let some : 0 < length names = grind (arith, common_steps, c.is_empty.ensures, c.if-is_empty.false) in
     let ends = named_member w names (length names - 1) last (omega (arith, some)) back c.requires.names in
-    is_member_later w c.elements_selected.new.s last.member (grows_trans w c.selections.new.s c.elements_selected.new.s c.in_ok-chosen.ensures.grows c.in_ok-elements.ensures.grows) ends
+    is_member_later w c.elements_selected.new.s last.member (grows_trans w c.selections.new.s c.elements_selected.new.s c.selections.ensures.grows c.elements_selected.ensures.grows) ends
 
 pub references::elements_selected-returns-clause-there : goal.references::elements_selected-returns-clause-there
 references::elements_selected-returns-clause-there t c =
@@ -1984,11 +2204,27 @@ references::elements_selected-returns-clause-there t c =
       | references::elements_selected-else-is_inside w ↦ rw (w.s-is, w.made-is, c.new-made.ensures) tt
     ]
 
+pub references::elements_selected-returns-clause-exact : goal.references::elements_selected-returns-clause-exact
+references::elements_selected-returns-clause-exact t c = λ asking.
+    elim c.if-is_inside.branch [
+      | references::elements_selected-then-is_inside+in_ok-below w ↦
+          rw (w.s-is, w.made-is, sym c.is_inside.ensures ∙ w.if-is_inside.true) (sym (more_of_none _) ∙ (rw c.new-made.ensures at (w.in_ok-below.ensures.exact asking)))
+      | references::elements_selected-else-is_inside w ↦ rw (w.s-is, w.made-is, c.new-made.ensures, sym c.is_inside.ensures ∙ w.if-is_inside.false) refl
+    ]
+
 pub selections::selections-selection_at-requires : goal.selections::selections-selection_at-requires
 selections::selections-selection_at-requires t c =
     let s = c.args.s.now in
     let now = c.loop-i.s in
     let name = c.index-names-i.result in
     let grows = c.loop-i.invariant.grows in
-    let is = named_member s c.args.names.now c.loop-i.i name c.loop-i-test.true c.index-names-i.is c.requires.names in
-    (search rules, (c.requires.depth, (is_frame_later s now c.args.site.now.at.now.frame.0 grows c.requires.frame, (c.loop-i.invariant.member, is_member_later s now name.member grows is))))
+    let is = named_member s c.args.names.now c.loop-i.i name c.loop-i-test.true c.index-names-i.is c.requires.names in (
+      search rules,
+      (
+        c.requires.depth,
+        (
+          is_frame_later s now c.args.site.now.at.now.frame.0 grows c.requires.frame,
+          (c.loop-i.invariant.member, (is_member_later s now name.member grows is, c.loop-i.invariant.kept)),
+        ),
+      ),
+    )

@@ -3,6 +3,7 @@ use Rattle.mo_eval.proofs.Prefixes.{unread_among}
 use Rattle.mo_eval.specs.Calls.{make_arguments, read_sizes}
 use Rattle.mo_eval.specs.Components.{each_dim}
 use Rattle.mo_eval.specs.Contexts.{Part, must_be_whole}
+use Rattle.mo_eval.specs.Keeping.{IsKept}
 use Rattle.mo_eval.specs.References.{read_subscripts, selections}
 use Rattle.mo_eval.specs.Resolving.{made_choice, make_parts}
 use Rattle.mo_eval.specs.Seen.{AreThere, resolved_seen, virtuals_seen}
@@ -11,25 +12,27 @@ use Rattle.mo_eval.specs.Told.{AreRead}
 use Rattle.mo_eval.specs.Values.{reading}
 use Rattle.mo_eval.specs.Virtuals.{make_each}
 use Rattle.mo_eval.specs.Walk.{known_at}
+use Rattle.mo_eval.specs.steps.Absence.{Removal}
 use Rattle.mo_eval.specs.steps.Measuring.{bound_in, dims_more, scoped}
 use Rattle.mo_eval.specs.steps.Naming.{names_seen}
 use Rattle.mo_eval.specs.steps.Parts.{as_branch, as_factor, as_term, made_factor, made_term}
-use Rattle.mo_eval.specs.steps.Selecting.{each_below, elements_more, elements_seen, reading_at, selections_seen}
+use Rattle.mo_eval.specs.steps.Selecting.{each_below, elements_more, elements_seen, reading_in, selections_seen}
 use Rattle.mo_eval.specs.steps.Sizing.{sizes_seen}
 use Rattle.mo_names.specs.Sights.{IsMember, member_of}
 use Rattle.mo_scope.specs.Frames.{Scope}
 use Rattle.mo_scope.specs.Places.{Every}
 use Rattle.mo_scope.specs.Worlds.{Grows, frames_of, scope_in, table_in}
-use Rattle.mo_syntax.specs.declared.expr.Expr.{Expr, size-Expr}
+use Rattle.mo_syntax.specs.declared.expr.Expr.{Expr}
 use Rattle.mo_typing.specs.Indices.{numbers_to}
 use Rattle.mo_typing.specs.Outcome.{and_then, each}
-use Rattle.std.proofs.Common.{List, Ok, Option, Some, [], drop, length, map, max, option_map as option_map_of_common, ◌*◌, ◌++◌, ◌+◌, ◌∷◌, ◌≡◌}
+use Rattle.std.proofs.Common.{List, Ok, Option, Some, [], drop, length, map, option_map as option_map_of_common, ◌*◌, ◌++◌, ◌+◌, ◌∷◌, ◌≡◌}
 use Rattle.std.specs.Option.{option_map}
 use Rattle.std.specs.Prelude.{IfSome}
 use Rattle.mo_eval.proofs.+resolving.Given as goal
 
 abbrev pub invariant-variables::known_with-reading : goal.invariant-variables::known_with-reading
 invariant-variables::known_with-reading l = Grows l.initial.s l.s × AreRead l.reads.items (variables_in l.initial.s l.left l.virtuals)
+    × IsKept l.s l.reader
 
 abbrev pub decreases-variables::known_with-reading : goal.decreases-variables::known_with-reading
 decreases-variables::known_with-reading l = unread_among l.reads.items
@@ -39,6 +42,7 @@ invariant-choice::choice-loop-one l =
     Grows l.initial.s l.s × AreThere l.s l.virtuals
     × (and_then (made_choice (elements_in l.initial.s l.site.left) l.site.context (map (as_branch (part_in l.initial.s l.site)) (drop l.one-index l.branches)) (part_in l.initial.s l.site l.other) (virtuals_seen (frames_of l.s) l.virtuals)) (λ more. Ok ((l.made ++ more.0.0, more.0.1), more.1))
     ≡ made_choice (elements_in l.initial.s l.site.left) l.site.context (map (as_branch (part_in l.initial.s l.site)) l.branches) (part_in l.initial.s l.site l.other) (virtuals_seen (frames_of l.initial.s) l.initial.virtuals))
+    × IsKept l.s l.reader
 
 abbrev pub invariant-calls::arguments-loop-arg : goal.invariant-calls::arguments-loop-arg
 invariant-calls::arguments-loop-arg l =
@@ -46,6 +50,7 @@ invariant-calls::arguments-loop-arg l =
     × ((parts : List Part) → plain_in l.initial.s l.site l.args ≡ Some parts →
     and_then (make_arguments l.site.context (drop l.arg-index parts) (virtuals_seen (frames_of l.s) l.virtuals)) (behind_made l.made)
     ≡ make_arguments l.site.context parts (virtuals_seen (frames_of l.initial.s) l.initial.virtuals))
+    × IsKept l.s l.reader
 
 abbrev pub invariant-calls::sizes-loop-arg : goal.invariant-calls::sizes-loop-arg
 invariant-calls::sizes-loop-arg l =
@@ -53,36 +58,42 @@ invariant-calls::sizes-loop-arg l =
     × ((parts : List Part) → plain_in l.initial.s l.site l.args ≡ Some parts →
     and_then (read_sizes (elements_in l.initial.s l.site.left) l.site.context (drop l.arg-index parts)) (λ more. Ok (l.made ++ more))
     ≡ read_sizes (elements_in l.initial.s l.site.left) l.site.context parts)
+    × IsKept l.s l.reader
 
 abbrev pub invariant-resolve::operands-loop-part : goal.invariant-resolve::operands-loop-part
 invariant-resolve::operands-loop-part l =
     Grows l.initial.s l.s × AreThere l.s l.virtuals
     × (and_then (make_parts l.site.context (map (part_in l.initial.s l.site) (drop l.part-index l.parts)) (virtuals_seen (frames_of l.s) l.virtuals)) (λ more. Ok (l.made ++ more.0, more.1))
     ≡ make_parts l.site.context (map (part_in l.initial.s l.site) l.parts) (virtuals_seen (frames_of l.initial.s) l.initial.virtuals))
+    × IsKept l.s l.reader
 
 abbrev pub invariant-resolve::terms-loop-term : goal.invariant-resolve::terms-loop-term
 invariant-resolve::terms-loop-term l =
     Grows l.initial.s l.s × AreThere l.s l.virtuals
     × (and_then (make_each (made_term l.site.context) (map (as_term (part_in l.initial.s l.site)) (drop l.term-index l.terms)) (virtuals_seen (frames_of l.s) l.virtuals)) (λ more. Ok (l.made ++ more.0, more.1))
     ≡ make_each (made_term l.site.context) (map (as_term (part_in l.initial.s l.site)) l.terms) (virtuals_seen (frames_of l.initial.s) l.initial.virtuals))
+    × IsKept l.s l.reader
 
 abbrev pub invariant-resolve::factors-loop-factor : goal.invariant-resolve::factors-loop-factor
 invariant-resolve::factors-loop-factor l =
     Grows l.initial.s l.s × AreThere l.s l.virtuals
     × (and_then (make_each (made_factor l.site.context) (map (as_factor (part_in l.initial.s l.site)) (drop l.factor-index l.factors)) (virtuals_seen (frames_of l.s) l.virtuals)) (λ more. Ok (l.made ++ more.0, more.1))
     ≡ make_each (made_factor l.site.context) (map (as_factor (part_in l.initial.s l.site)) l.factors) (virtuals_seen (frames_of l.initial.s) l.initial.virtuals))
+    × IsKept l.s l.reader
 
 abbrev pub invariant-subscripts::numbers_of-loop-k : goal.invariant-subscripts::numbers_of-loop-k
 invariant-subscripts::numbers_of-loop-k l =
     Grows l.initial.s l.s × AreRead l.reads.items (variables_in l.initial.s l.left l.resolved.virtuals)
     × (and_then (each (λ k. and_then (known_at (elements_in l.initial.s l.left) (resolved_seen (frames_of l.initial.s) l.resolved) (k ∷ [])) (must_be_whole l.place)) (drop l.k (numbers_to l.size))) (λ more. Ok (l.made ++ more))
     ≡ each (λ k. and_then (known_at (elements_in l.initial.s l.left) (resolved_seen (frames_of l.initial.s) l.resolved) (k ∷ [])) (must_be_whole l.place)) (numbers_to l.size))
+    × IsKept l.s l.reader
 
 abbrev pub invariant-subscripts::read_subscripts-loop-k : goal.invariant-subscripts::read_subscripts-loop-k
 invariant-subscripts::read_subscripts-loop-k l =
     Grows l.initial.s l.s
     × (and_then (read_subscripts (elements_in l.initial.s l.site.left) (drop l.k l.dims) (drop l.k (map (option_map (part_in l.initial.s l.site)) l.subs))) (λ more. Ok (l.made ++ more))
     ≡ read_subscripts (elements_in l.initial.s l.site.left) l.dims (map (option_map (part_in l.initial.s l.site)) l.subs))
+    × IsKept l.s l.reader
 
 abbrev pub invariant-dimensions::put_dims-loop-sub : goal.invariant-dimensions::put_dims-loop-sub
 invariant-dimensions::put_dims-loop-sub l = record {
@@ -90,6 +101,7 @@ invariant-dimensions::put_dims-loop-sub l = record {
   is : (others : List (Scope × Option Expr)) →
       dims_more (table_in l.initial.s) (reading (table_in l.initial.s) l.of.left) (bound_in l.initial.s l.of) l.made (scoped (scope_in (frames_of l.initial.s) l.sizes.scope.frame.0 l.sizes.scope.iters) (drop l.sub-index l.sizes.subscripts.now) ++ others)
       ≡ dims_more (table_in l.initial.s) (reading (table_in l.initial.s) l.of.left) (bound_in l.initial.s l.of) l.initial.made (scoped (scope_in (frames_of l.initial.s) l.sizes.scope.frame.0 l.sizes.scope.iters) l.sizes.subscripts.now ++ others);
+  kept : IsKept l.s l.reader;
 }
 
 abbrev pub invariant-dimensions::all_dims-loop-one : goal.invariant-dimensions::all_dims-loop-one
@@ -97,22 +109,25 @@ invariant-dimensions::all_dims-loop-one l = record {
   grows : Grows l.initial.s l.s;
   is : dims_more (table_in l.initial.s) (reading (table_in l.initial.s) l.of.left) (bound_in l.initial.s l.of) l.made (each_dim (sizes_seen (frames_of l.initial.s) (drop l.one-index l.sizes)))
       ≡ dims_more (table_in l.initial.s) (reading (table_in l.initial.s) l.of.left) (bound_in l.initial.s l.of) [] (each_dim (sizes_seen (frames_of l.initial.s) l.sizes));
+  kept : IsKept l.s l.reader;
 }
 
 abbrev pub invariant-selections::selections-loop-i : goal.invariant-selections::selections-loop-i
 invariant-selections::selections-loop-i l = record {
   grows : Grows l.initial.s l.s;
   member : IfSome l.member (IsMember l.s);
-  is : and_then (selections (table_in l.initial.s) (reading_at l.initial.s l.deeper) (elements_in l.initial.s l.site.left) (option_map_of_common (member_of (frames_of l.s)) l.member) (names_seen (part_in l.initial.s l.site) (frames_of l.initial.s) (drop l.i l.names))) (λ more. Ok (selections_seen l.made ++ more))
-      ≡ selections (table_in l.initial.s) (reading_at l.initial.s l.deeper) (elements_in l.initial.s l.site.left) (Some (member_of (frames_of l.initial.s) l.first)) (names_seen (part_in l.initial.s l.site) (frames_of l.initial.s) l.names);
+  is : (asking : Removal) → and_then (selections (table_in l.initial.s) (reading_in asking l.initial.s l.deeper) (elements_in l.initial.s l.site.left) (option_map_of_common (member_of (frames_of l.s)) l.member) (names_seen (part_in l.initial.s l.site) (frames_of l.initial.s) (drop l.i l.names))) (λ more. Ok (selections_seen l.made ++ more))
+      ≡ selections (table_in l.initial.s) (reading_in asking l.initial.s l.deeper) (elements_in l.initial.s l.site.left) (Some (member_of (frames_of l.initial.s) l.first)) (names_seen (part_in l.initial.s l.site) (frames_of l.initial.s) l.names);
+  kept : IsKept l.s l.reader;
 }
 
 abbrev pub invariant-below::below_each-loop-index : goal.invariant-below::below_each-loop-index
 invariant-below::below_each-loop-index l = record {
   grows : Grows l.initial.s l.s;
   there : Every (λ element. IsMember l.s element.0) l.made;
-  is : elements_more (elements_seen (frames_of l.s) l.made) (each_below (table_in l.initial.s) (reading_at l.initial.s l.deeper) l.place (member_of (frames_of l.initial.s) l.member) (selections_seen l.chosen) (drop l.index-index l.indices))
-      ≡ elements_more (elements_seen (frames_of l.initial.s) l.initial.made) (each_below (table_in l.initial.s) (reading_at l.initial.s l.deeper) l.place (member_of (frames_of l.initial.s) l.member) (selections_seen l.chosen) l.indices);
+  is : (asking : Removal) → elements_more (elements_seen (frames_of l.s) l.made) (each_below (table_in l.initial.s) (reading_in asking l.initial.s l.deeper) l.place (member_of (frames_of l.initial.s) l.member) (selections_seen l.chosen) (drop l.index-index l.indices))
+      ≡ elements_more (elements_seen (frames_of l.initial.s) l.initial.made) (each_below (table_in l.initial.s) (reading_in asking l.initial.s l.deeper) l.place (member_of (frames_of l.initial.s) l.member) (selections_seen l.chosen) l.indices);
+  kept : IsKept l.s l.reader;
 }
 
 abbrev pub decreases-components::value_in : goal.decreases-components::value_in

@@ -22,10 +22,15 @@ use Rattle.mo_eval.specs.Contexts.{Part}
 use Rattle.mo_eval.specs.References.{Selection, component_behind, elements_below, joined, kind_accepted, kind_among, selected, there, virtual_elements}
 use Rattle.mo_eval.specs.Components.{reading_by}
 use Rattle.mo_eval.specs.Values.{reading}
+use Rattle.mo_eval.specs.steps.Absence.{Removal, reading_for}
 
 -- what is read one reference deeper
 abbrev pub reading_at : World → ℕ → Reading
 reading_at world deeper = reading_by (table_in world) (reading (table_in world) deeper)
+
+-- for an expression, and for an end of a connect
+abbrev pub reading_in : Removal → World → ℕ → Reading
+reading_in asking world deeper = reading_for asking (reading_at world deeper)
 
 abbrev pub selection_seen : SelectionAt → Selection
 selection_seen selection = record { name = selection.name.now; place = selection.place; dims = selection.dims; subs = selection.subs }

@@ -6,14 +6,7 @@ use Rattle.mo_eval.specs.Sites.{elements_in}
 use Rattle.mo_eval.specs.Values.{most_references}
 use Rattle.mo_eval.specs.steps.Asking.{value_in}
 use Rattle.mo_eval.proofs.Growing.{gives_as, same_elements}
-use Rattle.mo_eval.proofs.Grown.{grows_on, kept_still}
 use Rattle.mo_eval.proofs.reader.Reader.value.Goals as goal
-
-pub returns-in_err-resolved-clause-kept : goal.returns-in_err-resolved-clause-kept
-returns-in_err-resolved-clause-kept c = kept_still _ _ c.alone.ensures.grows _ c.requires.kept
-
-pub returns-clause-kept : goal.returns-clause-kept
-returns-clause-kept c = kept_still _ _ (grows_on _ _ _ c.alone.ensures.grows c.value_of.ensures.grows) _ c.requires.kept
 
 pub returns-clause-exact : goal.returns-clause-exact
 returns-clause-exact c =

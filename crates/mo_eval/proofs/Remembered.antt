@@ -1,0 +1,87 @@
+-- What a reader keeps of components.
+use Rattle.std.proofs.Common.{◌≡◌, ℕ, zero, suc, Bool, true, false, List, [], ◌∷◌, ◌++◌, Option, Some, None, Ok, Err, refl, ap, sym, subst, ◌∙◌}
+use Rattle.std.specs.Prelude.{slice_get}
+use Rattle.mo_syntax.specs.declared.meaning.Kind.{Kind}
+use Rattle.mo_syntax.specs.declared.place.Place.{Place}
+use Rattle.mo_scope.specs.Frames.{Frame, Member}
+use Rattle.mo_scope.specs.Own.{IsOwnElement, own_declared}
+use Rattle.mo_scope.specs.Parts.{Picked, picked_here}
+use Rattle.mo_scope.specs.Names.{Child, child_of_member}
+use Rattle.mo_scope.specs.Rows.{Table, Declares}
+use Rattle.mo_scope.specs.Sights.{declares_seen}
+use Rattle.mo_scope.specs.Worlds.{World, frame_in, frames_of, table_in}
+use Rattle.mo_scope.specs.declared.row.Member.{Member as MemberAt}
+use Rattle.mo_names.specs.Sights.{IsMember, member_of}
+use Rattle.mo_typing.specs.Indices.{Index}
+use Rattle.mo_typing.specs.Outcome.{Outcome, breaks}
+use Rattle.mo_eval.specs.References.{is_replaced}
+use Rattle.mo_eval.specs.Scalars.{Known}
+use Rattle.mo_eval.specs.Values.{reading, value_of_element}
+use Rattle.mo_eval.specs.Virtuals.{Element}
+use Rattle.mo_eval.specs.steps.Asking.{unbound}
+use Rattle.mo_eval.proofs.Bindings.{bound_is, unbound_is}
+
+abbrev pub or_this : {A : Type 0} → A → Option A → A
+or_this d (Some x) = x
+or_this d None = d
+
+-- what holds of all, and of one more
+pub each_pushed : {A : Type 0} (P : A → Type 0) (xs : List A) (y : A) → ((k : ℕ) (x : A) → slice_get xs k ≡ Some x → P x) → P y →
+    (k : ℕ) (x : A) → slice_get (xs ++ y ∷ []) k ≡ Some x → P x
+each_pushed P [] y each is zero x at = subst P (ap (or_this y) at) is
+each_pushed {A = A} P [] y each is (suc k) x at = absurd (let clash : ◌≡◌ {A = Option A} None (Some x) = at in cc)
+each_pushed P (z ∷ xs) y each is zero x at = each zero x at
+each_pushed P (z ∷ xs) y each is (suc k) x at = each_pushed P xs y (λ j w h. each (suc j) w h) is k x at
+
+-- ---- one component
+
+abbrev pub member_with : List ℕ → Frame → ℕ → Bool → Declares → Member
+member_with name home item hidden declares = record { name = name; home = home; item = item; hidden = hidden; declares = declares }
+
+pub same_own : (table : Table) (a b : List ℕ) (f g : Frame) (i j : ℕ) (h k : Bool) (d e : Declares) → f ≡ g → i ≡ j → h ≡ k → IsOwnElement table (member_with a f i h d) → IsOwnElement table (member_with b g j k e) →
+    member_with a f i h d ≡ member_with b g j k e
+same_own table a b f g i j h k d e home item hidden is also =
+    let declared : d ≡ e = ap (or_this d) (sym is.declares ∙ (ap (λ x. slice_get (own_declared table x) i) home ∙ (ap (slice_get (own_declared table g)) item ∙ also.declares))) in
+    let named : a ≡ b = is.name ∙ (ap (λ (x : Declares). x.name) declared ∙ sym also.name) in
+    ap (λ x. member_with x f i h d) named
+    ∙ (ap (λ x. member_with b x i h d) home ∙ (ap (λ x. member_with b g x h d) item ∙ (ap (λ x. member_with b g j x d) hidden ∙ ap (λ x. member_with b g j k x) declared)))
+
+pub same_member : (world : World) (a b : MemberAt) → a.home.0 ≡ b.home.0 → a.item ≡ b.item → a.hidden ≡ b.hidden → IsMember world a → IsMember world b → member_of (frames_of world) a ≡ member_of (frames_of world) b
+same_member world a b home item hidden is also =
+    same_own (table_in world) a.name.now b.name.now (frame_in (frames_of world) a.home.0) (frame_in (frames_of world) b.home.0) a.item b.item a.hidden b.hidden (declares_seen a.declares) (declares_seen b.declares)
+    (ap (frame_in (frames_of world)) home) item hidden is.own also.own
+
+-- ---- one element, wherever the reference stands
+
+abbrev pub element_with : Member → Index → Kind → Bool → Place → Element
+element_with member index kind constant place = record { member = member; index = index; kind = kind; place = place; constant = constant }
+
+pub value_anywhere : (table : Table) (left : ℕ) (member : Member) (index : Index) (kind : Kind) (constant : Bool) (p q : Place) (known : Known) →
+    value_of_element table left (element_with member index kind constant p) ≡ Ok known → value_of_element table left (element_with member index kind constant q) ≡ Ok known
+value_anywhere table left member index kind constant p q known h = go (child_of_member table member index) refl
+  where
+    replaced : (b : Bool) → is_replaced (element_with member index kind constant p) ≡ b → unbound (element_with member index kind constant p) ≡ Ok known → unbound (element_with member index kind constant q) ≡ Ok known
+    replaced true e k = absurd (let clash : ◌≡◌ {A = Outcome Known} (breaks 28 p) (Ok known) = (rw e at k) in cc)
+    replaced false e k = rw e (rw e at k)
+
+    among : (child : Child) (o : Option Picked) → child_of_member table member index ≡ Ok child → picked_here child.sources ≡ o →
+        value_of_element table left (element_with member index kind constant q) ≡ Ok known
+    among child None found none =
+        unbound_is table (reading table left) (element_with member index kind constant q) child found none
+        ∙ replaced (is_replaced (element_with member index kind constant p)) refl (sym (unbound_is table (reading table left) (element_with member index kind constant p) child found none) ∙ h)
+    among child (Some picked) found some =
+        bound_is table (reading table left) (element_with member index kind constant q) child picked found some
+        ∙ (sym (bound_is table (reading table left) (element_with member index kind constant p) child picked found some) ∙ h)
+
+    go : (o : Outcome Child) → child_of_member table member index ≡ o → value_of_element table left (element_with member index kind constant q) ≡ Ok known
+    go (Ok child) found = among child (picked_here child.sources) found refl
+    go (Err broken) found = absurd (let clash : ◌≡◌ {A = Outcome Known} (Err broken) (Ok known) = (rw found at h) in cc)
+
+pub value_same : (table : Table) (left : ℕ) (m n : Member) (i j : Index) (k l : Kind) (b c : Bool) (p q : Place) (known : Known) → m ≡ n → i ≡ j → k ≡ l → b ≡ c →
+    value_of_element table left (element_with m i k b p) ≡ Ok known → value_of_element table left (element_with n j l c q) ≡ Ok known
+value_same table left m n i j k l b c p q known members indices kinds constants h =
+    sym
+    (ap (λ x. value_of_element table left (element_with x i k b q)) members
+    ∙ (ap (λ x. value_of_element table left (element_with n x k b q)) indices
+    ∙ (ap (λ x. value_of_element table left (element_with n j x b q)) kinds ∙ ap (λ x. value_of_element table left (element_with n j l x q)) constants)))
+    ∙ value_anywhere table left m i k b p q known h
