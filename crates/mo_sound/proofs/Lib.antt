@@ -1,0 +1,5 @@
+pub mod Shaped
+pub mod Ordered
+pub mod Kinded
+pub mod Related
+pub mod Deciding
