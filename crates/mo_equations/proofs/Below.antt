@@ -7,6 +7,7 @@ use Rattle.mo_flat.specs.declared.connect.EndLeaf.{EndLeaf}
 use Rattle.mo_flat.specs.SoundConnects.{AreDistinct}
 use Rattle.mo_scope.specs.Rows.{Table}
 use Rattle.mo_scope.specs.Frames.{Indexed, numbers_eq}
+use Rattle.mo_scope.specs.Places.{Every}
 use Rattle.mo_scope.specs.Instances.{Follow, Instance, IsInstanceTree, Leaf}
 use Rattle.mo_equations.specs.Leaves.{Tree, Variable, behind, variables_from, variables_of, with_leaf}
 use Rattle.mo_equations.specs.Connectors.{is_flow, is_joined_role, leaves_below}
@@ -97,7 +98,7 @@ leaf_below tree path leaf a = leaf_of tree path (variables_of tree) leaf a
 
 -- ---- different names
 
-abbrev Differ : {X K : Type 0} → (X → K) → List X → Type 0
+abbrev pub Differ : {X K : Type 0} → (X → K) → List X → Type 0
 Differ key [] = Unit {0}
 Differ {X = X} key (x ∷ xs) = ((y : X) → Among xs y → key x ≡ key y → ⊥) × Differ key xs
 
@@ -140,7 +141,7 @@ leaves_differ tree path (v ∷ vs) h =
 
 -- ---- the paths of a tree
 
-abbrev Differ_paths : List Instance → Type 0
+abbrev pub Differ_paths : List Instance → Type 0
 Differ_paths instances = Differ (λ i. i.path) instances
 
 -- what follows instances has other paths than these
@@ -170,8 +171,22 @@ follow_differ naming table before (first ∷ rest) h = (
   follow_differ naming table (before ++ first ∷ []) rest h.1,
 )
 
-paths_differ : (naming : Naming) (table : Table) (instances : List Instance) → IsInstanceTree naming table instances → Differ_paths instances
+pub paths_differ : (naming : Naming) (table : Table) (instances : List Instance) → IsInstanceTree naming table instances → Differ_paths instances
 paths_differ naming table instances (IsInstanceTree.tree {root} {others} is h) = (λ y b. others_differ naming table (root ∷ []) others root y h (inl refl) b, follow_differ naming table (root ∷ []) others h)
+
+-- the same by what holds of each behind another one
+abbrev pub Distinct_paths : List Instance → Type 0
+Distinct_paths [] = Unit {0}
+Distinct_paths (x ∷ xs) = Every (λ y. y.path ≡ x.path → ⊥) xs × Distinct_paths xs
+
+every_among : (P : Instance → Type 0) (xs : List Instance) (y : Instance) → Every P xs → Among xs y → P y
+every_among P [] y h a = absurd a
+every_among P (x ∷ xs) y h (inl e) = subst P e h.0
+every_among P (x ∷ xs) y h (inr b) = every_among P xs y h.1 b
+
+pub differ_of : (instances : List Instance) → Distinct_paths instances → Differ_paths instances
+differ_of [] h = tt
+differ_of (x ∷ xs) h = (λ y a e. every_among (λ z. z.path ≡ x.path → ⊥) xs y h.0 a (sym e), differ_of xs h.1)
 
 -- the variables of instances are those of some of them
 of_instance : (n : ℕ) (instances : List Instance) (v : Variable) → Among (variables_from n instances) v → Among instances v.instance
@@ -193,7 +208,7 @@ variables_differ n (instance ∷ others) h = at_leaf instance.leaf (λ m. variab
     at_leaf (Some leaf) r = (λ w a e. h.0 w.instance (of_instance (n + 1) others w a) e, r (n + 1))
 
 -- no two leaves of an end have one name below it
-pub leaves_are_distinct : (naming : Naming) (tree : Tree) (path : Indexed) → IsInstanceTree naming tree.classes tree.instances → AreDistinct (leaves_below tree path)
-leaves_are_distinct naming tree path h =
+pub leaves_are_distinct : (tree : Tree) (path : Indexed) → Differ_paths tree.instances → AreDistinct (leaves_below tree path)
+leaves_are_distinct tree path h =
     distinct_of (leaves_below tree path)
-    (leaves_differ tree path (variables_of tree) (variables_differ 1 tree.instances (paths_differ naming tree.classes tree.instances h)))
+    (leaves_differ tree path (variables_of tree) (variables_differ 1 tree.instances h))

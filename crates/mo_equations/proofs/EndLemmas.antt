@@ -4,7 +4,6 @@ use Rattle.mo_syntax.specs.declared.expr.Expr.{Expr}
 use Rattle.mo_syntax.specs.declared.expr.ReferenceOf.{ReferenceOf}
 use Rattle.mo_syntax.specs.declared.place.Broken.{Broken}
 use Rattle.mo_syntax.specs.declared.place.Place.{Place}
-use Rattle.mo_syntax.specs.SoundTree.{Naming}
 use Rattle.mo_flat.specs.declared.connect.End.{End}
 use Rattle.mo_flat.specs.declared.connect.EndLeaf.{EndLeaf}
 use Rattle.mo_flat.specs.declared.connect.Side.{Side}
@@ -12,7 +11,6 @@ use Rattle.mo_flat.specs.declared.connect.Side.TheVariants.{Inside, Outside, Nei
 use Rattle.mo_flat.specs.SoundConnects.{AreDistinct}
 use Rattle.mo_scope.specs.Outcome.{Outcome, and_then}
 use Rattle.mo_scope.specs.Frames.{Indexed, Member, Scope, at_of}
-use Rattle.mo_scope.specs.Instances.{IsInstanceTree}
 use Rattle.mo_scope.specs.Names.{path_below}
 use Rattle.mo_typing.specs.Indices.{Index}
 use Rattle.mo_typing.specs.Subscripts.{subscripts}
@@ -21,7 +19,7 @@ use Rattle.mo_equations.specs.Leaves.{Tree, variables_of}
 use Rattle.mo_equations.specs.Connectors.{leaves_below}
 use Rattle.mo_eval.specs.Ends.{Selected, first_identifier, selected_from, unless_removed, with_parts}
 use Rattle.mo_equations.specs.Ends.{end_of, end_with, leaves_of, no_connector, side_of}
-use Rattle.mo_equations.proofs.Below.{IsLeafOf, leaf_below, leaves_are_distinct}
+use Rattle.mo_equations.proofs.Below.{Differ_paths, IsLeafOf, leaf_below, leaves_are_distinct}
 use Rattle.mo_equations.proofs.Numbers.{Among}
 
 -- ---- outcomes
@@ -69,18 +67,18 @@ nothing_of tree = record {
   each = λ leaf a. absurd a;
 }
 
-below_of : (naming : Naming) (tree : Tree) → IsInstanceTree naming tree.classes tree.instances → (path : Indexed) → AreOf tree (leaves_below tree path)
-below_of naming tree h path = record {
-  distinct = leaves_are_distinct naming tree path h;
+below_of : (tree : Tree) → Differ_paths tree.instances → (path : Indexed) → AreOf tree (leaves_below tree path)
+below_of tree h path = record {
+  distinct = leaves_are_distinct tree path h;
   each = λ leaf a. (path, leaf_below tree path leaf a);
 }
 
-leaves_are_of : (naming : Naming) (tree : Tree) → IsInstanceTree naming tree.classes tree.instances → (element : Member × Index) → AreOf tree (leaves_of tree element)
-leaves_are_of naming tree h element = at_path (path_below (at_of element.0.home) element.0.name element.1) refl
+leaves_are_of : (tree : Tree) → Differ_paths tree.instances → (element : Member × Index) → AreOf tree (leaves_of tree element)
+leaves_are_of tree h element = at_path (path_below (at_of element.0.home) element.0.name element.1) refl
   where
     at_path : (found : Option Indexed) → path_below (at_of element.0.home) element.0.name element.1 ≡ found → AreOf tree (leaves_of tree element)
     at_path None is = rw is (nothing_of tree)
-    at_path (Some path) is = rw is (below_of naming tree h path)
+    at_path (Some path) is = rw is (below_of tree h path)
 
 -- ---- ends
 
@@ -101,12 +99,12 @@ end_without : (tree : Tree) (end : End) → end.elements ≡ [] → IsEndOf tree
 end_without tree end h = record { none = λ e. h; elements = subst (All (AreOf tree)) (sym h) (all_none (AreOf tree)) }
 
 -- an end on a side, with the elements that it selects
-end_on : (naming : Naming) (tree : Tree) → IsInstanceTree naming tree.classes tree.instances → (side : Side) → (side ≡ Neither → ⊥)
+end_on : (tree : Tree) → Differ_paths tree.instances → (side : Side) → (side ≡ Neither → ⊥)
     → (place : Place) (dims : List ℕ) (elements : List (Member × Index)) (end : End)
     → record { place = place; side = side; dims = dims; elements = map (leaves_of tree) elements } ≡ end → IsEndOf tree end
-end_on naming tree h side other place dims elements end e = subst (IsEndOf tree) e (record {
+end_on tree h side other place dims elements end e = subst (IsEndOf tree) e (record {
   none = λ n. absurd (other n);
-  elements = all_mapped (AreOf tree) (leaves_of tree) (leaves_are_of naming tree h) elements;
+  elements = all_mapped (AreOf tree) (leaves_of tree) (leaves_are_of tree h) elements;
 })
 
 is_inside : Inside ≡ Neither → ⊥
@@ -123,20 +121,20 @@ is_outside e = subst no e tt
     no Outside = Unit {0}
     no side = ⊥
 
-abbrev end_made : Tree → Place → Selected → Side → End
+abbrev pub end_made : Tree → Place → Selected → Side → End
 end_made tree place selected side =
     record { place = place; side = side; dims = (handed_in selected.chosen).0; elements = map (leaves_of tree) selected.elements }
 
-on_side : (naming : Naming) (tree : Tree) → IsInstanceTree naming tree.classes tree.instances → (place : Place) (selected : Selected) (side : Side) → (side ≡ Neither → ⊥)
+on_side : (tree : Tree) → Differ_paths tree.instances → (place : Place) (selected : Selected) (side : Side) → (side ≡ Neither → ⊥)
     → (end : End) → and_then (subscripts (handed_in selected.chosen).0 (handed_in selected.chosen).1) (λ _. Ok (end_made tree place selected side)) ≡ Ok end → IsEndOf tree end
-on_side naming tree h place selected side other end e =
+on_side tree h place selected side other end e =
     let one = comes (subscripts (handed_in selected.chosen).0 (handed_in selected.chosen).1) (λ u. Ok (end_made tree place selected side)) end e in
-    end_on naming tree h side other place (handed_in selected.chosen).0 selected.elements end
+    end_on tree h side other place (handed_in selected.chosen).0 selected.elements end
     (ok_one (end_made tree place selected side) end (Ok (end_made tree place selected side)) refl one.then_is)
 
-end_with_is : (naming : Naming) (tree : Tree) → IsInstanceTree naming tree.classes tree.instances → (place : Place) (selected : Selected) (side : Side) (end : End)
+end_with_is : (tree : Tree) → Differ_paths tree.instances → (place : Place) (selected : Selected) (side : Side) (end : End)
     → end_with tree place selected side ≡ Ok end → IsEndOf tree end
-end_with_is naming tree h place selected Neither end e = end_without tree end (sym (elements_one e))
+end_with_is tree h place selected Neither end e = end_without tree end (sym (elements_one e))
   where
     elements_one : end_with tree place selected Neither ≡ Ok end → [] ≡ end.elements
     elements_one e = ap elements_in e
@@ -144,20 +142,20 @@ end_with_is naming tree h place selected Neither end e = end_without tree end (s
         elements_in : Outcome End → List (List EndLeaf)
         elements_in (Ok x) = x.elements
         elements_in (Err x) = []
-end_with_is naming tree h place selected Inside end e = on_side naming tree h place selected Inside is_inside end e
-end_with_is naming tree h place selected Outside end e = on_side naming tree h place selected Outside is_outside end e
+end_with_is tree h place selected Inside end e = on_side tree h place selected Inside is_inside end e
+end_with_is tree h place selected Outside end e = on_side tree h place selected Outside is_outside end e
 
-abbrev with_selected : Tree → Scope → ReferenceOf Expr → Option Selected → Outcome (Option End)
+abbrev pub with_selected : Tree → Scope → ReferenceOf Expr → Option Selected → Outcome (Option End)
 with_selected tree scope reference None = Ok None
 with_selected tree scope reference (Some selected) =
     and_then (end_with tree (first_identifier reference.parts) selected (side_of tree.classes scope reference)) (λ end. Ok (Some end))
 
-abbrev with_named : Tree → Scope → ReferenceOf Expr → Named → Outcome (Option End)
+abbrev pub with_named : Tree → Scope → ReferenceOf Expr → Named → Outcome (Option End)
 with_named tree scope reference (Components (first ∷ others)) =
     and_then (unless_removed (selected_from tree.classes (first_identifier reference.parts) first others)) (with_selected tree scope reference)
 with_named tree scope reference other = Ok (Some (no_connector (first_identifier reference.parts)))
 
-some_is : {A : Type 0} (a b : A) → good a ≡ good b → a ≡ b
+pub some_is : {A : Type 0} (a b : A) → good a ≡ good b → a ≡ b
 some_is {A} a b e = ap value_in e
   where
     value_in : Outcome (Option A) → A
@@ -165,7 +163,7 @@ some_is {A} a b e = ap value_in e
     value_in (Ok None) = a
     value_in (Err x) = a
 
-none_is : {A B : Type 0} (a : A) → absent A ≡ good a → B
+pub none_is : {A B : Type 0} (a : A) → absent A ≡ good a → B
 none_is {A} a e = absurd (subst is_none e tt)
   where
     is_none : Outcome (Option A) → Type 0
@@ -173,28 +171,28 @@ none_is {A} a e = absurd (subst is_none e tt)
     is_none (Ok (Some x)) = ⊥
     is_none (Err x) = ⊥
 
-selected_is : (naming : Naming) (tree : Tree) → IsInstanceTree naming tree.classes tree.instances → (scope : Scope) (reference : ReferenceOf Expr) (found : Option Selected) (end : End)
+selected_is : (tree : Tree) → Differ_paths tree.instances → (scope : Scope) (reference : ReferenceOf Expr) (found : Option Selected) (end : End)
     → with_selected tree scope reference found ≡ Ok (Some end) → IsEndOf tree end
-selected_is naming tree h scope reference None end e = none_is end e
-selected_is naming tree h scope reference (Some selected) end e =
+selected_is tree h scope reference None end e = none_is end e
+selected_is tree h scope reference (Some selected) end e =
     let one = comes (end_with tree (first_identifier reference.parts) selected (side_of tree.classes scope reference)) (λ x. Ok (Some x)) (Some end) e in
-    end_with_is naming tree h (first_identifier reference.parts) selected (side_of tree.classes scope reference) end
+    end_with_is tree h (first_identifier reference.parts) selected (side_of tree.classes scope reference) end
     (one.first ∙ ap Ok (some_is one.value end one.then_is))
 
 without_is : (tree : Tree) (place : Place) (end : End) → good (no_connector place) ≡ good end → IsEndOf tree end
 without_is tree place end e = end_without tree end (sym (ap (λ x. x.elements) (some_is (no_connector place) end e)))
 
-named_is : (naming : Naming) (tree : Tree) → IsInstanceTree naming tree.classes tree.instances → (scope : Scope) (reference : ReferenceOf Expr) (found : Named) (end : End)
+named_is : (tree : Tree) → Differ_paths tree.instances → (scope : Scope) (reference : ReferenceOf Expr) (found : Named) (end : End)
     → with_named tree scope reference found ≡ Ok (Some end) → IsEndOf tree end
-named_is naming tree h scope reference (Components []) end e = without_is tree (first_identifier reference.parts) end e
-named_is naming tree h scope reference (Found_at found at) end e = without_is tree (first_identifier reference.parts) end e
-named_is naming tree h scope reference (Components (first ∷ others)) end e =
+named_is tree h scope reference (Components []) end e = without_is tree (first_identifier reference.parts) end e
+named_is tree h scope reference (Found_at found at) end e = without_is tree (first_identifier reference.parts) end e
+named_is tree h scope reference (Components (first ∷ others)) end e =
     let one = comes (unless_removed (selected_from tree.classes (first_identifier reference.parts) first others)) (with_selected tree scope reference) (Some end) e in
-    selected_is naming tree h scope reference one.value end one.then_is
+    selected_is tree h scope reference one.value end one.then_is
 
 -- what each end that is made of a name holds
-pub end_is : (naming : Naming) (tree : Tree) → IsInstanceTree naming tree.classes tree.instances → (scope : Scope) (reference : ReferenceOf Expr) (end : End)
+pub end_is : (tree : Tree) → Differ_paths tree.instances → (scope : Scope) (reference : ReferenceOf Expr) (end : End)
     → end_of tree scope reference ≡ Ok (Some end) → IsEndOf tree end
-end_is naming tree h scope reference end e =
+end_is tree h scope reference end e =
     let one = comes (named tree.classes scope (with_parts tree.classes scope reference)) (with_named tree scope reference) (Some end) e in
-    named_is naming tree h scope reference one.value end one.then_is
+    named_is tree h scope reference one.value end one.then_is

@@ -4,18 +4,14 @@ use Rattle.std.proofs.lemmas.List.{get_or_default}
 use Rattle.mo_syntax.specs.declared.expr.Expr.{Expr}
 use Rattle.mo_syntax.specs.declared.expr.ReferenceOf.{ReferenceOf}
 use Rattle.mo_syntax.specs.declared.place.Place.{Place}
-use Rattle.mo_syntax.specs.SoundTree.{Naming}
 use Rattle.mo_flat.specs.declared.connect.Connect.{Connect}
 use Rattle.mo_flat.specs.declared.connect.Connects.{Connects}
 use Rattle.mo_flat.specs.declared.connect.End.{End}
 use Rattle.mo_flat.specs.declared.connect.EndLeaf.{EndLeaf}
 use Rattle.mo_flat.specs.declared.connect.Expanded.{Expanded}
-use Rattle.mo_flat.specs.declared.connect.Side.TheVariants.{Neither}
-use Rattle.mo_flat.specs.SoundArray.{element_count}
 use Rattle.mo_flat.specs.SoundConnects.{AreDistinct, Ascends, IsAt, IsLeafIn, IsLeafOf, IsListedAsFlow, IsSoundConnect, IsSoundConnects, IsSoundEnd}
 use Rattle.mo_scope.specs.Outcome.{Outcome, and_then}
 use Rattle.mo_scope.specs.Frames.{Indexed, Scope}
-use Rattle.mo_scope.specs.Instances.{IsInstanceTree}
 use Rattle.mo_scope.specs.Places.{Every}
 use Rattle.mo_equations.specs.Leaves.{Tree, variables_of}
 use Rattle.mo_equations.specs.Connectors.{all_flows}
@@ -23,8 +19,10 @@ use Rattle.mo_equations.specs.Ends.{connect_of, end_of}
 use Rattle.mo_equations.specs.Gathering.{all_beside, turn_each}
 use Rattle.mo_equations.specs.Variables.{Declared, all_declared}
 use Rattle.mo_equations.specs.Expansion.{Parts, all_sections, expanded_with, expansion_of, made_placed}
-use Rattle.mo_equations.proofs.Below.{IsLeafOf as IsLeafOfTree}
+use Rattle.mo_equations.specs.steps.Checking.{AreFull, IsFull}
+use Rattle.mo_equations.proofs.Below.{Differ_paths, IsLeafOf as IsLeafOfTree}
 use Rattle.mo_equations.proofs.EndLemmas.{AreOf, IsEndOf, comes, end_is}
+use Rattle.mo_equations.proofs.Full.{end_full}
 use Rattle.mo_equations.proofs.Keeping.{expansion_keeps, good, ok_one}
 use Rattle.mo_equations.proofs.Numbers.{among_at, flows_ascend, listed_flow, one_variable, only_flows}
 
@@ -46,7 +44,7 @@ with_left tree scope place reference (Some left) = and_then (end_of tree scope r
 abbrev pair : {A B : Type 0} → A → B → A × B
 pair a b = (a, b)
 
-module _ (naming : Naming) (tree : Tree) (is_tree : IsInstanceTree naming tree.classes tree.instances) where
+module _ (tree : Tree) (differ : Differ_paths tree.instances) where
   none_made : (connects : List Connect) → good {A = List Connect} [] ≡ good connects → Every (IsOf tree) connects
   none_made connects e = subst (Every (IsOf tree)) (ok_one [] connects e) tt
 
@@ -61,26 +59,18 @@ module _ (naming : Naming) (tree : Tree) (is_tree : IsInstanceTree naming tree.c
   left_made scope place reference None connects l e = none_made connects e
   left_made scope place reference (Some left) connects l e =
       let one = comes (end_of tree scope reference) (with_right place left) connects e in
-      right_made place left one.value connects (l left refl) (λ right is. end_is naming tree is_tree scope reference right (one.first ∙ ap Ok is)) one.then_is
+      right_made place left one.value connects (l left refl) (λ right is. end_is tree differ scope reference right (one.first ∙ ap Ok is)) one.then_is
 
   connect_made : (scope : Scope) (place : Place) (left right : ReferenceOf Expr) (connects : List Connect) → connect_of tree scope place left right ≡ Ok connects → Every (IsOf tree) connects
   connect_made scope place left right connects e =
       let one = comes (end_of tree scope left) (with_left tree scope place right) connects e in
-      left_made scope place right one.value connects (λ end is. end_is naming tree is_tree scope left end (one.first ∙ ap Ok is)) one.then_is
+      left_made scope place right one.value connects (λ end is. end_is tree differ scope left end (one.first ∙ ap Ok is)) one.then_is
 
   -- all connects of a class
   pub connects_are_of : (e : Expanded) → expansion_of tree ≡ Ok e → Every (IsOf tree) e.connects.list
   connects_are_of e h = expansion_keeps (IsOf tree) tree connect_made e h
 
   -- ---- soundness
-
-  -- an end has as many elements as its dimensions say
-  abbrev pub IsFull : End → Type 0
-  IsFull end = end.side ≢ Neither → length end.elements ≡ element_count end.dims
-
-  pub record AreFull (c : Connect) : Type 0 where
-    pub left : IsFull c.left
-    pub right : IsFull c.right
 
   every_at : {X : Type 0} (P : X → Type 0) (xs : List X) (k : ℕ) (x : X) → Every P xs → IsAt xs k x → P x
   every_at P [] k x h at = let within : k < 0 = at.within in absurd (omega (arith, within))
@@ -150,3 +140,31 @@ module _ (naming : Naming) (tree : Tree) (is_tree : IsInstanceTree naming tree.c
   -- the connects of a class are sound, where its ends are full
   pub expansion_sound : (e : Expanded) → expansion_of tree ≡ Ok e → All AreFull e.connects.list → IsSoundConnects e.connects
   expansion_sound e h full = connects_sound e.connects (flows_are e h) (connects_are_of e h) full
+
+  -- ---- all elements of ends
+
+  full_right : (place : Place) (left : End) (found : Option End) (connects : List Connect) → IsFull left → ((right : End) → found ≡ Some right → IsFull right) → with_right place left found ≡ Ok connects → Every AreFull connects
+  full_right place left None connects l r e = subst (Every AreFull) (ok_one [] connects e) tt
+  full_right place left (Some right) connects l r e =
+      subst (Every AreFull) (ok_one (record { place = place; left = left; right = right } ∷ []) connects e) (record { left = l; right = r right refl }, tt)
+
+  full_left : (scope : Scope) (place : Place) (reference : ReferenceOf Expr) (found : Option End) (connects : List Connect) → ((left : End) → found ≡ Some left → IsFull left)
+      → with_left tree scope place reference found ≡ Ok connects → Every AreFull connects
+  full_left scope place reference None connects l e = subst (Every AreFull) (ok_one [] connects e) tt
+  full_left scope place reference (Some left) connects l e =
+      let one = comes (end_of tree scope reference) (with_right place left) connects e in
+      full_right place left one.value connects (l left refl) (λ right is. end_full tree scope reference right (one.first ∙ ap Ok is)) one.then_is
+
+  full_made : (scope : Scope) (place : Place) (left right : ReferenceOf Expr) (connects : List Connect) → connect_of tree scope place left right ≡ Ok connects → Every AreFull connects
+  full_made scope place left right connects e =
+      let one = comes (end_of tree scope left) (with_left tree scope place right) connects e in
+      full_left scope place right one.value connects (λ end is. end_full tree scope left end (one.first ∙ ap Ok is)) one.then_is
+
+  all_of : (xs : List Connect) → Every AreFull xs → All AreFull xs
+  all_of [] h k d less = absurd (omega (arith, less))
+  all_of (x ∷ xs) h zero d less = h.0
+  all_of (x ∷ xs) h (suc k) d less = all_of xs h.1 k d (omega (arith, less))
+
+  -- the connects of a class are sound
+  pub connects_sound_in : (e : Expanded) → expansion_of tree ≡ Ok e → IsSoundConnects e.connects
+  connects_sound_in e h = expansion_sound e h (all_of e.connects.list (expansion_keeps AreFull tree full_made e h))

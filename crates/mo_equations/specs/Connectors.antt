@@ -33,14 +33,14 @@ is_connector table instance = is_connector_class table (class_of instance.frame)
 
 -- ---- flow prefixes
 
+abbrev pub last_name : Indexed → List ℕ
+last_name [] = []
+last_name (step ∷ []) = step.0
+last_name (step ∷ next ∷ path) = last_name (next ∷ path)
+
 -- the declaration of the component that an instance is an element of; the asked class has none
 abbrev pub declaration_of : Table → Instance → Option Member
-declaration_of table instance = named (last_step instance.path) (own_members table (owner_of instance.frame))
-  where
-    last_step : Indexed → List ℕ
-    last_step [] = []
-    last_step (step ∷ []) = step.0
-    last_step (step ∷ next ∷ path) = last_step (next ∷ path)
+declaration_of table instance = named (last_name instance.path) (own_members table (owner_of instance.frame))
 
 abbrev pub is_declared_flow : Table → Instance → Bool
 is_declared_flow table instance = is_flow_member (declaration_of table instance)

@@ -2,11 +2,13 @@
 -- 3.7.1 and 10.6).
 --
 -- What is known of an expression is found by a walk over it, one operation after the other; its element is a scalar expression of the flat
--- model. Wherever both are numbers they are one number.
+-- model. Wherever both are numbers they are one number, if its dimensions break no rule: where those of operands do not fit one another,
+-- the walk and the element may take them at different indices.
 use Rattle.std.specs.Prelude.{◌≡◌, ℕ, ℤ, pos, ◌+ℤ◌, ◌-ℤ◌, ◌*ℤ◌, neg_ℤ, Bool, List, [], ◌∷◌, fold, Option, Some, None, Ok, if◌then◌else◌, nat_eq, int_lt}
 use Rattle.mo_tables.specs.declared.functions.TheConstants.{ABS, MAX, MIN, NO_EVENT}
 use Rattle.mo_flat.specs.declared.expr.FlatExpr.{FlatExpr, FlatExpr-F, fold-FlatExpr}
 use Rattle.mo_scope.specs.Outcome.{Outcome}
+use Rattle.mo_typing.specs.Dims.{Dims, dims_of}
 use Rattle.mo_typing.specs.Indices.{Index}
 use Rattle.mo_arrays.specs.Elements.{element_of}
 use Rattle.mo_eval.specs.declared.value.Scalar.TheVariants.{Whole}
@@ -68,6 +70,6 @@ variable_number read e n = known_number (numbered (known_of_virtuals read e.virt
 
 abbrev pub ElementsHaveTheirValues : Type 0
 ElementsHaveTheirValues =
-    (read : Element → Outcome Known) (e : Resolved) (index : Index) (value number : ℤ) →
+    (read : Element → Outcome Known) (e : Resolved) (dims : Dims) (index : Index) (value number : ℤ) → dims_of e.expression ≡ Ok dims →
     known_at read e index ≡ Ok (Some (Whole value)) → number_by (variable_number read e) (element_of e.expression index) ≡ Some number →
     value ≡ number

@@ -12,4 +12,6 @@ pub mod Equations
 pub mod Expansion
 pub mod Size
 pub mod Sound
+pub mod Counted
 pub mod ElementValues
+pub mod steps

@@ -1,5 +1,38 @@
 //! The equations of instances (Modelica Language Specification 3.5, chapters 8, 9 and 10).
 //!
-//! The definitions stand in specs/: `expansion_of` gives the variables of a tree of instances, its equations, asserts and connects, or the
-//! first rule that is broken on the way.
+//! - [`expand`]: the variables of a tree of instances, its equations, asserts and connects ([`Expansion`]), or the first rule that is
+//!   broken on the way.
+//! - [`MOST_UNKNOWNS`], [`MOST_EQUATIONS`], [`MOST_NODES`]: how large a flat model may be; [`MOST_TURNS`]: how many turns loops may take.
+//!
+//! The definitions stand in specs/: `expansion_of` gives all of it.
 #![tactic(auto)]
+
+mod asserts;
+mod building;
+mod checks;
+mod constants;
+mod counting;
+mod desk;
+mod ends;
+mod equalities;
+mod filling;
+mod flat;
+mod flows;
+mod forms;
+mod joining;
+mod kinds;
+mod layers;
+mod leaves;
+mod limits;
+mod made;
+mod paths;
+mod sections;
+mod standing;
+mod stops;
+mod table;
+mod values;
+mod variables;
+mod whole;
+
+pub use limits::{MOST_EQUATIONS, MOST_NODES, MOST_TURNS, MOST_UNKNOWNS};
+pub use whole::{Expansion, expand};

@@ -30,7 +30,7 @@ use Rattle.mo_equations.specs.Variables.{replacing}
 use Rattle.mo_equations.specs.Equalities.{made_side, made_sides}
 use Rattle.mo_equations.specs.Equations.{Site, made_kind, with_iteration}
 use Rattle.mo_scope.proofs.rows.Notation.{byte, id, name, row}
-use Rattle.mo_equations.proofs.Forms.{as_part, at_EndMark, at_expr, at_indexed, indexed, simple}
+use Rattle.mo_equations.proofs.EachForm.{as_part, at_EndMark, at_expr, at_indexed, indexed, simple}
 use Rattle.mo_equations.proofs.Scalars.{at_place, known_whole, layers, variable_side, whole_has}
 use Rattle.mo_equations.proofs.rows.Notation.{asking, both_sides, equation, equations_alone, in_class, made_equal, made_named, made_number, number, refers, root, root_instance}
 

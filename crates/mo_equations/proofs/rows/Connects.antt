@@ -27,7 +27,7 @@ use Rattle.mo_equations.specs.Leaves.{Tree}
 use Rattle.mo_equations.specs.Connectors.{all_flows}
 use Rattle.mo_equations.specs.Equations.{made_kind}
 use Rattle.mo_scope.proofs.rows.Notation.{byte, id, name, component, component_by, row}
-use Rattle.mo_equations.proofs.Forms.{at_Connect}
+use Rattle.mo_equations.proofs.EachForm.{at_Connect}
 use Rattle.mo_equations.proofs.Scalars.{known_truth, layers, truth_has}
 use Rattle.mo_equations.proofs.rows.Notation.{in_class, made_never, never, root}
 

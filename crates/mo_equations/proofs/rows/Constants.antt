@@ -28,7 +28,7 @@ use Rattle.mo_equations.specs.Variables.{replacing}
 use Rattle.mo_equations.specs.Equalities.{made_side, made_sides}
 use Rattle.mo_equations.specs.Equations.{made_kind}
 use Rattle.mo_scope.proofs.rows.Notation.{byte, id, name, component, row}
-use Rattle.mo_equations.proofs.Forms.{indexed, at_dotted, at_expr}
+use Rattle.mo_equations.proofs.EachForm.{indexed, at_dotted, at_expr}
 use Rattle.mo_equations.proofs.Scalars.{layers, replaced_whole, variable_side, whole_element, whole_has}
 use Rattle.mo_equations.proofs.rows.Notation.{asking, both_sides, equation, equations_alone, in_class, leaf_of, made_equal, made_name, made_number, named_side, number, refers, root_instance, virtuals_of}
 

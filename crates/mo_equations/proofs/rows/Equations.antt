@@ -35,7 +35,7 @@ use Rattle.mo_equations.specs.Variables.{replacing}
 use Rattle.mo_equations.specs.Equalities.{made_sides}
 use Rattle.mo_equations.specs.Equations.{Site, condition_known, flat_condition, in_branch, made_kind, range_numbers, vector_size, with_iteration}
 use Rattle.mo_scope.proofs.rows.Notation.{byte, id, name, component, component_by, row}
-use Rattle.mo_equations.proofs.Forms.{at_expr, at_for_equation, at_if_equation, at_Range}
+use Rattle.mo_equations.proofs.EachForm.{at_expr, at_For, at_If, at_Range}
 use Rattle.mo_equations.proofs.Scalars.{at_place, layers, known_range, known_whole, range_has, replaced_variable, undecided_variable, variable_element, variable_has, variable_side, whole_has, whole_side}
 use Rattle.mo_equations.proofs.rows.Notation.{root_instance, leaf_of, refers, number, in_class, equations_alone, equation, asking, named_in, named_side, made_named, made_name, number_side, made_number, both_sides, virtuals_of, virtuals_in, made_equal}
 
@@ -130,7 +130,7 @@ pub loop_is_unfolded :
     made_kind one_unknown (form.For (over "i" (from_to 1 34 2 36) ∷ []) (written 43 (Equal (refers "x" 43) (refers "i" 47)) ∷ [])) (byte 25) (in_class 6) 0
     ≡ Ok (equations_alone (equation (flat.Var 1 0) (flat.Whole (pos 1)) 43 ∷ equation (flat.Var 1 0) (flat.Whole (pos 2)) 43 ∷ []), 2)
 loop_is_unfolded =
-    ap (λ former. former (byte 25) (in_class 6) 0) (at_for_equation one_unknown (over "i" (from_to 1 34 2 36) ∷ []) (written 43 (Equal (refers "x" 43) (refers "i" 47)) ∷ []))
+    ap (λ former. former (byte 25) (in_class 6) 0) (at_For one_unknown (over "i" (from_to 1 34 2 36) ∷ []) (written 43 (Equal (refers "x" 43) (refers "i" 47)) ∷ []))
     ∙ rw (one_to_two one_unknown (in_class 6).scope 34 36, in_turn 1, in_turn 2) refl
 
 -- ---- an if-equation that no value decides
@@ -206,7 +206,7 @@ pub branch_counts_differ :
     ≡ breaks 35 (byte 54)
 branch_counts_differ =
     ap (λ former. former (byte 54) (in_class 6) 0)
-    (at_if_equation with_condition ((refers "b" 57, sets_name "x" 64 1 68 ∷ sets_name "y" 71 2 75 ∷ []) ∷ []) (sets_name "x" 83 3 87 ∷ []))
+    (at_If with_condition ((refers "b" 57, sets_name "x" 64 1 68 ∷ sets_name "y" 71 2 75 ∷ []) ∷ []) (sets_name "x" 83 3 87 ∷ []))
     ∙ rw (condition_is_undecided, condition_is_printed, x_is 64 1 68, y_is 71 2 75, x_is 83 3 87) refl
 
 abbrev pub minus : FlatExpr → FlatExpr → FlatExpr
@@ -226,5 +226,5 @@ pub branches_are_joined :
     )
 branches_are_joined =
     ap (λ former. former (byte 54) (in_class 6) 0)
-    (at_if_equation with_condition ((refers "b" 57, sets_name "x" 64 1 68 ∷ sets_name "y" 71 2 75 ∷ []) ∷ []) (sets_name "x" 83 3 87 ∷ sets_name "y" 90 4 94 ∷ []))
+    (at_If with_condition ((refers "b" 57, sets_name "x" 64 1 68 ∷ sets_name "y" 71 2 75 ∷ []) ∷ []) (sets_name "x" 83 3 87 ∷ sets_name "y" 90 4 94 ∷ []))
     ∙ rw (condition_is_undecided, condition_is_printed, x_is 64 1 68, y_is 71 2 75, x_is 83 3 87, y_is 90 4 94) refl

@@ -30,7 +30,7 @@ use Rattle.mo_equations.specs.Gathering.{Made}
 use Rattle.mo_equations.specs.Equalities.{Sides, made_side, made_sides}
 use Rattle.mo_equations.specs.Equations.{Site, made_kind}
 use Rattle.mo_scope.proofs.rows.Notation.{byte, name}
-use Rattle.mo_equations.proofs.Forms.{simple, indexed, at_Equal, at_expr, at_name, at_Truth, at_Whole}
+use Rattle.mo_equations.proofs.EachForm.{simple, indexed, at_Equal, at_expr, at_name, at_Truth, at_Whole}
 use Rattle.mo_equations.proofs.Scalars.{IsSide, at_place, scalar_equation}
 
 -- ---- notation

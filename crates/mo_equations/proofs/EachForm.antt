@@ -1,9 +1,9 @@
 -- What each form of equation gives, and what resolving makes of a name and of a literal.
 use Rattle.std.proofs.Common.{◌≡◌, ℕ, ℤ, Bool, false, List, [], ◌∷◌, map, Option, Some, None, refl, ap, sym, ◌∙◌}
 use Rattle.mo_syntax.specs.declared.equation.EquationKind.{EquationKind, EquationKind-F, fold_out-EquationKind}
-use Rattle.mo_syntax.specs.declared.equation.EquationKind.TheVariants.{Equal, Connect, outs-Equal, outs-Connect}
-use Rattle.mo_syntax.specs.declared.equation.EquationKind.TheVariants.{If as if_equation, outs-If as outs-if_equation, For as for_equation, outs-For as outs-for_equation}
+use Rattle.mo_syntax.specs.declared.equation.EquationKind.TheVariants as kind
 use Rattle.mo_syntax.specs.declared.equation.EquationOf.{EquationOf}
+use Rattle.mo_syntax.specs.declared.expr.Args.{Args}
 use Rattle.mo_syntax.specs.declared.expr.Expr.{Expr, roll-Expr, para-roll-Expr}
 use Rattle.mo_syntax.specs.declared.expr.IndexOf.{IndexOf}
 use Rattle.mo_syntax.specs.declared.expr.Node.{Node, Node-F, para-Node, para-roll-Node}
@@ -20,29 +20,31 @@ use Rattle.mo_eval.specs.Contexts.{Part}
 use Rattle.mo_eval.specs.Resolving.{made, made_node, made_expr, argument_of, arguments_of}
 use Rattle.mo_equations.specs.Leaves.{Tree}
 use Rattle.mo_equations.specs.Equations.{Former, made_form, made_kind}
+use Rattle.mo_equations.specs.steps.Turns.{branch_at, formed_at}
 
 -- ---- equations
 
-abbrev pub formed : Tree → EquationOf EquationKind → EquationOf Former
-formed tree equation = record { place = equation.place; what = made_kind tree equation.what }
-
 module _ (tree : Tree) where
-  pub at_Equal : (left right : Expr) → made_kind tree (Equal left right) ≡ made_form tree (EquationKind-F.Equal left right)
-  at_Equal left right = rw (fold_out-EquationKind Former (made_form tree) (Equal left right), outs-Equal left right) refl
+  pub at_Equal : (left right : Expr) → made_kind tree (kind.Equal left right) ≡ made_form tree (EquationKind-F.Equal left right)
+  at_Equal left right = rw (fold_out-EquationKind Former (made_form tree) (kind.Equal left right), kind.outs-Equal left right) refl
 
-  pub at_Connect : (left right : ReferenceOf Expr) → made_kind tree (Connect left right) ≡ made_form tree (EquationKind-F.Connect left right)
-  at_Connect left right = rw (fold_out-EquationKind Former (made_form tree) (Connect left right), outs-Connect left right) refl
+  pub at_If : (branches : List (Expr × List (EquationOf EquationKind))) (others : List (EquationOf EquationKind)) →
+      made_kind tree (kind.If branches others) ≡ made_form tree (EquationKind-F.If (map (branch_at tree) branches) (map (formed_at tree) others))
+  at_If branches others = rw (fold_out-EquationKind Former (made_form tree) (kind.If branches others), kind.outs-If branches others) refl
 
-  pub at_if_equation : (branches : List (Expr × List (EquationOf EquationKind))) (others : List (EquationOf EquationKind)) →
-      made_kind tree (if_equation branches others)
-      ≡ made_form tree (EquationKind-F.If (map (λ branch. (branch.0, map (formed tree) branch.1)) branches) (map (formed tree) others))
-  at_if_equation branches others =
-      rw (fold_out-EquationKind Former (made_form tree) (if_equation branches others), outs-if_equation branches others) refl
+  pub at_For : (indices : List (IndexOf Expr)) (equations : List (EquationOf EquationKind)) →
+      made_kind tree (kind.For indices equations) ≡ made_form tree (EquationKind-F.For indices (map (formed_at tree) equations))
+  at_For indices equations = rw (fold_out-EquationKind Former (made_form tree) (kind.For indices equations), kind.outs-For indices equations) refl
 
-  pub at_for_equation : (indices : List (IndexOf Expr)) (equations : List (EquationOf EquationKind)) →
-      made_kind tree (for_equation indices equations) ≡ made_form tree (EquationKind-F.For indices (map (formed tree) equations))
-  at_for_equation indices equations =
-      rw (fold_out-EquationKind Former (made_form tree) (for_equation indices equations), outs-for_equation indices equations) refl
+  pub at_When : (branches : List (Expr × List (EquationOf EquationKind))) →
+      made_kind tree (kind.When branches) ≡ made_form tree (EquationKind-F.When (map (branch_at tree) branches))
+  at_When branches = rw (fold_out-EquationKind Former (made_form tree) (kind.When branches), kind.outs-When branches) refl
+
+  pub at_Connect : (left right : ReferenceOf Expr) → made_kind tree (kind.Connect left right) ≡ made_form tree (EquationKind-F.Connect left right)
+  at_Connect left right = rw (fold_out-EquationKind Former (made_form tree) (kind.Connect left right), kind.outs-Connect left right) refl
+
+  pub at_Call : (called : ReferenceOf Expr) (arguments : Args) → made_kind tree (kind.Call called arguments) ≡ made_form tree (EquationKind-F.Call called arguments)
+  at_Call called arguments = rw (fold_out-EquationKind Former (made_form tree) (kind.Call called arguments), kind.outs-Call called arguments) refl
 
 -- ---- names and literals
 

@@ -1,0 +1,15 @@
+-- What is chosen, with the sizes that are pending.
+use Rattle.std.proofs.Common.{◌≡◌, refl}
+use Rattle.mo_scope.specs.Worlds.{frames_of}
+use Rattle.mo_equations.specs.steps.Declaring.{variable_in}
+use Rattle.mo_equations.specs.steps.Flats.{IsFlat}
+use Rattle.mo_equations.proofs.Declares.{leaf_asked}
+use Rattle.mo_equations.proofs.Replacings.{answers_as}
+use Rattle.mo_equations.proofs.variables.flat_of_leaf.Goals as goal
+
+pub returns-clause-exact : goal.returns-clause-exact
+returns-clause-exact c =
+    let world = c.args.s.now in
+    let variable = variable_in (frames_of world) c.args.variable.now in
+    answers_as IsFlat c.flat_at.result _ _
+    (leaf_asked world c.args.desk.now.leaves c.asked_of-asked.result c.args.chosen.now c.args.kind c.in_ok-sizes.sizes variable (rw c.as_slice.ensures at c.asked_of-asked.ensures) (c.in_ok-sizes.ensures variable refl)) c.flat_at.ensures.exact

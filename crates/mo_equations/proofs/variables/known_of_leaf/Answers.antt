@@ -1,0 +1,16 @@
+-- What is chosen, with the sizes that are pending.
+use Rattle.std.proofs.Common.{◌≡◌, refl, subst}
+use Rattle.mo_scope.specs.Outcome.{Outcome}
+use Rattle.mo_scope.specs.Worlds.{frames_of}
+use Rattle.mo_typing.specs.Outcome.{Gives}
+use Rattle.mo_eval.specs.Scalars.{Known}
+use Rattle.mo_equations.specs.steps.Declaring.{variable_in}
+use Rattle.mo_equations.proofs.Declares.{known_asked}
+use Rattle.mo_equations.proofs.variables.known_of_leaf.Goals as goal
+
+pub returns-clause-exact : goal.returns-clause-exact
+returns-clause-exact c =
+    let world = c.args.s.now in
+    let variable = variable_in (frames_of world) c.args.variable.now in
+    subst (λ (o : Outcome Known). Gives c.known_at.result o)
+    (known_asked world c.args.desk.now.leaves c.asked_of-asked.result c.args.chosen.now c.in_ok-sizes.sizes variable (rw c.as_slice.ensures at c.asked_of-asked.ensures) (c.in_ok-sizes.ensures variable refl)) c.known_at.ensures.exact

@@ -1,0 +1,28 @@
+-- What is wanted of the kind and of the dimensions of an expression.
+use Rattle.std.specs.Prelude.{ℕ, ◌≤◌}
+use Rattle.mo_syntax.specs.declared.meaning.Kind.{Kind}
+use Rattle.mo_syntax.specs.declared.place.Place.{Place}
+use Rattle.mo_typing.specs.Dims.{Dims}
+use Rattle.mo_typing.specs.Kinds.{accepts}
+use Rattle.mo_typing.specs.Subscripts.{Checked}
+use Rattle.mo_eval.specs.Contexts.{only_scalar, only_truth}
+use Rattle.mo_eval.specs.Components.{fitted}
+use Rattle.mo_equations.specs.declared.layers.Fit.{Fit}
+use Rattle.mo_equations.specs.declared.layers.Fit.TheVariants.{Scalar, Sizes, Pending}
+use Rattle.mo_equations.specs.declared.layers.Want.{Want}
+use Rattle.mo_equations.specs.declared.layers.Want.TheVariants.{Accepted, Condition}
+use Rattle.mo_equations.specs.Variables.{fits_sizes}
+
+abbrev pub wanted_of : Want → Place → Kind → Checked
+wanted_of (Accepted kind) place got = accepts kind got place
+wanted_of Condition place got = only_truth 40 place got
+
+abbrev pub fit_of : Fit → Place → Dims → Checked
+fit_of (Scalar rule) place dims = only_scalar rule place dims
+fit_of (Sizes sizes) place dims = fits_sizes place sizes.now dims
+fit_of (Pending index) place dims = fitted place index.now dims
+
+-- the rule that is broken where no scalar stands is one
+abbrev pub HasRule : Fit → Type 0
+HasRule (Scalar rule) = (1 ≤ rule) × (rule ≤ 46)
+HasRule fit = Unit {0}

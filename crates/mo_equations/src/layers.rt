@@ -1,0 +1,162 @@
+//! The layers behind resolving, with what is wanted of the kind and of the dimensions.
+ghost use Rattle.std.specs.Prelude.{◌≡◌, ◌≤◌};
+ghost use Rattle.mo_typing.specs.Dims.{are_equal as are_equal_dims};
+ghost use Rattle.mo_typing.specs.Outcome.{Gives};
+ghost use Rattle.mo_eval.specs.Contexts.{layered as layered_by, only_scalar as only_scalar_by, only_whole as only_whole_by};
+ghost use Rattle.mo_equations.specs.Equations.{vector_size as size_of_vector};
+ghost use Rattle.mo_equations.specs.Variables.{fits_sizes as sizes_fit};
+ghost use Rattle.mo_equations.specs.steps.Layers.{HasRule, fit_of, wanted_of};
+
+use crate::stops::answer;
+use mo_eval::fitted;
+use mo_flat::ArrayExpr;
+use mo_syntax::{Broken, Kind, Place, Stop};
+use mo_typing::agree::broken;
+use mo_typing::shapes::is_scalar;
+use mo_typing::{accepts, dims_of, kind_of, subscripts};
+use std::alloc::Global;
+
+/// The kind that is wanted.
+#[derive(Clone, Copy)]
+pub(crate) enum Want {
+    /// One that may stand where this kind is wanted.
+    Accepted(Kind),
+    /// Boolean; another one breaks rule 40.
+    Condition,
+}
+
+/// The dimensions that are wanted.
+#[derive(Clone, Copy)]
+pub(crate) enum Fit<'a> {
+    /// A scalar; others break the rule of that number.
+    Scalar(u8),
+    /// These sizes.
+    Sizes(&'a [u32]),
+    /// Those in which these pending indices lie.
+    Pending(&'a [u32]),
+}
+
+/// What is wanted of an expression, and where that stands.
+#[derive(Clone, Copy)]
+pub(crate) struct Layers<'a> {
+    pub want: Want,
+    pub fit: Fit<'a>,
+    pub place: Place,
+}
+
+fn wanted(want: Want, place: Place, got: Kind) -> Result<(), Broken>
+    ensures { result ≡ wanted_of want place got }
+{
+    match want {
+        Want::Accepted(kind) => accepts(kind, got, place),
+        Want::Condition => match got {
+            Kind::Truth => Ok(()),
+            Kind::Real => Err(broken(40, place)),
+            Kind::Whole => Err(broken(40, place)),
+            Kind::Str => Err(broken(40, place)),
+            Kind::Enumeration(_) => Err(broken(40, place)),
+        },
+    }
+}
+
+fn are_equal(a: &[u32], b: &[u32]) -> bool
+    ensures { result ≡ are_equal_dims a.now b.now }
+{
+    match a {
+        [] => b.is_empty(),
+        [m, more @ ..] => match b {
+            [] => false,
+            [n, rest @ ..] => *m == *n && are_equal(more, rest),
+        },
+    }
+}
+
+/// Whether an expression has these sizes.
+fn fits_sizes(place: Place, sizes: &[u32], dims: &[u32]) -> Result<(), Broken>
+    ensures { result ≡ sizes_fit place sizes.now dims.now }
+{
+    if dims.is_empty() {
+        return if sizes.is_empty() {
+            Ok(())
+        } else {
+            Err(broken(23, place))
+        };
+    }
+    if sizes.len() != dims.len() {
+        return Err(broken(33, place));
+    }
+    if are_equal(sizes, dims) {
+        Ok(())
+    } else {
+        Err(broken(31, place))
+    }
+}
+
+fn only_scalar(rule: u8, place: Place, dims: &[u32]) -> Result<(), Broken>
+    requires low { 1 ≤ rule }
+    requires high { rule ≤ 46 }
+    ensures { result ≡ only_scalar_by rule place dims.now }
+{
+    if is_scalar(dims) {
+        Ok(())
+    } else {
+        Err(broken(rule, place))
+    }
+}
+
+fn fits(fit: Fit, place: Place, dims: &[u32]) -> Result<(), Broken>
+    requires { HasRule fit }
+    ensures { result ≡ fit_of fit.entry place dims.now }
+{
+    match fit {
+        Fit::Scalar(rule) => only_scalar(rule, place, dims),
+        Fit::Sizes(sizes) => fits_sizes(place, sizes, dims),
+        Fit::Pending(index) => fitted(place, index, dims),
+    }
+}
+
+/// Asks the kind, the dimensions and the subscripts of a resolved expression, with what is wanted of them.
+pub(crate) fn layered(alloc: Global, layers: &Layers, e: &ArrayExpr) -> Result<(), Stop>
+    requires { HasRule layers.now.fit }
+    ensures { Gives result (layered_by (wanted_of layers.now.want layers.now.place) (fit_of layers.now.fit layers.now.place) e.now) }
+{
+    let kind = answer(kind_of(e))?;
+    answer(wanted(layers.want, layers.place, kind))?;
+    let dims = dims_of(alloc, e)?;
+    answer(fits(layers.fit, layers.place, dims.as_slice()))?;
+    subscripts(alloc, e)
+}
+
+fn only_whole(place: Place, kind: Kind) -> Result<(), Broken>
+    ensures { result ≡ only_whole_by place kind }
+{
+    match kind {
+        Kind::Whole => Ok(()),
+        Kind::Real => Err(broken(33, place)),
+        Kind::Truth => Err(broken(33, place)),
+        Kind::Str => Err(broken(33, place)),
+        Kind::Enumeration(_) => Err(broken(33, place)),
+    }
+}
+
+fn vector_size(place: Place, dims: &[u32]) -> Result<u32, Broken>
+    ensures { result ≡ size_of_vector place dims.now }
+{
+    match dims {
+        [] => Err(broken(33, place)),
+        [n] => Ok(*n),
+        [_, _, ..] => Err(broken(33, place)),
+    }
+}
+
+/// Asks a vector of Integers, and gives its size.
+pub(crate) fn range_size(alloc: Global, place: Place, e: &ArrayExpr) -> Result<u32, Stop>
+    ensures { Gives result (layered_by (only_whole_by place) (size_of_vector place) e.now) }
+{
+    let kind = answer(kind_of(e))?;
+    answer(only_whole(place, kind))?;
+    let dims = dims_of(alloc, e)?;
+    let size = answer(vector_size(place, dims.as_slice()))?;
+    subscripts(alloc, e)?;
+    Ok(size)
+}
