@@ -1,4 +1,4 @@
--- What is told of a class leaves no choice.
+-- What is told of a class leaves no choice, where the connects are sound.
 use Rattle.std.proofs.Common.{◌≡◌, ℕ, ◌<◌, ◌≤◌, inl, inr, ◌⊎◌, List, Option, Some, None, Ok, Err, sym, ap, ◌∙◌, subst}
 use Rattle.std.specs.Prelude.{All}
 use Rattle.std.proofs.lemmas.Bool.{cases_lt}
@@ -15,7 +15,7 @@ use Rattle.mo_scope.specs.Outcome.{Outcome}
 use Rattle.mo_connect.specs.Alike.{Breaks, left_end, right_end, sizes, leaves, IsConnectable, IsFirstBroken}
 use Rattle.mo_connect.proofs.JoinLemmas.{is-at-same}
 use Rattle.mo_connect.proofs.OneList.{one-list}
-use Rattle.mo_flatten.specs.Flat.{no_class, not_expanded, not_connected, joined, FlattensOnce, Joins, expansion_in, model_of, within_size}
+use Rattle.mo_flatten.specs.Flat.{no_class, not_expanded, not_connected, joined, Flattens, Joins, expansion_in, model_of, within_size}
 
 -- ---- connects
 
@@ -128,7 +128,9 @@ module _ (files : List FileTree) (path : List (List ℕ)) where
   one_joining e told other sound p q =
       p.is ∙ ap (λ sets. within_size (model_of e sets)) (one-list e.connects sound p.sets q.sets p.are q.are) ∙ sym q.is
 
-pub flattens_once : FlattensOnce
+pub flattens_once : (files : List FileTree) (path : List (List ℕ)) (told other : Outcome FlatModel) →
+    ((row : ClassRow) (e : Expanded) → class_of_path files path ≡ Some row → expansion_in files row.number ≡ Ok e → IsSoundConnects e.connects) →
+    Flattens files path told → Flattens files path other → told ≡ other
 flattens_once files path told other sound (no_class b h e) (no_class b' h' e') = e ∙ ap Err (some_one b b' (sym h ∙ h')) ∙ sym e'
 flattens_once files path told other sound (no_class b h e) (not_expanded row b' c n x e') = not_this (class_of_path files path) row b h c n
 flattens_once files path told other sound (no_class b h e) (not_connected row m b' c n x f e') = not_this (class_of_path files path) row b h c n

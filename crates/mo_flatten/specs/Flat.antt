@@ -9,7 +9,6 @@ use Rattle.mo_syntax.specs.ClassTable.{class_of_path, broken_class}
 use Rattle.mo_flat.specs.declared.connect.Expanded.{Expanded}
 use Rattle.mo_flat.specs.declared.connect.FaceSet.{FaceSet}
 use Rattle.mo_flat.specs.declared.model.FlatModel.{FlatModel}
-use Rattle.mo_flat.specs.SoundConnects.{IsSoundConnects}
 use Rattle.mo_scope.specs.Outcome.{Outcome, and_then, breaks}
 use Rattle.mo_scope.specs.Rows.{table_of}
 use Rattle.mo_instance.specs.Instances.{instances_of}
@@ -70,12 +69,9 @@ pub data Flattens (files : List FileTree) (path : List (List ℕ)) (told : Outco
 
 -- ---- laws
 
--- What is told leaves no choice, where the connects are sound.
+-- What is told leaves no choice.
 abbrev pub FlattensOnce : Type 0
-FlattensOnce =
-    (files : List FileTree) (path : List (List ℕ)) (told other : Outcome FlatModel) →
-    ((row : ClassRow) (e : Expanded) → class_of_path files path ≡ Some row → expansion_in files row.number ≡ Ok e → IsSoundConnects e.connects) →
-    Flattens files path told → Flattens files path other → told ≡ other
+FlattensOnce = (files : List FileTree) (path : List (List ℕ)) (told other : Outcome FlatModel) → Flattens files path told → Flattens files path other → told ≡ other
 
 -- What is too large before its connection sets are known is too large with them, so that it need not be built.
 abbrev pub PastStaysPast : Type 0

@@ -1,4 +1,12 @@
 //! The flat model of a class (Modelica Language Specification 3.5, section 5.6).
 //!
-//! The definitions stand in specs/: `Flattens` tells the flat model of the class of a path, or the first rule that is broken, phase by phase.
+//! - `flatten`: the flat model of the class of a path, or the first rule that is broken, phase by phase: the asked class; its instances;
+//!   variables and equations; connections; the size of the flat model.
+//!
+//! The definition is `Flattens` of specs/. Each phase is a call of a crate below; nothing else is asked here but the size.
 #![tactic(auto)]
+
+mod phases;
+mod size;
+
+pub use phases::flatten;
