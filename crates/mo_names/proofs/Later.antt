@@ -12,9 +12,10 @@ use Rattle.mo_scope.specs.Worlds.{World, FrameEntry, Grows, IsFrame, frame_in, f
 use Rattle.mo_scope.proofs.Numbered.{frames_stay}
 use Rattle.mo_names.specs.declared.found.Found.{Found as FoundAt}
 use Rattle.mo_names.specs.declared.found.Found.TheVariants.{Component as component_at, Class as class_at, Literal as literal_at, Iteration as iteration_at, Function as function_at, Time as time_at}
+use Rattle.mo_names.specs.declared.join.Added.{Added}
 use Rattle.mo_names.specs.declared.walk.Inherited.{Inherited as InheritedAt}
 use Rattle.mo_names.specs.declared.walk.Walk.{Walk}
-use Rattle.mo_names.specs.Sights.{member_of, found_in, frames_through, inherited_seen, walk_seen, IsMember, IsFound, AreThrough, IsBase, IsInherited, IsLeaf, IsWalk}
+use Rattle.mo_names.specs.Sights.{member_of, found_in, frames_through, inherited_seen, walk_seen, IsMember, IsFound, AreThrough, IsBase, IsInherited, IsLeaf, IsWalk, IsAdded, added_seen}
 
 -- ---- growing
 
@@ -100,10 +101,10 @@ map_later : {A B : Type 0} (P : A → Type 0) (f g : A → B) → ((x : A) → P
 map_later P f g same [] are = refl
 map_later P f g same (x ∷ xs) are = ap (λ y. y ∷ map f xs) (same x are.0) ∙ ap (λ ys. g x ∷ ys) (map_later P f g same xs are.1)
 
-is_inherited_later : (u v : World) → Grows u v → (i : InheritedAt) → IsInherited u i → IsInherited v i
+pub is_inherited_later : (u v : World) → Grows u v → (i : InheritedAt) → IsInherited u i → IsInherited v i
 is_inherited_later u v g i is = record { member = is_member_later u v i.member g is.member; through = are_through_later u v i.through g is.through }
 
-inherited_later : (u v : World) → Grows u v → (i : InheritedAt) → IsInherited u i → inherited_seen (frames_of v) i ≡ inherited_seen (frames_of u) i
+pub inherited_later : (u v : World) → Grows u v → (i : InheritedAt) → IsInherited u i → inherited_seen (frames_of v) i ≡ inherited_seen (frames_of u) i
 inherited_later u v g i is =
     ap (λ (m : Member). record { member = m; through = frames_through (frames_of v) i.through }) (member_later u v i.member g is.member)
     ∙ ap (λ (t : List Frame). record { member = member_of (frames_of u) i.member; through = t }) (through_later u v i.through g is.through)
@@ -118,7 +119,7 @@ leaf_later u v g (Some frame) is = ap (λ (x : Frame). Some x) (frame_later u v 
 
 -- ---- walks
 
-is_base_later : (u v : World) → Grows u v → (xs : List FrameId) → IsBase u xs → IsBase v xs
+pub is_base_later : (u v : World) → Grows u v → (xs : List FrameId) → IsBase u xs → IsBase v xs
 is_base_later u v g xs is = record { frames = are_through_later u v xs g is.frames; some = is.some }
 
 pub is_walk_later : (u v : World) (walk : Walk) → Grows u v → IsWalk u walk → IsWalk v walk
@@ -136,6 +137,38 @@ walk_later u v walk g is =
     let bases : map (frames_through (frames_of v)) walk.bases ≡ map (frames_through (frames_of u)) walk.bases = map_later (IsBase u) _ _ (λ xs base. through_later u v xs g base.frames) walk.bases is.bases in
     let sections : map (frames_through (frames_of v)) walk.sections ≡ map (frames_through (frames_of u)) walk.sections = map_later (IsBase u) _ _ (λ xs base. through_later u v xs g base.frames) walk.sections is.sections in
     let leaf : option_map (λ (frame : FrameId). frame_in (frames_of v) frame.0) walk.leaf ≡ option_map (λ (frame : FrameId). frame_in (frames_of u) frame.0) walk.leaf = leaf_later u v g walk.leaf is.leaf in
+    cc
+
+-- ---- lists of elements and bases
+
+pub are_inherited_later : (u v : World) (held : List InheritedAt) → Grows u v → Every (IsInherited u) held → Every (IsInherited v) held
+are_inherited_later u v held g are = every_later (IsInherited u) (IsInherited v) (is_inherited_later u v g) held are
+
+pub all_inherited_later : (u v : World) (held : List InheritedAt) → Grows u v → Every (IsInherited u) held → map (inherited_seen (frames_of v)) held ≡ map (inherited_seen (frames_of u)) held
+all_inherited_later u v held g are = map_later (IsInherited u) _ _ (inherited_later u v g) held are
+
+pub are_bases_later : (u v : World) (bases : List (List FrameId)) → Grows u v → Every (IsBase u) bases → Every (IsBase v) bases
+are_bases_later u v bases g are = every_later (IsBase u) (IsBase v) (is_base_later u v g) bases are
+
+pub all_bases_later : (u v : World) (bases : List (List FrameId)) → Grows u v → Every (IsBase u) bases → map (frames_through (frames_of v)) bases ≡ map (frames_through (frames_of u)) bases
+all_bases_later u v bases g are = map_later (IsBase u) _ _ (λ xs base. through_later u v xs g base.frames) bases are
+
+-- ---- what a base has
+
+pub is_added_later : (u v : World) (added : Added) → Grows u v → IsAdded u added → IsAdded v added
+is_added_later u v added g is = record {
+  members = every_later (IsInherited u) (IsInherited v) (is_inherited_later u v g) added.members is.members;
+  bases = every_later (IsBase u) (IsBase v) (is_base_later u v g) added.bases is.bases;
+  sections = every_later (IsBase u) (IsBase v) (is_base_later u v g) added.sections is.sections;
+  leaf = is_leaf_later u v g added.leaf is.leaf;
+}
+
+pub added_later : (u v : World) (added : Added) → Grows u v → IsAdded u added → added_seen (frames_of v) added ≡ added_seen (frames_of u) added
+added_later u v added g is =
+    let members : map (inherited_seen (frames_of v)) added.members ≡ map (inherited_seen (frames_of u)) added.members = map_later (IsInherited u) _ _ (inherited_later u v g) added.members is.members in
+    let bases : map (frames_through (frames_of v)) added.bases ≡ map (frames_through (frames_of u)) added.bases = map_later (IsBase u) _ _ (λ xs base. through_later u v xs g base.frames) added.bases is.bases in
+    let sections : map (frames_through (frames_of v)) added.sections ≡ map (frames_through (frames_of u)) added.sections = map_later (IsBase u) _ _ (λ xs base. through_later u v xs g base.frames) added.sections is.sections in
+    let leaf : option_map (λ (frame : FrameId). frame_in (frames_of v) frame.0) added.leaf ≡ option_map (λ (frame : FrameId). frame_in (frames_of u) frame.0) added.leaf = leaf_later u v g added.leaf is.leaf in
     cc
 
 pub ruleset later = (grows_refl, grows_trans, table_later, frame_later, is_frame_later, member_later, is_member_later, found_later, is_found_later, is_walk_later, walk_later)

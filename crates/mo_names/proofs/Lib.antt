@@ -1,3 +1,4 @@
+pub mod Asked
 pub mod Chains
 pub mod Children
 pub mod Circling
@@ -10,13 +11,16 @@ pub mod MembersExist
 pub mod Naming
 pub mod Outcomes
 pub mod Outwards
+pub mod OwnedWalks
 pub mod OwnElements
 pub mod OwnFirst
 pub mod Owners
-pub mod Owning
+pub mod OwnNamed
 pub mod Paths
 pub mod Reading
 pub mod Redeclaring
+pub mod Settling
 pub mod Tables
+pub mod Twins
 pub mod Walking
 pub mod WalkNames

@@ -3,5 +3,7 @@ pub mod Children
 pub mod Joins
 pub mod Parts
 pub mod Past
+pub mod Settled
 pub mod Sights
 pub mod Steps
+pub mod Twins

@@ -10,8 +10,10 @@ ghost use Rattle.mo_names.specs.Past.{first_met};
 ghost use Rattle.mo_names.specs.Sights.{IsFound, IsReached, IsWalk, classed_seen, found_in, met_seen, reached_seen, walk_seen};
 
 use crate::bases::{class_named, found_first};
-use crate::circle::{behind_class, reached, walked, walked_and_kept};
+use crate::circle::{behind_class, reached, walked};
 use crate::found::{Ask, Classed, Found, Met, Reached};
+use crate::kept::walk_kept;
+use crate::settled::walked_once;
 use crate::walk::Walk;
 use mo_scope::{ScopeAt, Scopes};
 use mo_syntax::{FrameId, NoMemory, Place, Reference, Stop, Text};
@@ -24,8 +26,8 @@ pub(crate) fn class_count(s: &Scopes) -> Result<usize, NoMemory>
     s.class_count().checked_add(6).ok_or(NoMemory)
 }
 
-/// The elements of a frame, asked for at a place.
-pub(crate) fn elements_at<'t>(
+/// The elements of a frame, asked for at a place, found by a walk.
+fn elements_by_walk<'t>(
     alloc: Global,
     s: &mut Scopes<'t>,
     frame: FrameId,
@@ -45,6 +47,24 @@ pub(crate) fn elements_at<'t>(
     walked(alloc, s, &ask, frame)
 }
 
+/// The elements of a frame, asked for at a place. Where each frame on the way can be walked once, it is.
+pub(crate) fn elements_at<'t>(
+    alloc: Global,
+    s: &mut Scopes<'t>,
+    frame: FrameId,
+    place: Place,
+) -> Result<Walk<'t>, Stop>
+    requires { IsFrame s.old frame.0 }
+    ensures grows { Grows s.old s.new }
+    ensures value { Gives (walk_seen (frames_of s.new)) result ((asking_of (table_in s.old)).elements place (frame_at s.old frame.0)) }
+    ensures stand { IfOk result (IsWalk s.new) }
+{
+    match walked_once(alloc, s, frame)? {
+        Some(walk) => Ok(walk),
+        None => elements_by_walk(alloc, s, frame, place),
+    }
+}
+
 /// The same; the elements are kept, if none are.
 pub(crate) fn elements_kept_at<'t>(
     alloc: Global,
@@ -57,13 +77,15 @@ pub(crate) fn elements_kept_at<'t>(
     ensures value { Gives (walk_seen (frames_of s.new)) result ((asking_of (table_in s.old)).elements place (frame_at s.old frame.0)) }
     ensures stand { IfOk result (IsWalk s.new) }
 {
+    let walk = elements_at(alloc, s, frame, place)?;
     let ask = Ask {
         left: class_count(s)?,
         busy: &[],
         place,
         depth: s.depth(),
     };
-    walked_and_kept(alloc, s, &ask, frame)
+    walk_kept(alloc, s, &ask, frame, &walk)?;
+    Ok(walk)
 }
 
 /// What a name reaches among the elements of a frame.

@@ -48,7 +48,7 @@ pub(crate) fn with_member<'t>(
 }
 
 /// A list from its end.
-fn turned<T: Drop>(list: List<T>) -> List<T>
+pub(crate) fn turned<T: Drop>(list: List<T>) -> List<T>
     ensures { result ≡ reverse list }
 {
     let mut items = list.into_vec();
@@ -254,11 +254,11 @@ fn all_sections(
 
 /// What a base adds to the elements before: elements, bases, sections, and a leaf as those of a walk.
 #[derive(Drop)]
-struct Added<'t> {
-    members: List<Inherited<'t>>,
-    bases: List<List<FrameId>>,
-    sections: List<List<FrameId>>,
-    leaf: Option<FrameId>,
+pub(crate) struct Added<'t> {
+    pub members: List<Inherited<'t>>,
+    pub bases: List<List<FrameId>>,
+    pub sections: List<List<FrameId>>,
+    pub leaf: Option<FrameId>,
 }
 
 /// What a base adds to the elements before: its own, its bases and their sections, but for those that were met before.
@@ -268,21 +268,20 @@ fn base_added<'t>(
     before: &[List<FrameId>],
     hidden: bool,
     base: FrameId,
-    walk: Walk<'t>,
+    elements: Added<'t>,
 ) -> Result<Added<'t>, NoMemory>
     requires before { Every (IsBase s.now) before.now }
     requires base { IsFrame s.now base.0 }
-    requires walk { IsWalk s.now walk }
-    ensures are { IfOk result (λ added. added_seen (frames_of s.now) added ≡ added_by_base hidden (frame_at s.now base.0) (map (frames_through (frames_of s.now)) before.now) (walk_seen (frames_of s.now) walk.entry)) }
+    requires elements { IsAdded s.now elements }
+    ensures are { IfOk result (λ added. added_seen (frames_of s.now) added ≡ added_by_base hidden (frame_at s.now base.0) (map (frames_through (frames_of s.now)) before.now) (added_seen (frames_of s.now) elements.entry)) }
     ensures stand { IfOk result (IsAdded s.now) }
 {
-    let Walk {
+    let Added {
         members,
         bases,
         sections,
         leaf,
-        names: _,
-    } = walk;
+    } = elements;
     let from_end = turned(members);
     let (members, (bases, sections)) = both(
         members_behind(alloc, s, before, hidden, base, from_end),
@@ -339,7 +338,46 @@ fn with_added<'t>(s: &Scopes<'t>, added: Added<'t>, so_far: &mut Walk<'t>) -> Re
     with_members(s, turned(members), so_far)
 }
 
+/// The elements of a walk without their names.
+pub(crate) fn without_names<'t>(walk: Walk<'t>) -> Added<'t>
+    ensures is { (frames : Seq Frame) → added_seen frames result ≡ walk_seen frames walk.entry }
+    ensures stand { (world : World) → IsWalk world walk.entry → IsAdded world result }
+{
+    let Walk {
+        members,
+        bases,
+        sections,
+        leaf,
+        names: _,
+    } = walk;
+    Added {
+        members,
+        bases,
+        sections,
+        leaf,
+    }
+}
+
 /// The elements of a base behind those before. A base that is met again counts once, with all that it inherits.
+pub(crate) fn with_elements<'t>(
+    alloc: Global,
+    s: &Scopes<'t>,
+    hidden: bool,
+    base: FrameId,
+    elements: Added<'t>,
+    so_far: &mut Walk<'t>,
+) -> Result<(), Stop>
+    requires base { IsFrame s.now base.0 }
+    requires elements { IsAdded s.now elements }
+    requires so_far { IsWalk s.now so_far.old }
+    ensures value { Gives (λ _. walk_seen (frames_of s.now) so_far.new) result (joined_base hidden (frame_at s.now base.0) (added_seen (frames_of s.now) elements.entry) (walk_seen (frames_of s.now) so_far.old)) }
+    ensures stand { IfOk result (λ _. IsWalk s.now so_far.new) }
+{
+    let added = base_added(alloc, s, so_far.bases.as_slice(), hidden, base, elements)?;
+    with_added(s, added, so_far)
+}
+
+/// The same of a walk.
 pub(crate) fn with_base<'t>(
     alloc: Global,
     s: &Scopes<'t>,
@@ -354,6 +392,5 @@ pub(crate) fn with_base<'t>(
     ensures value { Gives (λ _. walk_seen (frames_of s.now) so_far.new) result (joined_base hidden (frame_at s.now base.0) (walk_seen (frames_of s.now) walk.entry) (walk_seen (frames_of s.now) so_far.old)) }
     ensures stand { IfOk result (λ _. IsWalk s.now so_far.new) }
 {
-    let added = base_added(alloc, s, so_far.bases.as_slice(), hidden, base, walk)?;
-    with_added(s, added, so_far)
+    with_elements(alloc, s, hidden, base, without_names(walk), so_far)
 }

@@ -1,7 +1,7 @@
 //! Where the elements of a frame begin, and how bases are entered.
-ghost use Rattle.std.specs.Prelude.{◌≡◌, ◌∷◌, ◌++◌, [], Some, List as Seq, map, option_map, IfOk};
+ghost use Rattle.std.specs.Prelude.{◌≡◌, ◌∷◌, ◌++◌, [], true, Some, None, List as Seq, map, option_map, IfOk};
 ghost use Rattle.mo_scope.specs.Entries.{names_of as path_names, number_of};
-ghost use Rattle.mo_scope.specs.Frames.{Frame, In, at_of, class_of, gathered, outer_of, owner_of_base};
+ghost use Rattle.mo_scope.specs.Frames.{Frame, In, Top, at_of, class_of, gathered, outer_of, owner_of_base};
 ghost use Rattle.mo_scope.specs.Lookup.{last_place as place_of_last, leaf_checked as checked_leaf, nothing_walked};
 ghost use Rattle.mo_scope.specs.Outcome.{Gives};
 ghost use Rattle.mo_scope.specs.Rows.{form_in, is_left_out as is_row_left_out, is_other_form, is_record, row_at};
@@ -13,6 +13,7 @@ ghost use Rattle.mo_names.specs.Parts.{is_enumeration_form};
 ghost use Rattle.mo_names.specs.Steps.{entered_base, started as walk_started};
 
 use crate::stops::stop;
+use crate::top::looked_up_class;
 use crate::walk::Walk;
 use mo_scope::{Clause, Names, Row, Scopes, Source};
 use mo_syntax::{Body, ClassKind, FrameId, InstancePath, List, NoMemory, Part, Place, Stop, Text};
@@ -178,7 +179,10 @@ pub(crate) fn name_copied(
 }
 
 /// A copy of the path of a frame.
-fn path_copied(alloc: Global, path: Option<&InstancePath>) -> Result<Option<InstancePath>, NoMemory>
+pub(crate) fn path_copied(
+    alloc: Global,
+    path: Option<&InstancePath>,
+) -> Result<Option<InstancePath>, NoMemory>
     ensures { IfOk result (λ made. option_map path_names made ≡ option_map (λ path. path.now.0) path.entry) }
 {
     match path {
@@ -188,7 +192,7 @@ fn path_copied(alloc: Global, path: Option<&InstancePath>) -> Result<Option<Inst
 }
 
 /// The frame that owns what is a base of a frame: that frame, if it has a path or an owner.
-fn owner_of(s: &Scopes, frame: FrameId) -> Option<FrameId>
+pub(crate) fn owner_of(s: &Scopes, frame: FrameId) -> Option<FrameId>
     requires { IsFrame s.now frame.0 }
     ensures is { frame_or_top (frames_of s.now) (option_map number_of result) ≡ owner_of_base (frame_at s.now frame.0) }
     ensures exists { IsFrameOrNone s.now (option_map number_of result) }
@@ -202,8 +206,20 @@ fn owner_of(s: &Scopes, frame: FrameId) -> Option<FrameId>
     None
 }
 
-/// The base frame of a frame, with these sources, whose class was found as that frame.
-fn base_with<'t>(
+/// Whether a frame has no path and no owner.
+pub(crate) fn is_unowned(s: &Scopes, frame: FrameId) -> bool
+    requires { IsFrame s.now frame.0 }
+    ensures path { result ≡ true → at_of (frame_at s.now frame.0) ≡ None }
+    ensures owner { result ≡ true → owner_of_base (frame_at s.now frame.0) ≡ Top }
+{
+    if s.path(frame).is_some() {
+        return false;
+    }
+    s.owner(frame).is_none()
+}
+
+/// The base frame of a frame, with these sources, whose class was found as that frame, as a new frame.
+fn base_anew<'t>(
     alloc: Global,
     s: &mut Scopes<'t>,
     frame: FrameId,
@@ -222,6 +238,32 @@ fn base_with<'t>(
     let outer = s.outer(class);
     let owner = owner_of(s, frame);
     s.enter(alloc, number, sources, outer, at, owner)
+}
+
+/// The same; what has nothing but a class and a frame around it has one number.
+fn base_with<'t>(
+    alloc: Global,
+    s: &mut Scopes<'t>,
+    frame: FrameId,
+    sources: List<Source<'t>>,
+    class: FrameId,
+) -> Result<FrameId, NoMemory>
+    requires frame { IsFrame s.old frame.0 }
+    requires class { IsFrame s.old class.0 }
+    requires sources { AreFrames s.old (map source_seen sources) }
+    ensures grows { Grows s.old s.new }
+    ensures value { IfOk result (λ base. frame_at s.new base.0 ≡ In (class_of (frame_at s.old class.0)) (gathered (sources_in (frames_of s.old) (map source_seen sources.entry))) (outer_of (frame_at s.old class.0)) (at_of (frame_at s.old frame.0)) (owner_of_base (frame_at s.old frame.0))) }
+    ensures stand { IfOk result (λ base. IsFrame s.new base.0) }
+{
+    if !sources.is_empty() {
+        return base_anew(alloc, s, frame, sources, class);
+    }
+    if !is_unowned(s, frame) {
+        return base_anew(alloc, s, frame, sources, class);
+    }
+    let number = s.class_of(class);
+    let outer = s.outer(class);
+    looked_up_class(alloc, s, number, outer)
 }
 
 /// The base frame of an extends clause of a frame, whose class was found as that frame; a predefined type has no clause.

@@ -65,6 +65,16 @@ const INHERITED: [(&str, &str, &str, &str); 9] = [
     ),
 ];
 
+/// A diamond of 32 levels.
+const DIAMOND: &str =
+    "model C0 Real x; end C0; model L1 extends C0; end L1; model R1 extends C0; end R1; model C1 extends L1; extends R1; end C1; model L2 extends C1; end L2; model R2 extends C1; end R2; model C2 extends L2; extends R2; end C2; model L3 extends C2; end L3; model R3 extends C2; end R3; model C3 extends L3; extends R3; end C3; model L4 extends C3; end L4; model R4 extends C3; end R4; model C4 extends L4; extends R4; end C4; model L5 extends C4; end L5; model R5 extends C4; end R5; model C5 extends L5; extends R5; end C5; model L6 extends C5; end L6; model R6 extends C5; end R6; model C6 extends L6; extends R6; end C6; model L7 extends C6; end L7; model R7 extends C6; end R7; model C7 extends L7; extends R7; end C7; model L8 extends C7; end L8; model R8 extends C7; end R8; model C8 extends L8; extends R8; end C8; model L9 extends C8; end L9; model R9 extends C8; end R9; model C9 extends L9; extends R9; end C9; model L10 extends C9; end L10; model R10 extends C9; end R10; model C10 extends L10; extends R10; end C10; model L11 extends C10; end L11; model R11 extends C10; end R11; model C11 extends L11; extends R11; end C11; model L12 extends C11; end L12; model R12 extends C11; end R12; model C12 extends L12; extends R12; end C12; model L13 extends C12; end L13; model R13 extends C12; end R13; model C13 extends L13; extends R13; end C13; model L14 extends C13; end L14; model R14 extends C13; end R14; model C14 extends L14; extends R14; end C14; model L15 extends C14; end L15; model R15 extends C14; end R15; model C15 extends L15; extends R15; end C15; model L16 extends C15; end L16; model R16 extends C15; end R16; model C16 extends L16; extends R16; end C16; model L17 extends C16; end L17; model R17 extends C16; end R17; model C17 extends L17; extends R17; end C17; model L18 extends C17; end L18; model R18 extends C17; end R18; model C18 extends L18; extends R18; end C18; model L19 extends C18; end L19; model R19 extends C18; end R19; model C19 extends L19; extends R19; end C19; model L20 extends C19; end L20; model R20 extends C19; end R20; model C20 extends L20; extends R20; end C20; model L21 extends C20; end L21; model R21 extends C20; end R21; model C21 extends L21; extends R21; end C21; model L22 extends C21; end L22; model R22 extends C21; end R22; model C22 extends L22; extends R22; end C22; model L23 extends C22; end L23; model R23 extends C22; end R23; model C23 extends L23; extends R23; end C23; model L24 extends C23; end L24; model R24 extends C23; end R24; model C24 extends L24; extends R24; end C24; model L25 extends C24; end L25; model R25 extends C24; end R25; model C25 extends L25; extends R25; end C25; model L26 extends C25; end L26; model R26 extends C25; end R26; model C26 extends L26; extends R26; end C26; model L27 extends C26; end L27; model R27 extends C26; end R27; model C27 extends L27; extends R27; end C27; model L28 extends C27; end L28; model R28 extends C27; end R28; model C28 extends L28; extends R28; end C28; model L29 extends C28; end L29; model R29 extends C28; end R29; model C29 extends L29; extends R29; end C29; model L30 extends C29; end L30; model R30 extends C29; end R30; model C30 extends L30; extends R30; end C30; model L31 extends C30; end L31; model R31 extends C30; end R31; model C31 extends L31; extends R31; end C31; model L32 extends C31; end L32; model R32 extends C31; end R32; model C32 extends L32; extends R32; end C32;";
+
+/// Its elements as those of an instance, and as those of a class that is looked up.
+const DIAMONDS: [(&str, &str, &str, &str); 2] = [
+    (DIAMOND, "C32", "elements", "x "),
+    (DIAMOND, "C0 C32", "elements", "x "),
+];
+
 /// The names of types.
 const TYPES: [(&str, &str, &str, &str); 10] = [
     (
@@ -357,6 +367,11 @@ fn have_answers(rt: &impl Abort, alloc: Global, rows: &[Row]) -> Result<(), NoMe
 #[test]
 fn inherited(rt: HostRuntime) -> Result<(), NoMemory> {
     have_answers(&rt, rt.alloc(), &INHERITED)
+}
+
+#[test]
+fn diamonds(rt: HostRuntime) -> Result<(), NoMemory> {
+    have_answers(&rt, rt.alloc(), &DIAMONDS)
 }
 
 #[test]

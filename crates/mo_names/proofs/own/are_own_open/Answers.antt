@@ -1,6 +1,6 @@
 -- Elements may stand in a package by what declares them.
 use Rattle.mo_scope.specs.Worlds.{frame_at, table_in}
-use Rattle.mo_names.proofs.Owning.{open_row}
+use Rattle.mo_names.proofs.OwnNamed.{open_row}
 use Rattle.mo_names.proofs.own.are_own_open.Goals as goal
 
 pub returns-in-Some : goal.returns-in-Some

@@ -4,7 +4,7 @@ use Rattle.mo_scope.specs.Rows.{elements_in}
 use Rattle.mo_scope.specs.Sights.{declares_seen, part_seen}
 use Rattle.mo_scope.specs.Worlds.{frame_at, table_in}
 use Rattle.mo_names.proofs.OwnElements.{named_own}
-use Rattle.mo_names.proofs.Owning.{named_here, named_step, named_skip}
+use Rattle.mo_names.proofs.OwnNamed.{named_here, named_step, named_skip}
 use Rattle.mo_names.proofs.Reading.{text_test, read_element}
 use Rattle.mo_names.proofs.own.named_part.Goals as goal
 use Rattle.mo_names.proofs.own.named_part.Goals.{in-Element+else-equals+in-Some, in_default}

@@ -1,0 +1,149 @@
+-- Frames whose elements do not depend on the classes whose bases are being found, one after another.
+use Rattle.std.proofs.Common.{◌≡◌, Option, Some, ap, arith, sym, subst, ◌∙◌}
+use Rattle.std.specs.Prelude.{slice_get}
+use Rattle.mo_scope.specs.Frames.{Frame, class_of}
+use Rattle.mo_scope.specs.declared.row.Part.{Part as PartAt}
+use Rattle.mo_scope.specs.Lookup.{Walked}
+use Rattle.mo_scope.specs.Rows.{Part, Row, Table, row_at}
+use Rattle.mo_scope.specs.Sights.{clause_seen, declares_seen, part_seen}
+use Rattle.mo_scope.specs.Worlds.{frame_at, frames_of, table_in}
+use Rattle.mo_names.specs.Bases.{part_walked, parts_walked}
+use Rattle.mo_names.specs.Settled.{ToldOwned}
+use Rattle.mo_names.specs.Parts.{parts_of}
+use Rattle.mo_names.specs.Sights.{asking_at, walk_seen}
+use Rattle.mo_names.specs.Twins.{owned_walk}
+use Rattle.mo_names.proofs.Later.{grows_refl, grows_trans, is_frame_later, is_walk_later}
+use Rattle.mo_names.proofs.OwnElements.{counted_next, own_part, own_part_later}
+use Rattle.mo_names.proofs.Settling.{are_settled_later, base_told, base_told_owned, class_owned_later, class_told, class_told_later, class_told_owned, own_told_owned, part_on, part_told_free, part_told_owned}
+use Rattle.mo_names.proofs.Walking.{part_read}
+use Rattle.mo_names.proofs.settled.+settled.Goals as goal
+
+pub base_settled-settle-requires : goal.base_settled-settle-requires
+base_settled-settle-requires t c = (
+  omega arith,
+  (c.in_ok-base.ensures.stand, are_settled_later c.args.s.now c.base_named.new.s c.args.known.now c.in_ok-base.ensures.grows c.requires.known),
+)
+
+pub base_settled-base_joined-requires-clause-so_far : goal.base_settled-base_joined-requires-clause-so_far
+base_settled-base_joined-requires-clause-so_far t c =
+    is_walk_later c.args.s.now c.settle.new.s c.args.so_far.now.walk (grows_trans c.args.s.now c.base_named.new.s c.settle.new.s c.in_ok-base.ensures.grows c.in_ok-settle.ensures.grows) c.requires.so_far
+
+pub base_settled-returns-clause-told : goal.base_settled-returns-clause-told
+base_settled-returns-clause-told t c =
+    let F : Frame = frame_at c.args.s.now c.args.frame.0 in
+    base_told c.args.s.now c.base_named.new.s c.settle.new.s F (row_at (table_in c.args.s.now) (class_of F)) (clause_seen c.args.clause.now) c.in_ok-base.base.0 c.args.so_far.now c.base_joined.new.so_far
+    c.in_ok-base.ensures.grows c.in_ok-settle.ensures.grows c.in_ok-base.ensures.stand c.requires.so_far c.in_ok-base.ensures.value c.in_ok-base_joined.ensures.joined
+
+pub base_settled-returns-clause-owned : goal.base_settled-returns-clause-owned
+base_settled-returns-clause-owned t c =
+    λ alike. base_told_owned c.args.s.now c.base_named.new.s c.settle.new.s c.args.frame.0 (clause_seen c.args.clause.now) c.in_ok-base.base.0 c.args.so_far.now c.base_joined.new.so_far
+    c.in_ok-base.ensures.grows c.in_ok-settle.ensures.grows c.requires.frame c.in_ok-base.ensures.stand c.requires.so_far c.in_ok-base.ensures.value c.in_ok-base_joined.ensures.joined
+    (c.are_both-so_far.ensures.first alike) (c.in_ok-alike.ensures.row (c.are_both-so_far.ensures.second alike)) (c.in_ok-alike.ensures.unowned (c.are_both-so_far.ensures.second alike))
+    (c.in_ok-alike.ensures.sources (c.are_both-so_far.ensures.second alike)) (c.in_ok-alike.ensures.elsewhere (c.are_both-so_far.ensures.second alike))
+
+pub base_settled-returns-clause-further : goal.base_settled-returns-clause-further
+base_settled-returns-clause-further t c = record {
+  classes = c.in_ok-base_joined.ensures.further.classes;
+  deep = c.in_ok-base_joined.ensures.further.deep;
+  alike = λ alike. c.in_ok-base_joined.ensures.further.alike (c.are_both-so_far.ensures.first alike);
+}
+
+pub part_settled-returns-in_ok-own_settled-in-Element-clause-owned : goal.part_settled-returns-in_ok-own_settled-in-Element-clause-owned
+part_settled-returns-in_ok-own_settled-in-Element-clause-owned t c =
+    let T : Table = table_in c.args.s.now in
+    let F : Frame = frame_at c.args.s.now c.args.frame.0 in
+    let row : Option Row = row_at T (class_of F) in
+    let W : Walked = walk_seen (frames_of c.args.s.now) c.args.so_far.now.walk in
+    let V : Walked = walk_seen (frames_of c.args.s.now) c.own_settled.new.so_far.walk in
+    let after = c.own_settled.new.so_far in
+    λ alike. subst (λ (p : PartAt). ToldOwned T after.classes after.deep F (λ asking owned x. part_walked T asking owned row c.args.so_far.now.item (part_seen p) x) W V) (sym c.in-Element.is)
+    (own_told_owned T F row c.args.so_far.now.item (declares_seen c.in-Element.declares) W V after.classes after.deep c.in_ok-own_settled-in-Element.ensures.joined)
+
+pub parts_settled-loop-at-init : goal.parts_settled-loop-at-init
+parts_settled-loop-at-init t c =
+    let F : Frame = frame_at c.args.s.now c.args.frame.0 in
+    let row : Option Row = row_at (table_in c.args.s.now) (class_of F) in
+    record {
+      grows = grows_refl c.args.s.now;
+      known = c.requires.known;
+      stand = c.requires.so_far;
+      left = λ left busy free. ap (λ n. parts_walked (table_in c.args.s.now) (asking_at (table_in c.args.s.now) left busy) F row n (parts_of row) (walk_seen (frames_of c.args.s.now) c.args.so_far.now.walk)) c.requires.none;
+      owned = λ alike owned twin left busy free. ap (λ n. parts_walked (table_in c.args.s.now) (asking_at (table_in c.args.s.now) left busy) owned row n (parts_of row) (owned_walk owned (walk_seen (frames_of c.args.s.now) c.args.so_far.now.walk))) c.requires.none;
+      alike = λ alike. alike;
+      counted = c.requires.none;
+    }
+
+pub parts_settled-part_settled-requires : goal.parts_settled-part_settled-requires
+parts_settled-part_settled-requires t c =
+    let F : Frame = frame_at c.args.s.now c.args.frame.0 in
+    let part : Part = part_seen c.part_at-part.result in (
+      omega arith,
+      (
+        is_frame_later c.args.s.now c.loop-at.s c.args.frame.0 c.loop-at.invariant.grows c.requires.frame,
+        (
+          c.loop-at.invariant.known,
+          (
+            c.loop-at.invariant.stand,
+            (
+              c.part_at-part.ensures.exists,
+              own_part_later c.args.s.now c.loop-at.s c.args.frame.0 c.loop-at.so_far.item part c.loop-at.invariant.grows c.requires.frame
+                  (own_part (table_in c.args.s.now) F c.loop-at.at c.loop-at.so_far.item part
+                  (part_read c.args.s.now c.loop-at.s c.class_of-class.result.0 F c.loop-at.at part c.loop-at.invariant.grows c.class_of-class.ensures.is c.part_at-part.ensures.is)
+                  c.loop-at.invariant.counted),
+            ),
+          ),
+        ),
+      ),
+    )
+
+pub parts_settled-loop-at-preserved : goal.parts_settled-loop-at-preserved
+parts_settled-loop-at-preserved t c =
+    let F : Frame = frame_at c.args.s.now c.args.frame.0 in
+    let row : Option Row = row_at (table_in c.args.s.now) (class_of F) in
+    let part : Part = part_seen c.part_at-part.result in
+    let read : slice_get (parts_of row) c.loop-at.at ≡ Some part = part_read c.args.s.now c.loop-at.s c.class_of-class.result.0 F c.loop-at.at part c.loop-at.invariant.grows c.class_of-class.ensures.is c.part_at-part.ensures.is in
+    record {
+      grows = grows_trans c.args.s.now c.loop-at.s c.part_settled.new.s c.loop-at.invariant.grows c.in_ok-part_settled.ensures.grows;
+      known = c.in_ok-part_settled.ensures.known;
+      stand = c.in_ok-part_settled.ensures.stand;
+      left =
+          part_on (table_in c.args.s.now) F row c.loop-at.so_far c.part_settled.new.so_far c.loop-at.at part
+          (walk_seen (frames_of c.loop-at.s) c.loop-at.so_far.walk) (walk_seen (frames_of c.part_settled.new.s) c.part_settled.new.so_far.walk)
+          (λ left busy. parts_walked (table_in c.args.s.now) (asking_at (table_in c.args.s.now) left busy) F row 0 (parts_of row) (walk_seen (frames_of c.args.s.now) c.args.so_far.now.walk))
+          read c.in_ok-part_settled.ensures.further c.in_ok-part_settled.ensures.item
+          (part_told_free c.args.s.now c.loop-at.s c.args.frame.0 c.loop-at.so_far.item part (walk_seen (frames_of c.loop-at.s) c.loop-at.so_far.walk) (walk_seen (frames_of c.part_settled.new.s) c.part_settled.new.so_far.walk)
+          c.part_settled.new.so_far.classes c.part_settled.new.so_far.deep c.loop-at.invariant.grows c.requires.frame c.in_ok-part_settled.ensures.told)
+          c.loop-at.invariant.left;
+      owned = λ alike owned twin.
+          part_on (table_in c.args.s.now) owned row c.loop-at.so_far c.part_settled.new.so_far c.loop-at.at part
+          (owned_walk owned (walk_seen (frames_of c.loop-at.s) c.loop-at.so_far.walk)) (owned_walk owned (walk_seen (frames_of c.part_settled.new.s) c.part_settled.new.so_far.walk))
+          (λ left busy. parts_walked (table_in c.args.s.now) (asking_at (table_in c.args.s.now) left busy) owned row 0 (parts_of row) (owned_walk owned (walk_seen (frames_of c.args.s.now) c.args.so_far.now.walk)))
+          read c.in_ok-part_settled.ensures.further c.in_ok-part_settled.ensures.item
+          (part_told_owned c.args.s.now c.loop-at.s c.args.frame.0 c.loop-at.so_far.item part (walk_seen (frames_of c.loop-at.s) c.loop-at.so_far.walk) (walk_seen (frames_of c.part_settled.new.s) c.part_settled.new.so_far.walk)
+          c.part_settled.new.so_far.classes c.part_settled.new.so_far.deep c.loop-at.invariant.grows c.requires.frame (c.in_ok-part_settled.ensures.owned alike) owned twin)
+          (c.loop-at.invariant.owned (c.in_ok-part_settled.ensures.further.alike alike) owned twin);
+      alike = λ alike. c.loop-at.invariant.alike (c.in_ok-part_settled.ensures.further.alike alike);
+      counted = c.in_ok-part_settled.ensures.item ∙ counted_next (parts_of row) c.loop-at.at c.loop-at.so_far.item part read c.loop-at.invariant.counted;
+    }
+
+pub class_settled-returns-clause-told : goal.class_settled-returns-clause-told
+class_settled-returns-clause-told t c =
+    let F : Frame = frame_at c.args.s.now c.args.frame.0 in
+    class_told (table_in c.args.s.now) F (walk_seen (frames_of c.args.s.now) c.in_ok-made.made.walk) (walk_seen (frames_of c.parts_settled.new.s) c.parts_settled.new.so_far.walk)
+    c.parts_settled.new.so_far.classes c.parts_settled.new.so_far.deep c.in_ok-made.ensures.value c.in_ok-parts_settled.ensures.told c.in_ok-leaf_checked.ensures
+
+pub settle-put_settled-requires-clause-told : goal.settle-put_settled-requires-clause-told
+settle-put_settled-requires-clause-told t c =
+    class_told_later c.args.s.now c.class_settled.new.s c.args.frame.0 (walk_seen (frames_of c.class_settled.new.s) c.in_ok-made.made.walk) c.in_ok-made.made.classes c.in_ok-made.made.deep
+    c.in_ok-made.ensures.grows c.requires.frame c.in_ok-made.ensures.told
+
+pub class_settled-returns-clause-owned : goal.class_settled-returns-clause-owned
+class_settled-returns-clause-owned t c =
+    let F : Frame = frame_at c.args.s.now c.args.frame.0 in
+    λ alike. class_told_owned (table_in c.args.s.now) F (walk_seen (frames_of c.args.s.now) c.in_ok-made.made.walk) (walk_seen (frames_of c.parts_settled.new.s) c.parts_settled.new.so_far.walk)
+    c.parts_settled.new.so_far.classes c.parts_settled.new.so_far.deep c.in_ok-made.ensures.value (c.in_ok-made.ensures.leaf (c.in_ok-parts_settled.ensures.alike alike)) (c.in_ok-parts_settled.ensures.owned alike)
+
+pub settle-put_settled-requires-clause-owned : goal.settle-put_settled-requires-clause-owned
+settle-put_settled-requires-clause-owned t c =
+    λ alike. class_owned_later c.args.s.now c.class_settled.new.s c.args.frame.0 (walk_seen (frames_of c.class_settled.new.s) c.in_ok-made.made.walk) c.in_ok-made.made.classes c.in_ok-made.made.deep
+    c.in_ok-made.ensures.grows c.requires.frame (c.in_ok-made.ensures.owned alike)
