@@ -21,6 +21,7 @@ pub mod Joined
 pub mod Making
 pub mod Knowing
 pub mod Places
+pub mod Owners
 pub mod Prefixed
 pub mod Ranged
 pub mod Staying

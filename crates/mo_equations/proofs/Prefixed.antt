@@ -1,14 +1,11 @@
 -- Whether the declaration of an instance is flow.
-use Rattle.std.proofs.Common.{◌≡◌, ℕ, suc, ◌≤◌, ◌-◌, Bool, false, List, [], ◌∷◌, length, get_or, Option, Some, None, ap, ◌∙◌, arith}
+use Rattle.std.proofs.Common.{◌≡◌, ℕ, suc, ◌≤◌, ◌-◌, List, [], ◌∷◌, length, get_or, Option, Some, None, ap, ◌∙◌, arith}
 use Rattle.mo_syntax.specs.declared.class.FileTree.{FileTree}
-use Rattle.mo_syntax.specs.declared.class.Prefix.{Prefix}
-use Rattle.mo_scope.specs.Compatible.{prefix_of}
 use Rattle.mo_scope.specs.Frames.{Top, Indexed, Member}
-use Rattle.mo_scope.specs.Instances.{Instance}
 use Rattle.mo_scope.specs.Lookup.{members_from, own_members}
-use Rattle.mo_scope.specs.Rows.{Table, Row, elements_in, table_of}
+use Rattle.mo_scope.specs.Rows.{Row, elements_in, table_of}
 use Rattle.mo_scope.proofs.RowsFound.{predefined}
-use Rattle.mo_equations.specs.Connectors.{declaration_of, is_declared_flow, last_name}
+use Rattle.mo_equations.specs.Connectors.{last_name}
 
 -- the last name of a path
 pub last_at : (path : Indexed) (step : List ℕ × List ℕ) → 1 ≤ length path → step ≡ get_or path (length path - 1) step → step.0 ≡ last_name path
@@ -27,14 +24,3 @@ none_of_top files = ap members_of (predefined files 0 (omega arith))
     members_of : Option Row → List Member
     members_of None = []
     members_of (Some row) = members_from Top 0 (elements_in row.parts)
-
-module _ (table : Table) (instance : Instance) where
-  abbrev is_flow_member : Option Member → Bool
-  is_flow_member None = false
-  is_flow_member (Some member) = (prefix_of table member).flow
-
-  pub flow_declared : (member : Member) (prefix : Prefix) → Some member ≡ declaration_of table instance → prefix ≡ prefix_of table member → prefix.flow ≡ is_declared_flow table instance
-  flow_declared member prefix e is = ap (λ (p : Prefix). p.flow) is ∙ ap is_flow_member e
-
-  pub none_declared : None ≡ declaration_of table instance → false ≡ is_declared_flow table instance
-  none_declared e = ap is_flow_member e

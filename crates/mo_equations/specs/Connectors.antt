@@ -42,12 +42,12 @@ last_name (step ∷ next ∷ path) = last_name (next ∷ path)
 abbrev pub declaration_of : Table → Instance → Option Member
 declaration_of table instance = named (last_name instance.path) (own_members table (owner_of instance.frame))
 
+abbrev pub is_flow_member : Table → Option Member → Bool
+is_flow_member table None = false
+is_flow_member table (Some member) = (prefix_of table member).flow
+
 abbrev pub is_declared_flow : Table → Instance → Bool
-is_declared_flow table instance = is_flow_member (declaration_of table instance)
-  where
-    is_flow_member : Option Member → Bool
-    is_flow_member None = false
-    is_flow_member (Some member) = (prefix_of table member).flow
+is_declared_flow table instance = is_flow_member table (declaration_of table instance)
 
 -- ---- leaves of connectors
 

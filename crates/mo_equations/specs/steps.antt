@@ -10,6 +10,7 @@ pub mod Filling
 pub mod Layers
 pub mod LeafTables
 pub mod Makings
+pub mod Owners
 pub mod Placing
 pub mod Ranges
 pub mod Standing

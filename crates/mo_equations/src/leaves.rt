@@ -107,8 +107,9 @@ fn declared_flows<'i, 't>(
     ensures paths { IfOk result (λ made. paths_seen made ≡ paths_that (declared_flow (table_in s.now)) (instances_in s.now instances.now)) }
 {
     let mut made = PathTable::new(alloc);
+    let mut levels = List::new(alloc);
     for instance in instances {
-        if is_declared_flow(alloc, s, instance)? {
+        if is_declared_flow(alloc, s, &mut levels, instance)? {
             made.push(alloc, &instance.path)?;
         }
     }

@@ -1,18 +1,16 @@
--- The prefix of the declaration.
-use Rattle.std.proofs.Common.{◌≡◌}
-use Rattle.mo_scope.specs.Trees.{instance_in}
-use Rattle.mo_scope.specs.Worlds.{frames_of, table_in}
-use Rattle.mo_names.specs.Sights.{member_of}
-use Rattle.mo_equations.proofs.Prefixed.{flow_declared, none_declared}
+-- The asked class is no component.
+use Rattle.std.proofs.Common.{List, ap, sym, ◌∙◌}
+use Rattle.mo_scope.specs.Frames.{Frame, Member}
+use Rattle.mo_scope.specs.Lookup.{named, own_members}
+use Rattle.mo_scope.specs.Worlds.{table_in}
+use Rattle.mo_equations.specs.Connectors.{is_flow_member, last_name}
+use Rattle.mo_equations.proofs.Prefixed.{none_of_top}
 use Rattle.mo_equations.proofs.flows.is_declared_flow.Goals as goal
 
-pub returns-in_ok-prefix-in-Some : goal.returns-in_ok-prefix-in-Some
-returns-in_ok-prefix-in-Some c =
+pub returns-in_default-clause-is : goal.returns-in_default-clause-is
+returns-in_default-clause-is c =
     let s = c.args.s.now in
-    flow_declared (table_in s) (instance_in (frames_of s) c.args.instance.now) (member_of (frames_of s) c.in-Some.member) c.in_ok-prefix-in-Some.prefix
-    (rw c.in-Some.is at c.in_ok-member.ensures.is) c.in_ok-prefix-in-Some.ensures
-
-pub returns-in-None : goal.returns-in-None
-returns-in-None c =
-    let s = c.args.s.now in
-    none_declared (table_in s) (instance_in (frames_of s) c.args.instance.now) (rw c.in-None.is at c.in_ok-member.ensures.is)
+    let at = c.args.instance.now in
+    let owner = rw c.in_default.is at c.owner.ensures.is in
+    ap (λ (ms : List Member). is_flow_member (table_in s) (named (last_name at.path.0) ms)) (sym (none_of_top s.files))
+    ∙ ap (λ (f : Frame). is_flow_member (table_in s) (named (last_name at.path.0) (own_members (table_in s) f))) owner
