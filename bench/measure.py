@@ -33,6 +33,13 @@ def classes(n):
     return "".join(f"model C{k} Real x; end C{k};\n" for k in range(n)) + "model M\nend M;\n"
 
 
+def library(n):
+    """A library of n classes of some 400 bytes each, of which one is asked for."""
+    elements = "".join(f"  Real x{j}(start = {j}.0, unit = \"m\");\n" for j in range(5))
+    equations = "".join(f"  der(x{j}) = {j}.0*time - x{j};\n" for j in range(5))
+    return "".join(f"model C{k} \"number {k} of a library that is read whole\"\n{elements}equation\n{equations}end C{k};\n" for k in range(n)) + "model M\n  C7 c;\nend M;\n"
+
+
 def parameters(n):
     """Names and flat text: n parameters."""
     return model([f"parameter Real p{k} = {k}.0" for k in range(n)], [])
@@ -71,7 +78,10 @@ def chain(n):
     return model([f"Real x{k}" for k in range(n)], ["x0 = time"] + [f"x{k} = der(x{k - 1})" for k in range(1, n)])
 
 
+# Each series has what makes its inputs, what is asked for, and three sizes; a ladder is made by the program itself.
 SERIES = {
+    "ladder": (None, None, (100, 300, 1000)),
+    "library": (library, "flat", (1000, 3000, 10000)),
     "annotation": (annotation, "flat", (20000, 60000, 180000)),
     "classes": (classes, "flat", (5000, 15000, 45000)),
     "parameters": (parameters, "flat", (5000, 15000, 45000)),
@@ -115,12 +125,15 @@ def main():
         make, emit, sizes = SERIES[name]
         before = None
         for size in sizes:
-            path = OUT / f"{name}-{size}.mo"
-            path.write_text(make(size))
-            status, seconds, megabytes = run(program, ["--class", "M", "--emit", emit, path.name])
+            words, length = ["--make", str(size)], ""
+            if make is not None:
+                path = OUT / f"{name}-{size}.mo"
+                path.write_text(make(size))
+                words, length = ["--class", "M", "--emit", emit, path.name], path.stat().st_size
+            status, seconds, megabytes = run(program, words)
             growth = f"{seconds / before:.1f}" if before and status == 0 else ""
             said = f"{seconds:.3f}" if status == 0 else f"status {status}"
-            print(f"| {name} | {size} | {path.stat().st_size} | {said} | {megabytes:.0f} | {growth} |", flush=True)
+            print(f"| {name} | {size} | {length} | {said} | {megabytes:.0f} | {growth} |", flush=True)
             failed += status != 0
             before = seconds if status == 0 else None
     sys.exit(1 if failed else 0)

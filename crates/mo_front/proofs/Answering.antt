@@ -1,77 +1,38 @@
 -- From what each step finds to what is told.
 use Rattle.std.proofs.Common.{◌≡◌, ◌+◌, ◌-◌, ℕ, Bool, true, false, if◌then◌else◌, List, [], ◌∷◌, length, Option, Some, None, unwrap_or, IfSome, Result, Ok, Err, IfOk, refl, ap, sym, ◌∙◌, subst}
-use Rattle.mo_syntax.specs.declared.class.Body.{Body}
-use Rattle.mo_syntax.specs.declared.class.ClassDefOf.{ClassDefOf}
 use Rattle.mo_syntax.specs.declared.class.FileTree.{FileTree}
-use Rattle.mo_syntax.specs.declared.class.Item.{Item}
 use Rattle.mo_syntax.specs.declared.place.Broken.{Broken}
 use Rattle.mo_syntax.specs.declared.place.NoMemory.{NoMemory}
-use Rattle.mo_syntax.specs.declared.place.Place.{Place}
 use Rattle.mo_syntax.specs.declared.place.Stop.{Stop}
 use Rattle.mo_syntax.specs.declared.place.Stop.TheVariants.{Broken as broken_by, NoMemory as no_memory}
-use Rattle.mo_syntax.specs.declared.finding.ClassAt.{ClassAt}
-use Rattle.mo_syntax.specs.ClassTable.{broken_class, broken_tree, class_of_path}
-use Rattle.mo_syntax.specs.Rows.{row_of}
+use Rattle.mo_syntax.specs.ClassTable.{broken_tree}
 use Rattle.mo_syntax.specs.Lexeme.{Lexeme}
 use Rattle.mo_flat.specs.declared.model.FlatModel.{FlatModel}
+use Rattle.mo_flatten.specs.Told.{Tells as TellsFlat}
 use Rattle.mo_lexer.specs.Lexing.{IfBroken}
 use Rattle.mo_ports.specs.Contents.{Contents}
 use Rattle.mo_front.specs.declared.load.Unread.TheVariants.{Refused}
-use Rattle.mo_front.specs.declared.model.NameAt.{NameAt}
 use Rattle.mo_front.specs.declared.status.Status.{Status}
 use Rattle.mo_front.specs.declared.status.Status.TheVariants.{Done, Singular, Refused as refused_status}
 use Rattle.mo_front.specs.declared.words.Emit.{Emit}
 use Rattle.mo_front.specs.declared.words.Emit.TheVariants as asks
 use Rattle.mo_front.specs.Emitted.{Refuses, Writes, analysed, without_aliases, flat_text, is_singular}
 use Rattle.mo_front.specs.Files.{Reads, none, text, Tokens, Trees}
-use Rattle.mo_front.specs.Form.{declared_names, is_plain_model, items_of}
 use Rattle.mo_front.specs.Limits.{all_files_limit}
 use Rattle.mo_front.specs.Loading.{RefusesReading, TellsTexts}
-use Rattle.mo_front.specs.Names.{are_names_plain, first_undeclared, top_names}
 use Rattle.mo_front.specs.Run.{IsAnswer}
-use Rattle.mo_front.specs.Told.{ItemsGive, not_declared, broken, flat, used_in, ClassGives, model, IsAskedClass, TreesGive, outermost, no_tree, TextsGive, trees, no_trees, no_tokens, read, unread, line_of_broken, bytes_of_all, Breaks, FilesGive, Tells, WritesGiven, no_model, no_text, refused, written}
-
--- a stop at a broken rule
-pub stopped : (s : Stop) (b : Broken) (P : Broken → Type 0) → s ≡ broken_by b → P b → IfBroken {T = FlatModel} (Err s) P
-stopped s b P is p = rw is p
-
-pub gives_undeclared : (names top : List (List ℕ)) (class : ClassDefOf Body) (items : List Item) (declared uses listed again : List NameAt) (plain : Bool) (found : Option Place) (place : Place)
-    → names ≡ top → declared ≡ declared_names items → uses ≡ used_in items → listed ≡ uses → again ≡ uses → plain ≡ are_names_plain names declared listed → plain ≡ true
-    → found ≡ first_undeclared declared again → found ≡ Some place → ItemsGive top class items (broken (record { rule = 12; place = place }))
-gives_undeclared names top class items declared uses listed again plain found place they are use_them listed_are again_are is_plain is_true first some =
-    not_declared place (sym (sym is_true ∙ is_plain ∙ same)) (sym (sym some ∙ first ∙ same_first)) refl
-  where
-    same : are_names_plain names declared listed ≡ are_names_plain top (declared_names items) (used_in items)
-    same = rw (they, are, listed_are, use_them) refl
-
-    same_first : first_undeclared declared again ≡ first_undeclared (declared_names items) (used_in items)
-    same_first = rw (are, again_are, use_them) refl
-
--- ---- a class
-
-pub class-flat : (files : List FileTree) (class : ClassDefOf Body) (given : List Item) (form : Bool) (r : Result FlatModel Stop) → form ≡ is_plain_model class → form ≡ true → Some given ≡ items_of class.body
-    → IfOk r (λ m. ItemsGive (top_names files) class given (flat m)) → IfOk r (λ m. ClassGives files class (flat m))
-class-flat files class given form (Ok m) is holds they gives = model given (sym is ∙ holds) (sym they) gives
-class-flat files class given form (Err s) is holds they gives = tt
-
-pub class-refusal : (files : List FileTree) (class : ClassDefOf Body) (given : List Item) (form : Bool) (r : Result FlatModel Stop) → form ≡ is_plain_model class → form ≡ true → Some given ≡ items_of class.body
-    → IfBroken r (λ b. ItemsGive (top_names files) class given (broken b)) → IfBroken r (λ b. ClassGives files class (broken b))
-class-refusal files class given form (Ok m) is holds they gives = tt
-class-refusal files class given form (Err (broken_by b)) is holds they gives = model given (sym is ∙ holds) (sym they) gives
-class-refusal files class given form (Err no_memory) is holds they gives = tt
+use Rattle.mo_front.specs.Told.{broken, flat, TreesGive, no_tree, not_flattened, flattened, TextsGive, trees, no_trees, no_tokens, read, unread, line_of_broken, bytes_of_all, Breaks, FilesGive, Tells, WritesGiven, no_model, no_text, refused, written}
 
 -- ---- trees
 
-pub asked-flat : (path : List (List ℕ)) (files : List FileTree) (class : ClassDefOf Body) (r : Result FlatModel Stop) → IsAskedClass path files class → length path ≡ 1
-    → IfOk r (λ m. ClassGives files class (flat m)) → IfOk r (λ m. TreesGive path files (flat m))
-asked-flat path files class (Ok m) asked one gives = outermost class asked one gives
-asked-flat path files class (Err s) asked one gives = tt
+pub told-flat : (path : List (List ℕ)) (files : List FileTree) (r : Result FlatModel Stop) → broken_tree files ≡ None → TellsFlat files path r → IfOk r (λ m. TreesGive path files (flat m))
+told-flat path files (Ok m) accepted tells = flattened m accepted tells refl
+told-flat path files (Err s) accepted tells = tt
 
-pub asked-refusal : (path : List (List ℕ)) (files : List FileTree) (class : ClassDefOf Body) (r : Result FlatModel Stop) → IsAskedClass path files class → length path ≡ 1
-    → IfBroken r (λ b. ClassGives files class (broken b)) → IfBroken r (λ b. TreesGive path files (broken b))
-asked-refusal path files class (Ok m) asked one gives = tt
-asked-refusal path files class (Err (broken_by b)) asked one gives = outermost class asked one gives
-asked-refusal path files class (Err no_memory) asked one gives = tt
+pub told-broken : (path : List (List ℕ)) (files : List FileTree) (r : Result FlatModel Stop) → broken_tree files ≡ None → TellsFlat files path r → IfBroken r (λ b. TreesGive path files (broken b))
+told-broken path files (Ok m) accepted tells = tt
+told-broken path files (Err (broken_by b)) accepted tells = not_flattened b accepted tells refl
+told-broken path files (Err no_memory) accepted tells = tt
 
 pub no-tree : {T : Type 0} (path : List (List ℕ)) (files : List FileTree) (r : Result T Stop) (s : Stop) → r ≡ Err s → IfBroken r (λ b. broken_tree files ≡ Some b) → IfBroken {T = FlatModel} (Err s) (λ b. TreesGive path files (broken b))
 no-tree {T} path files r s is was = at s (rw is at was)
@@ -203,14 +164,3 @@ never-singular path emit names texts status line (refused b breaks is line_is) o
 pub alias-never-singular : (path : List (List ℕ)) (emit : Emit) (names texts : List (List ℕ)) (status : Status) (line : List ℕ) → TellsTexts path emit names texts status line → emit ≡ asks.Alias → status ≡ Singular → ⊥
 alias-never-singular path emit names texts status line (written w) only_alias singular = alias-done emit w.m status line w.writes only_alias singular
 alias-never-singular path emit names texts status line (refused b breaks is line_is) only_alias singular = cc
-
--- the class that was found
-pub asked-class : (path : List (List ℕ)) (files list : List FileTree) (found : ClassAt) → list ≡ files → Some (row_of found) ≡ class_of_path list path → broken_class (class_of_path files path) ≡ None
-    → broken_tree files ≡ None → IsAskedClass path list found.class.now
-asked-class path files list found is at accepted sound = record {
-  row = row_of found;
-  tree = ap broken_tree is ∙ sound;
-  at = sym at;
-  accepted = ap broken_class at ∙ ap (λ (fs : List FileTree). broken_class (class_of_path fs path)) is ∙ accepted;
-  is = refl;
-}

@@ -1,10 +1,10 @@
 -- What the words of the command line ask for, by what `clap` made of them.
-use Rattle.std.proofs.Common.{◌≡◌, ◌⊎◌, ◌<◌, ◌≤◌, ℕ, List, [], Option, Some, None, true, inl, inr, length, map, option_map}
+use Rattle.std.proofs.Common.{◌≡◌, ◌⊎◌, ◌<◌, ◌≤◌, ℕ, List, [], Option, Some, None, is_some, true, false, inl, inr, length, map, option_map}
 use Rattle.std.proofs.Common.{codes, refl, ap, sym, ◌∙◌, subst, zero, suc, arith}
 use Rattle.std.specs.Borrow.{Bor}
 use Rattle.std.proofs.lemmas.List.{length-map}
 use Rattle.clap.specs.Kinds.{IsAmong, Kinds}
-use Rattle.clap.specs.Words.{App, Row, Text, fault_of, first_value, is_simple, is_simple_and_free, matched_of, matches_of}
+use Rattle.clap.specs.Words.{App, Row, Text, all_of, fault_of, first_of, first_value, is_simple, is_simple_and_free, matched_of, matches_of}
 use Rattle.clap.specs.Words.{raw_values, rows_of}
 use Rattle.clap.specs.declared.parser.matches.Found.{Found}
 use Rattle.clap.proofs.WalkLemmas.{first_value-rows, raw_values-rows}
@@ -13,14 +13,14 @@ use Rattle.clap.specs.declared.error.kind.ErrorKind.TheVariants as kind
 use Rattle.clap.proofs.OnLiterals.{clap_on_literals}
 use Rattle.mo_front.specs.declared.words.Emit.{Emit}
 use Rattle.mo_front.specs.declared.words.Words.{Words}
-use Rattle.mo_front.specs.declared.words.Words.TheVariants.{Job}
-use Rattle.mo_front.specs.Words.{Asks, AsksFor, AsksWords, Names, NamesClass, NamesWords, command}
+use Rattle.mo_front.specs.declared.words.Words.TheVariants.{Job, Make}
+use Rattle.mo_front.specs.Words.{Asks, AsksFor, AsksForClass, AsksForLadder, Names, NamesClass, NamesRungs, command}
 
 -- ---- options and files that ask for nothing
 
 pub no-class : (f : Found) (read : Option (Bor Text)) (path files : List (List ℕ)) (emit : Emit)
     → option_map (λ s. s.now) read ≡ first_value f (codes "class")
-    → read ≡ None → Asks (rows_of f) path emit files → ⊥
+    → read ≡ None → AsksForClass (rows_of f) path emit files → ⊥
 no-class f read path files emit is none a =
     clash (sym (ap (option_map (λ (s : Bor Text). s.now)) none) ∙ is ∙ first_value-rows f (codes "class") ∙ a.class_given)
   where
@@ -28,7 +28,7 @@ no-class f read path files emit is none a =
     clash eq = cc
 
 pub no-path : (f : Found) (word : Text) (path files : List (List ℕ)) (emit : Emit) → Some word ≡ first_value f (codes "class")
-    → ((path : List (List ℕ)) → NamesClass word path → ⊥) → Asks (rows_of f) path emit files → ⊥
+    → ((path : List (List ℕ)) → NamesClass word path → ⊥) → AsksForClass (rows_of f) path emit files → ⊥
 no-path f word path files emit is none a = none path (subst (λ (x : List ℕ). NamesClass x path) (sym same) a.names_class)
   where
     same : word ≡ a.class
@@ -37,12 +37,12 @@ no-path f word path files emit is none a = none path (subst (λ (x : List ℕ). 
         cc
 
 pub no-emit : (f : Found) (read : Option Text) (path files : List (List ℕ)) (emit : Emit) → read ≡ first_value f (codes "emit")
-    → ((emit : Emit) → AsksFor read emit → ⊥) → Asks (rows_of f) path emit files → ⊥
+    → ((emit : Emit) → AsksFor read emit → ⊥) → AsksForClass (rows_of f) path emit files → ⊥
 no-emit f read path files emit is none a =
     none emit (subst (λ (x : Option Text). AsksFor x emit) (sym (is ∙ first_value-rows f (codes "emit"))) a.asks_for)
 
 pub no-files : (f : Found) (path files : List (List ℕ)) (emit : Emit)
-    → None ≡ option_map raw_values (matched_of f (codes "file")) → Asks (rows_of f) path emit files → ⊥
+    → None ≡ option_map raw_values (matched_of f (codes "file")) → AsksForClass (rows_of f) path emit files → ⊥
 no-files f path files emit is a = clash (is ∙ raw_values-rows f (codes "file") ∙ a.files_given)
   where
     clash : None ≡ Some files → ⊥
@@ -50,7 +50,7 @@ no-files f path files emit is a = clash (is ∙ raw_values-rows f (codes "file")
 
 pub other-count : (f : Found) (read : List (Bor Text)) (path files : List (List ℕ)) (emit : Emit)
     → Some (map (λ s. s.now) read) ≡ option_map raw_values (matched_of f (codes "file"))
-    → (length read ≡ 0) ⊎ (64 < length read) → Asks (rows_of f) path emit files → ⊥
+    → (length read ≡ 0) ⊎ (64 < length read) → AsksForClass (rows_of f) path emit files → ⊥
 other-count f read path files emit is other a = elim other [
   | inl none ↦ absurd (omega (arith, a.some, count, none))
   | inr more ↦ absurd (omega (arith, a.few, count, more))
@@ -65,6 +65,83 @@ other-count f read path files emit is other a = elim other [
     count : length files ≡ length read
     count = sym (ap length same) ∙ length-map read (λ (s : Bor Text). s.now)
 
+-- ---- one form or the other
+
+-- no ladder is asked for where nothing stands behind `--make`
+no-ladder : (f : Found) (n : ℕ) → first_value f (codes "make") ≡ None → AsksForLadder (rows_of f) n → ⊥
+no-ladder f n none a = clash (sym none ∙ first_value-rows f (codes "make") ∙ a.ladder_given)
+  where
+    clash : None ≡ Some a.word → ⊥
+    clash eq = cc
+
+pub only-class : (f : Found) → first_value f (codes "make") ≡ None → ((path files : List (List ℕ)) (emit : Emit) → AsksForClass (rows_of f) path emit files → ⊥)
+    → (asked : Words) → Asks (rows_of f) asked → ⊥
+only-class f none other (Job class emit files) a = other class.0 files emit a
+only-class f none other (Make n) a = no-ladder f n none a
+
+-- no class is asked for where a word stands behind `--make`
+no-job : (f : Found) (word : Text) (path files : List (List ℕ)) (emit : Emit) → Some word ≡ first_value f (codes "make") → AsksForClass (rows_of f) path emit files → ⊥
+no-job f word path files emit is a = clash (is ∙ first_value-rows f (codes "make") ∙ a.no_ladder)
+  where
+    clash : Some word ≡ None → ⊥
+    clash eq = cc
+
+pub only-ladder : (f : Found) (word : Text) → Some word ≡ first_value f (codes "make") → ((n : ℕ) → AsksForLadder (rows_of f) n → ⊥)
+    → (asked : Words) → Asks (rows_of f) asked → ⊥
+only-ladder f word is other (Job class emit files) a = no-job f word class.0 files emit is a
+only-ladder f word is other (Make n) a = other n a
+
+pub no-rungs : (f : Found) (word : Text) → Some word ≡ first_value f (codes "make") → ((n : ℕ) → NamesRungs word n → ⊥) → (n : ℕ) → AsksForLadder (rows_of f) n → ⊥
+no-rungs f word is none n a = none n (subst (λ (x : List ℕ). NamesRungs x n) (sym same) a.names_rungs)
+  where
+    same : word ≡ a.word
+    same =
+        let both : Some word ≡ Some a.word = is ∙ first_value-rows f (codes "make") ∙ a.ladder_given in
+        cc
+
+-- a word that stands behind an option, or none
+pub word-given : (f : Found) (name : Text) (read : Option (Bor Text)) → option_map (λ s. s.now) read ≡ first_value f name → is_some read ≡ true → first_of name (rows_of f) ≡ None → ⊥
+word-given f name None is there none = cc
+word-given f name (Some word) is there none = clash (is ∙ first_value-rows f name ∙ none)
+  where
+    clash : Some word.now ≡ None → ⊥
+    clash eq = cc
+
+pub word-missing : (f : Found) (name : Text) (read : Option (Bor Text)) → option_map (λ s. s.now) read ≡ first_value f name → is_some read ≡ false → first_of name (rows_of f) ≡ None
+word-missing f name None is absent = sym (first_value-rows f name) ∙ sym is
+word-missing f name (Some word) is absent = absurd clash
+  where
+    clash : ⊥
+    clash = cc
+
+-- files that are named, or none
+pub files-given : (f : Found) (read : Option (Bor (List (Bor Text)))) → option_map (λ s. map (λ v. v.now) s.now) read ≡ option_map raw_values (matched_of f (codes "file"))
+    → is_some read ≡ true → all_of (codes "file") (rows_of f) ≡ None → ⊥
+files-given f None is there none = cc
+files-given f (Some files) is there none = clash (is ∙ raw_values-rows f (codes "file") ∙ none)
+  where
+    clash : Some (map (λ (v : Bor Text). v.now) files.now) ≡ None → ⊥
+    clash eq = cc
+
+pub files-missing : (f : Found) (read : Option (Bor (List (Bor Text)))) → option_map (λ s. map (λ v. v.now) s.now) read ≡ option_map raw_values (matched_of f (codes "file"))
+    → is_some read ≡ false → all_of (codes "file") (rows_of f) ≡ None
+files-missing f None is absent = sym (raw_values-rows f (codes "file")) ∙ sym is
+files-missing f (Some files) is absent = absurd clash
+  where
+    clash : ⊥
+    clash = cc
+
+pub asks-ladder : (f : Found) (word : Text) (n : ℕ) → Some word ≡ first_value f (codes "make") → NamesRungs word n → first_of (codes "class") (rows_of f) ≡ None
+    → first_of (codes "emit") (rows_of f) ≡ None → all_of (codes "file") (rows_of f) ≡ None → AsksForLadder (rows_of f) n
+asks-ladder f word n is names class emit files = record {
+  word = word;
+  ladder_given = sym (first_value-rows f (codes "make")) ∙ sym is;
+  names_rungs = names;
+  no_class = class;
+  no_emit = emit;
+  no_files = files;
+}
+
 -- ---- those that ask for something
 
 pub asks : (f : Found) (word : Text) (emit_word : Option Text) (read : List (Bor Text)) (path files : List (List ℕ))
@@ -72,11 +149,12 @@ pub asks : (f : Found) (word : Text) (emit_word : Option Text) (read : List (Bor
     → Some word ≡ first_value f (codes "class") → NamesClass word path → emit_word ≡ first_value f (codes "emit")
     → AsksFor emit_word emit
     → Some (map (λ s. s.now) read) ≡ option_map raw_values (matched_of f (codes "file")) → files ≡ map (λ s. s.now) read
-    → (length read ≡ 0 → ⊥) → length read ≤ 64 → Asks (rows_of f) path emit files
-asks f word emit_word read path files emit class_is names emit_is for files_is same some few = record {
+    → (length read ≡ 0 → ⊥) → length read ≤ 64 → first_value f (codes "make") ≡ None → AsksForClass (rows_of f) path emit files
+asks f word emit_word read path files emit class_is names emit_is for files_is same some few no_make = record {
   class = word;
   class_given = sym (class_is ∙ first_value-rows f (codes "class"));
   names_class = names;
+  no_ladder = sym (first_value-rows f (codes "make")) ∙ no_make;
   asks_for = subst (λ (x : Option Text). AsksFor x emit) (emit_is ∙ first_value-rows f (codes "emit")) for;
   files_given = sym (files_is ∙ raw_values-rows f (codes "file")) ∙ ap Some (sym same);
   some = at_least (length files) (λ none. some (sym count ∙ none));
@@ -101,33 +179,26 @@ is-free : is_simple_and_free command ≡ true
 unfolding clap_on_literals
 is-free = refl
 
-named : {Rest : Type 0} (app : App) (words : List Text) (given : List Row) (path files : List (List ℕ)) (emit : Emit)
+pub named : {Rest : Type 0} (app : App) (words : List Text) (given : List Row) (asked : Words)
     → app ≡ command → (is_simple_and_free app ≡ true → fault_of app words ≡ [])
     → (is_simple app ≡ true → (given ≡ matches_of app words) × Rest)
-    → Asks given path emit files → Names words path emit files
-named app words given path files emit is faults matched a = record {
+    → Asks given asked → Names words asked
+named app words given asked is faults matched a = record {
   no_fault = ap (λ (x : App). fault_of x words) (sym is) ∙ faults (ap is_simple_and_free is ∙ is-free);
-  asks = subst (λ (x : List Row). Asks x path emit files)
-      ((matched (ap is_simple is ∙ is-simple)).0 ∙ ap (λ (x : App). matches_of x words) is) a;
+  asks = subst (λ (x : List Row). Asks x asked) ((matched (ap is_simple is ∙ is-simple)).0 ∙ ap (λ (x : App). matches_of x words) is) a;
 }
 
-pub words-named : {Rest : Type 0} (app : App) (words : List Text) (given : List Row) (read : Words)
-    → app ≡ command → (is_simple_and_free app ≡ true → fault_of app words ≡ [])
-    → (is_simple app ≡ true → (given ≡ matches_of app words) × Rest)
-    → AsksWords given read → NamesWords words read
-words-named app words given (Job class emit files) is faults matched a = named app words given class.0 files emit is faults matched a
-
-pub not-named : {Rest : Type 0} (app : App) (words : List Text) (given : List Row) (path files : List (List ℕ)) (emit : Emit)
-    → app ≡ command → (is_simple app ≡ true → (given ≡ matches_of app words) × Rest) → (Asks given path emit files → ⊥)
-    → Names words path emit files → ⊥
-not-named app words given path files emit is matched none n =
-    none (subst (λ (x : List Row). Asks x path emit files)
+pub not-named : {Rest : Type 0} (app : App) (words : List Text) (given : List Row) (asked : Words)
+    → app ≡ command → (is_simple app ≡ true → (given ≡ matches_of app words) × Rest) → (Asks given asked → ⊥)
+    → Names words asked → ⊥
+not-named app words given asked is matched none n =
+    none (subst (λ (x : List Row). Asks x asked)
     (sym ((matched (ap is_simple is ∙ is-simple)).0 ∙ ap (λ (x : App). matches_of x words) is)) n.asks)
 
-pub at-fault : (app : App) (words : List Text) (k : ErrorKind) (path files : List (List ℕ)) (emit : Emit) → app ≡ command
+pub at-fault : (app : App) (words : List Text) (k : ErrorKind) (asked : Words) → app ≡ command
     → (is_simple_and_free app ≡ true → (k ≡ kind.OutOfMemory) ⊎ IsAmong k (fault_of app words)) → (k ≡ kind.OutOfMemory → ⊥)
-    → Names words path emit files → ⊥
-at-fault app words k path files emit is kinds other n = elim (kinds (ap is_simple_and_free is ∙ is-free)) [
+    → Names words asked → ⊥
+at-fault app words k asked is kinds other n = elim (kinds (ap is_simple_and_free is ∙ is-free)) [
   | inl memory ↦ other memory
   | inr among ↦ subst (λ (x : Kinds). IsAmong k x) (ap (λ (x : App). fault_of x words) is ∙ n.no_fault) among
 ]

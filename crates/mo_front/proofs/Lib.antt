@@ -1,18 +1,15 @@
 pub mod Columns
-pub mod NameLemmas
-pub mod FlatLemmas
-pub mod FormLemmas
-pub mod SoundNames
-pub mod Soundness
-pub mod SoundModel
-mod Knowing
 mod Answering
 mod Dotting
 mod Asking
+mod Digits
+mod Laddering
 mod Emitting
 mod OneByOne
 mod Loaded
 mod Writing
+mod SoundTrees
 pub mod Once
 mod OneTold
+mod OneAsked
 mod Structuring

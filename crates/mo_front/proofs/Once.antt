@@ -3,13 +3,9 @@ use Rattle.std.proofs.Common.{◌≡◌, ℕ, ◌+◌, ◌-◌, ◌<◌, ◌≤�
 use Rattle.std.specs.Prelude.{IsUtf8, Result, Ok, Err}
 use Rattle.std.specs.Str.Lossy.{utf8_valid_len}
 use Rattle.std.proofs.lemmas.List.{append_cancel_left, append_assoc}
-use Rattle.mo_syntax.specs.declared.class.Body.{Body}
-use Rattle.mo_syntax.specs.declared.class.ClassDefOf.{ClassDefOf}
 use Rattle.mo_syntax.specs.declared.class.FileTree.{FileTree}
-use Rattle.mo_syntax.specs.declared.class.Item.{Item}
 use Rattle.mo_syntax.specs.declared.place.Broken.{Broken}
 use Rattle.mo_syntax.specs.Lexeme.{Lexeme}
-use Rattle.mo_syntax.specs.Classes.{ClassRow}
 use Rattle.mo_lexer.specs.Lexing.{Lexes, IsRefused}
 use Rattle.mo_lexer.proofs.Unique.{same_tokens}
 use Rattle.mo_lexer.proofs.Refusals.{same_refusal, none_where_refused}
@@ -29,9 +25,9 @@ use Rattle.mo_parse_class.specs.WholeFiles.{IsAtImpossible}
 use Rattle.mo_ports.specs.Contents.{Contents}
 use Rattle.mo_front.specs.Files.{IsText, BreaksFile, too_long, not_utf8, breaks_at, Reads, none, broken, text, later, Each, given, HasTree, HasNoTree, Tokens, Trees}
 use Rattle.mo_front.specs.Limits.{file_limit, all_files_limit}
-use Rattle.mo_syntax.specs.ClassTable.{class_of_path, broken_tree, broken_class}
-use Rattle.mo_front.specs.Names.{top_names}
-use Rattle.mo_front.specs.Told.{Outcome, flat, broken, at_name, ItemsGive, outside, not_declared, too_large, flattened, ClassGives, other_form, model, IsAskedClass, TreesGive, no_tree, no_class, inner, outermost, TextsGive, no_tokens, no_trees, trees, FilesGive, unread, read}
+use Rattle.mo_syntax.specs.ClassTable.{broken_tree}
+use Rattle.mo_flatten.proofs.Alone.{flattens_alone}
+use Rattle.mo_front.specs.Told.{Outcome, flat, broken, TreesGive, no_tree, not_flattened, flattened, TextsGive, no_tokens, no_trees, trees, FilesGive, unread, read}
 
 is_some : {A : Type 0} (a b : A) → Some a ≡ Some b → a ≡ b
 is_some a b e = cc
@@ -41,6 +37,9 @@ ok_is_no_stop a b e = cc
 
 is_ok : {A : Type 0} (a b : A) → ◌≡◌ {A = Result A Broken} (Ok a) (Ok b) → a ≡ b
 is_ok a b e = cc
+
+err_is : {A : Type 0} (b c : Broken) → ◌≡◌ {A = Result A Broken} (Err b) (Err c) → b ≡ c
+err_is b c e = cc
 
 -- ---- reading
 
@@ -144,65 +143,22 @@ tree_has_no_impossible_token k tokens tree b s p =
     let all = (known tables rule passed s.0).spelled_begins Files whole_limits tokens tree s.1 in
     p.impossible.1 (front_begins tables rule passed Files whole_limits (p.before ++ p.token ∷ []) p.rest (s.0, subst (λ w. BegunIn rule s.0 Files whole_limits w) parts all))
 
--- ---- classes
+-- ---- class trees
 
 no_some : {A : Type 0} (a : A) → None ≡ Some a → ⊥
 no_some a e = cc
 
-not_true_and_false : true ≡ false → ⊥
-not_true_and_false e = cc
-
-one_class : (path : List (List ℕ)) (files : List FileTree) (class other : ClassDefOf Body) → IsAskedClass path files class → IsAskedClass path files other → class ≡ other
-one_class path files class other a b = a.is ∙ ap (λ r. r.class) (is_some a.row b.row (sym a.at ∙ b.at)) ∙ sym b.is
-
-asked_breaks_nothing : (path : List (List ℕ)) (files : List FileTree) (class : ClassDefOf Body) (b : Broken) → IsAskedClass path files class → broken_class (class_of_path files path) ≡ Some b → ⊥
-asked_breaks_nothing path files class b a e = no_some b (sym a.accepted ∙ sym (ap broken_class a.at) ∙ e)
-
-module _ (top : List (List ℕ)) (class : ClassDefOf Body) (items : List Item) where
-  one_of_items : (o p : Outcome) → ItemsGive top class items o → ItemsGive top class items p → o ≡ p
-  one_of_items o p (outside names is) (outside names' is') = is ∙ sym is'
-  one_of_items o p (outside names is) (not_declared place names' undeclared is') = absurd (not_true_and_false (sym names' ∙ names))
-  one_of_items o p (outside names is) (too_large names' undeclared large is') = absurd (not_true_and_false (sym names' ∙ names))
-  one_of_items o p (outside names is) (flattened names' undeclared small is') = absurd (not_true_and_false (sym names' ∙ names))
-  one_of_items o p (not_declared place names undeclared is) (outside names' is') = absurd (not_true_and_false (sym names ∙ names'))
-  one_of_items o p (not_declared place names undeclared is) (not_declared other names' undeclared' is') = is ∙ ap (λ x. broken (record { rule = 12; place = x })) (is_some place other (sym undeclared ∙ undeclared')) ∙ sym is'
-  one_of_items o p (not_declared place names undeclared is) (too_large names' undeclared' large is') = absurd (no_some place (sym undeclared' ∙ undeclared))
-  one_of_items o p (not_declared place names undeclared is) (flattened names' undeclared' small is') = absurd (no_some place (sym undeclared' ∙ undeclared))
-  one_of_items o p (too_large names undeclared large is) (outside names' is') = absurd (not_true_and_false (sym names ∙ names'))
-  one_of_items o p (too_large names undeclared large is) (not_declared place names' undeclared' is') = absurd (no_some place (sym undeclared ∙ undeclared'))
-  one_of_items o p (too_large names undeclared large is) (too_large names' undeclared' large' is') = is ∙ sym is'
-  one_of_items o p (too_large names undeclared large is) (flattened names' undeclared' small is') = absurd (not_true_and_false (sym large ∙ small))
-  one_of_items o p (flattened names undeclared small is) (outside names' is') = absurd (not_true_and_false (sym names ∙ names'))
-  one_of_items o p (flattened names undeclared small is) (not_declared place names' undeclared' is') = absurd (no_some place (sym undeclared ∙ undeclared'))
-  one_of_items o p (flattened names undeclared small is) (too_large names' undeclared' large is') = absurd (not_true_and_false (sym large ∙ small))
-  one_of_items o p (flattened names undeclared small is) (flattened names' undeclared' small' is') = is ∙ sym is'
-
-one_of_class : (files : List FileTree) (class : ClassDefOf Body) (o p : Outcome) → ClassGives files class o → ClassGives files class p → o ≡ p
-one_of_class files class o p (other_form form is) (other_form form' is') = is ∙ sym is'
-one_of_class files class o p (other_form form is) (model items form' has gives) = absurd (not_true_and_false (sym form' ∙ form))
-one_of_class files class o p (model items form' has gives) (other_form form is) = absurd (not_true_and_false (sym form' ∙ form))
-one_of_class files class o p (model items form has gives) (model others form' has' gives') =
-    one_of_items (top_names files) class items o p gives (subst (λ x. ItemsGive (top_names files) class x p) (is_some others items (sym has' ∙ has)) gives')
-
 module _ (path : List (List ℕ)) (files : List FileTree) where
   one_of_trees : (o p : Outcome) → TreesGive path files o → TreesGive path files p → o ≡ p
   one_of_trees o p (no_tree b tree is) (no_tree c tree' is') = is ∙ ap broken (is_some b c (sym tree ∙ tree')) ∙ sym is'
-  one_of_trees o p (no_tree b tree is) (no_class c tree' at is') = absurd (no_some b (sym tree' ∙ tree))
-  one_of_trees o p (no_tree b tree is) (inner class asked deep is') = absurd (no_some b (sym asked.tree ∙ tree))
-  one_of_trees o p (no_tree b tree is) (outermost class asked flat' gives) = absurd (no_some b (sym asked.tree ∙ tree))
-  one_of_trees o p (no_class b tree at is) (no_tree c tree' is') = absurd (no_some c (sym tree ∙ tree'))
-  one_of_trees o p (no_class b tree at is) (no_class c tree' at' is') = is ∙ ap broken (is_some b c (sym at ∙ at')) ∙ sym is'
-  one_of_trees o p (no_class b tree at is) (inner class asked deep is') = absurd (asked_breaks_nothing path files class b asked at)
-  one_of_trees o p (no_class b tree at is) (outermost class asked flat' gives) = absurd (asked_breaks_nothing path files class b asked at)
-  one_of_trees o p (inner class asked deep is) (no_tree b tree is') = absurd (no_some b (sym asked.tree ∙ tree))
-  one_of_trees o p (inner class asked deep is) (no_class b tree at is') = absurd (asked_breaks_nothing path files class b asked at)
-  one_of_trees o p (inner class asked deep is) (inner other asked' deep' is') = is ∙ ap (at_name 34) (one_class path files class other asked asked') ∙ sym is'
-  one_of_trees o p (inner class asked deep is) (outermost other asked' flat' gives) = absurd (deep flat')
-  one_of_trees o p (outermost class asked flat' gives) (no_tree b tree is') = absurd (no_some b (sym asked.tree ∙ tree))
-  one_of_trees o p (outermost class asked flat' gives) (no_class b tree at is') = absurd (asked_breaks_nothing path files class b asked at)
-  one_of_trees o p (outermost class asked flat' gives) (inner other asked' deep is') = absurd (deep flat')
-  one_of_trees o p (outermost class asked flat' gives) (outermost other asked' flat'' gives') =
-      one_of_class files class o p gives (subst (λ x. ClassGives files x p) (one_class path files other class asked' asked) gives')
+  one_of_trees o p (no_tree b tree is) (not_flattened c tree' tells is') = absurd (no_some b (sym tree' ∙ tree))
+  one_of_trees o p (no_tree b tree is) (flattened m tree' tells is') = absurd (no_some b (sym tree' ∙ tree))
+  one_of_trees o p (not_flattened b tree tells is) (no_tree c tree' is') = absurd (no_some c (sym tree ∙ tree'))
+  one_of_trees o p (not_flattened b tree tells is) (not_flattened c tree' tells' is') = is ∙ ap broken (err_is b c (flattens_alone files path (Err b) (Err c) tells tells')) ∙ sym is'
+  one_of_trees o p (not_flattened b tree tells is) (flattened m tree' tells' is') = absurd (ok_is_no_stop m b (flattens_alone files path (Ok m) (Err b) tells' tells))
+  one_of_trees o p (flattened m tree tells is) (no_tree c tree' is') = absurd (no_some c (sym tree ∙ tree'))
+  one_of_trees o p (flattened m tree tells is) (not_flattened c tree' tells' is') = absurd (ok_is_no_stop m c (flattens_alone files path (Ok m) (Err c) tells tells'))
+  one_of_trees o p (flattened m tree tells is) (flattened n tree' tells' is') = is ∙ ap flat (is_ok m n (flattens_alone files path (Ok m) (Ok n) tells tells')) ∙ sym is'
 
 one_lexing : (texts : List (List ℕ)) (r s : Result (List (List Lexeme)) Broken) → Tokens texts r → Tokens texts s → r ≡ s
 one_lexing texts r s p q = one_phase Lexes IsRefused (λ k x y z a b. sym (same_tokens k x y z a b)) (λ k x b c p q. sym (same_refusal k x b c p q)) (λ k x y b l refused. none_where_refused k x b y refused l) 1 texts r s p q
@@ -210,14 +166,11 @@ one_lexing texts r s p q = one_phase Lexes IsRefused (λ k x y z a b. sym (same_
 one_parsing : (tokens : List (List Lexeme)) (r s : Result (List FileTree) Broken) → Trees tokens r → Trees tokens s → r ≡ s
 one_parsing tokens r s p q = one_phase HasTree HasNoTree one_tree one_impossible_token tree_has_no_impossible_token 1 tokens r s p q
 
-err_is : {A : Type 0} (b c : Broken) → ◌≡◌ {A = Result A Broken} (Err b) (Err c) → b ≡ c
-err_is b c e = cc
-
 module _ (path texts : List (List ℕ)) where
   parsed_too : (tokens others : List (List Lexeme)) (r : Result (List FileTree) Broken) → Tokens texts (Ok tokens) → Tokens texts (Ok others) → Trees others r → Trees tokens r
   parsed_too tokens others r lexed lexed' parsed = subst (λ x. Trees x r) (is_ok others tokens (one_lexing texts (Ok others) (Ok tokens) lexed' lexed)) parsed
 
-  one_of_texts : (o p : Outcome) → TextsGive path texts o → TextsGive path texts p → o ≡ p
+  pub one_of_texts : (o p : Outcome) → TextsGive path texts o → TextsGive path texts p → o ≡ p
   one_of_texts o p (no_tokens b lexed is) (no_tokens c lexed' is') = is ∙ ap broken (err_is b c (one_lexing texts (Err b) (Err c) lexed lexed')) ∙ sym is'
   one_of_texts o p (no_tokens b lexed is) (no_trees c tokens lexed' parsed is') = absurd (ok_is_no_stop tokens b (one_lexing texts (Ok tokens) (Err b) lexed' lexed))
   one_of_texts o p (no_tokens b lexed is) (trees tokens files lexed' parsed gives) = absurd (ok_is_no_stop tokens b (one_lexing texts (Ok tokens) (Err b) lexed' lexed))

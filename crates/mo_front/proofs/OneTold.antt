@@ -1,6 +1,7 @@
 -- What is told of one input is one thing: one status and one text.
-use Rattle.std.proofs.Common.{◌≡◌, ℕ, Bool, true, false, if◌then◌else◌, List, [], ◌∷◌, Option, Some, None, is_some, unwrap_or, nat_le, refl, ap, sym, ◌∙◌, subst}
+use Rattle.std.proofs.Common.{◌≡◌, ℕ, Bool, true, false, if◌then◌else◌, List, [], ◌∷◌, Option, Some, None, is_some, length, unwrap_or, nat_le, refl, ap, sym, ◌∙◌, subst}
 use Rattle.std.specs.Prelude.{flat_map}
+use Rattle.std.proofs.lemmas.List.{length-map}
 use Rattle.mo_syntax.specs.declared.place.Broken.{Broken}
 use Rattle.mo_syntax.specs.declared.place.Place.{Place}
 use Rattle.mo_flat.specs.declared.model.FlatModel.{FlatModel}
@@ -33,7 +34,8 @@ use Rattle.mo_front.specs.declared.words.Emit.{Emit}
 use Rattle.mo_front.specs.declared.words.Emit.TheVariants as emit
 use Rattle.mo_front.specs.Emitted.{PhaseBreaks, PhasesBreak, all_passed, this_one, later, ReducedBreaks, no_offsets, given, large, nothing, Writes, flat_text, without_aliases, analysed, Refuses, no_incidence, no_text as no_part, asked_by, derivatives_size, report_refusal, reduced_part, part_text, status_of, is_singular, IsSelected, IsTextOfAliases, no_selection, selection, Selects}
 use Rattle.mo_front.specs.States.{IsSelectionOf, selected_lines}
-use Rattle.mo_front.specs.Told.{Outcome, flat, broken, WritesGiven, Breaks, no_model, no_text, TellsOf, written, refused}
+use Rattle.mo_front.specs.Ladder.{IsSummary, SumsUpGiven, TellsLadder, ladder_names, ladder_path, ladder_texts, summary_line, summed, refused as refused_ladder}
+use Rattle.mo_front.specs.Told.{Outcome, flat, broken, WritesGiven, Breaks, no_model, no_text, TellsOf, TextsGive, line_of_broken, written, refused}
 
 some-is : {A : Type 0} (a b : A) → Some a ≡ Some b → a ≡ b
 some-is a b e = cc
@@ -209,3 +211,40 @@ module _ (Gives : Outcome → Type 0) (once : (o p : Outcome) → Gives o → Gi
   one-told status other text more (refused b breaks is text_is) (written w) = absurd (written-and-broken other more b w breaks)
   one-told status other text more (refused b breaks is text_is) (refused c breaks' is' text_is') =
       (is ∙ sym is', text_is ∙ (ap line (one-break-of b c breaks breaks') ∙ sym text_is'))
+
+-- ---- a ladder
+
+module _ (n : ℕ) (m : FlatModel) where
+  block-count : (r s : Report) → SaySame r s → length r.blocks.0.items ≡ length s.blocks.0.items
+  block-count r s say = sym (length-map r.blocks.0.items (λ block. block.items)) ∙ ap length say.blocks ∙ length-map s.blocks.0.items (λ block. block.items)
+
+  one-line : (r s : Report) → SaySame r s → summary_line n m r ≡ summary_line n m s
+  one-line r s say = rw (say.equations, say.unknowns, say.index, say.freedom, block-count r s say) refl
+
+  one-summary : (text more : List ℕ) → IsSummary n m text → IsSummary n m more → text ≡ more
+  one-summary text more a b = a.is ∙ (one-line a.r b.r (one-report m a.r b.r a.right b.right) ∙ sym b.is)
+
+  summed-no-refusal : (text : List ℕ) (b : Broken) → IsSummary n m text → Refuses emit.Report m b → ⊥
+  summed-no-refusal text b sums (no_incidence not is) = some-none b (sym is ∙ sums.accepted)
+  summed-no-refusal text b sums (no_part s not accepted right breaks) =
+      some-none b (sym (one-break m sums.r s (one-report m sums.r s sums.right right) (asked_by emit.Report).phases None (Some b) sums.passed breaks))
+
+module _ (n : ℕ) (once : (o p : Outcome) → TextsGive ladder_path (ladder_texts n) o → TextsGive ladder_path (ladder_texts n) p → o ≡ p) where
+  abbrev of_ladder : Outcome → Type 0
+  of_ladder = TextsGive ladder_path (ladder_texts n)
+
+  abbrev line : Broken → List ℕ
+  line = line_of_broken ladder_names (ladder_texts n)
+
+  summed-and-broken : (text : List ℕ) (b : Broken) → SumsUpGiven of_ladder n text → Breaks of_ladder emit.Report b → ⊥
+  summed-and-broken text b s (no_model gives) = no-model-broken of_ladder once line emit.Report s.m b s.given gives
+  summed-and-broken text b s (no_text k gives refuses) =
+      summed-no-refusal n s.m text b s.sums (subst (λ (x : FlatModel). Refuses emit.Report x b) (sym (one-model of_ladder once line emit.Report s.m k s.given gives)) refuses)
+
+  pub one-ladder : (status other : Status) (text more : List ℕ) → TellsLadder n status text → TellsLadder n other more → (status ≡ other) × (text ≡ more)
+  one-ladder status other text more (summed s is) (summed t is') =
+      (is ∙ sym is', one-summary n s.m text more s.sums (subst (λ (x : FlatModel). IsSummary n x more) (sym (one-model of_ladder once line emit.Report s.m t.m s.given t.given)) t.sums))
+  one-ladder status other text more (summed s is) (refused_ladder b breaks is' text_is) = absurd (summed-and-broken text b s breaks)
+  one-ladder status other text more (refused_ladder b breaks is text_is) (summed s is') = absurd (summed-and-broken more b s breaks)
+  one-ladder status other text more (refused_ladder b breaks is text_is) (refused_ladder c breaks' is' text_is') =
+      (is ∙ sym is', text_is ∙ (ap line (one-break-of of_ladder once line emit.Report b c breaks breaks') ∙ sym text_is'))

@@ -1,11 +1,8 @@
 pub mod Emitted
 pub mod Files
-pub mod Flat
-pub mod Form
-pub mod Known
+pub mod Ladder
 pub mod Limits
 pub mod Loading
-pub mod Names
 pub mod Refusal
 pub mod Run
 pub mod States

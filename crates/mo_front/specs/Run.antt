@@ -2,21 +2,28 @@
 use Rattle.std.specs.Prelude.{◌≡◌, ℕ, List, map, Option, Some, Contains, string_bytes}
 use Rattle.std.specs.declared.string.String.{String}
 use Rattle.std.specs.declared.alloc.Global.{Global}
+use Rattle.mo_syntax.specs.declared.text.Path.{Path}
 use Rattle.mo_ports.specs.Contents.{Contents}
 use Rattle.mo_ports.specs.Written.{AppendsFront, appended}
 use Rattle.mo_front.specs.declared.status.Status.{Status}
 use Rattle.mo_front.specs.declared.status.Status.TheVariants.{Done, Refused, Singular, Usage, ReadFault, WriteFault, NoMemory}
 use Rattle.mo_front.specs.Told.{Tells}
 use Rattle.mo_front.specs.declared.words.Emit.{Emit}
+use Rattle.mo_front.specs.declared.words.Words.{Words}
+use Rattle.mo_front.specs.declared.words.Words.TheVariants.{Job, Make}
+use Rattle.mo_front.specs.Ladder.{TellsLadder}
 use Rattle.mo_front.specs.Words.{Names}
 
--- the words name a class and files and ask for a text, and of these the text is told with this status
+-- what is told of what the words ask for
+abbrev pub TellsAsked : Words → Contents → Status → List ℕ → Type 0
+TellsAsked (Job class emit files) contents status text = Tells class.0 emit files contents status text
+TellsAsked (Make n) contents status text = TellsLadder n status text
+
+-- the words ask for something, and of that the text is told with this status
 pub record TellsWords (words : List (List ℕ)) (contents : Contents) (status : Status) (text : List ℕ) : Type 0 where
-  pub path : List (List ℕ)
-  pub files : List (List ℕ)
-  pub emit : Emit
-  pub names : Names words path emit files
-  pub tells : Tells path emit files contents status text
+  pub asked : Words
+  pub names : Names words asked
+  pub tells : TellsAsked asked contents status text
 
 -- the statuses that come with a text
 abbrev pub IsAnswer : Status → Type 0
@@ -73,8 +80,8 @@ pub record IsNamedFault (failed : Option (List ℕ)) (names : List (List ℕ)) :
 
 -- it is one of the files that the words name
 pub record NamesFault (words : List (List ℕ)) (failed : Option (List ℕ)) : Type 0 where
-  pub path : List (List ℕ)
-  pub files : List (List ℕ)
+  pub class : Path
   pub emit : Emit
-  pub names : Names words path emit files
+  pub files : List (List ℕ)
+  pub names : Names words (Job class emit files)
   pub fault : IsNamedFault failed files

@@ -1,5 +1,5 @@
--- The words of the command line: the name of a class, what is to be written, and the files.
-use Rattle.std.specs.Prelude.{◌≡◌, ℕ, ◌==◌, ◌&&◌, ◌≤◌, Bool, true, false, List, [], ◌∷◌, ◌++◌, length, codes, Option, Some}
+-- The words of the command line: the name of a class, what is to be written, and the files; or the number of rungs of a ladder.
+use Rattle.std.specs.Prelude.{◌≡◌, ℕ, ◌==◌, ◌&&◌, ◌≤◌, Bool, true, false, List, [], ◌∷◌, ◌++◌, length, codes, IsTrue, Option, Some}
 use Rattle.std.specs.Prelude.{None, if◌then◌else◌}
 use Rattle.std.specs.List.{flat_map}
 use Rattle.clap.specs.declared.builder.action.ArgAction.TheVariants.{Append}
@@ -9,10 +9,12 @@ use Rattle.mo_syntax.specs.declared.token.TokenKind.TheVariants.{Ident, Operator
 use Rattle.mo_syntax.specs.declared.token.TokenKind.{TokenKind}
 use Rattle.mo_syntax.specs.Lexeme.{Lexeme}
 use Rattle.mo_lexer.specs.Lexing.{Lexes}
+use Rattle.mo_lexer.specs.Spelling.{are_digits}
+use Rattle.mo_grammar.specs.Trees.{digits_after}
 use Rattle.mo_front.specs.declared.words.Emit.{Emit}
 use Rattle.mo_front.specs.declared.words.Emit.TheVariants as emit
 use Rattle.mo_front.specs.declared.words.Words.{Words}
-use Rattle.mo_front.specs.declared.words.Words.TheVariants.{Job}
+use Rattle.mo_front.specs.declared.words.Words.TheVariants.{Job, Make}
 use Rattle.mo_front.specs.Limits.{most_files}
 
 -- ---- the class
@@ -81,54 +83,72 @@ abbrev pub AsksFor : Option (List ℕ) → Emit → Type 0
 AsksFor None e = e ≡ emit.All
 AsksFor (Some word) e = word ≡ word_of e
 
+-- ---- the rungs of a ladder
+
+-- from one to four decimal digits, whose value is a number from 1 to 1000
+pub record NamesRungs (word : List ℕ) (n : ℕ) : Type 0 where
+  pub digits : IsTrue (are_digits word)
+  pub few : length word ≤ 4
+  pub is : n ≡ digits_after 0 word
+  pub low : 1 ≤ n
+  pub high : n ≤ 1000
+
 -- ---- the command
 
--- `--class NAME`, which must be given
+-- `--class NAME`, which may be given
 abbrev pub class_option : Rule
-class_option = record (new_rule (codes "class")) { long = Some (codes "class"); required = true }
+class_option = record (new_rule (codes "class")) { long = Some (codes "class") }
 
 -- `--emit WORD`, which may be given
 abbrev pub emit_option : Rule
 emit_option = record (new_rule (codes "emit")) { long = Some (codes "emit") }
 
--- `FILE..`, of which one must be given
-abbrev pub file_words : Rule
-file_words = record (new_rule (codes "file")) { action = Some Append; required = true }
+-- `--make N`, which may be given
+abbrev pub make_option : Rule
+make_option = record (new_rule (codes "make")) { long = Some (codes "make") }
 
--- The command, as the crate `clap` reads one: `--class NAME [--emit WORD] FILE..`, where no word is the program's own name
+-- `FILE..`
+abbrev pub file_words : Rule
+file_words = record (new_rule (codes "file")) { action = Some Append }
+
+-- The command, as the crate `clap` reads one: `[--class NAME] [--emit WORD] [--make N] FILE..`, where no word is the program's own name
 -- and none asks for help or for a version. An option has one value and stands once, before, between or behind the files.
 abbrev pub command : App
 command = record {
   top = record (new_shape (codes "mofront")) {
-    rules = class_option ∷ emit_option ∷ file_words ∷ [];
+    rules = class_option ∷ emit_option ∷ make_option ∷ file_words ∷ [];
     no_binary_name = true;
     disable_help_flag = true;
   };
   subs = [];
 }
 
--- What the command's options and files, by what was given of each, ask for: the class of that path, what is to be written,
--- and from 1 to 64 files.
-pub record Asks (given : List Row) (path : List (List ℕ)) (emit : Emit) (files : List (List ℕ)) : Type 0 where
+-- The first form: the class of that path, what is to be written, and from 1 to 64 files.
+pub record AsksForClass (given : List Row) (path : List (List ℕ)) (emit : Emit) (files : List (List ℕ)) : Type 0 where
   pub class : List ℕ
   pub class_given : first_of (codes "class") given ≡ Some class
   pub names_class : NamesClass class path
   pub asks_for : AsksFor (first_of (codes "emit") given) emit
+  pub no_ladder : first_of (codes "make") given ≡ None
   pub files_given : all_of (codes "file") given ≡ Some files
   pub some : 1 ≤ length files
   pub few : length files ≤ most_files
 
+-- The second form: a ladder of so many rungs, and nothing else.
+pub record AsksForLadder (given : List Row) (n : ℕ) : Type 0 where
+  pub word : List ℕ
+  pub ladder_given : first_of (codes "make") given ≡ Some word
+  pub names_rungs : NamesRungs word n
+  pub no_class : first_of (codes "class") given ≡ None
+  pub no_emit : first_of (codes "emit") given ≡ None
+  pub no_files : all_of (codes "file") given ≡ None
+
+-- What the command's options and files, by what was given of each, ask for.
+abbrev pub Asks : List Row → Words → Type 0
+Asks given (Job class emit files) = AsksForClass given class.0 emit files
+Asks given (Make n) = AsksForLadder given n
+
 -- The words are those of the command, without a fault, and ask for that.
-pub record Names (words path : List (List ℕ)) (emit : Emit) (files : List (List ℕ)) : Type 0 where
+pub record Names (words : List (List ℕ)) (asked : Words) : Type 0 where
   pub no_fault : fault_of command words ≡ []
-  pub asks : Asks (matches_of command words) path emit files
-
--- ---- what is read of the words
-
--- options and files ask for what is read
-abbrev pub AsksWords : List Row → Words → Type 0
-AsksWords given (Job class emit files) = Asks given class.0 emit files
-
--- the words ask for what is read
-abbrev pub NamesWords : List (List ℕ) → Words → Type 0
-NamesWords words (Job class emit files) = Names words class.0 emit files
+  pub asks : Asks (matches_of command words) asked

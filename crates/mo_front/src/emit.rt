@@ -144,7 +144,7 @@ fn selected(
 
 /// Asks phases one after another, or gives the first rule that one of them breaks. The text of the reduced model is kept, where
 /// one of them makes it.
-fn passed(
+pub(crate) fn passed(
     alloc: Global,
     m: &FlatModel,
     r: &Report,

@@ -2,6 +2,7 @@
 ghost use Rattle.std.specs.Prelude.{◌≡◌, ◌≢◌, ℕ, ◌≤◌, ◌⊎◌, List as Seq, length, IfOk, IfErr, IfSome, All};
 ghost use Rattle.mo_lexer.specs.Lexing.{IfBroken};
 ghost use Rattle.mo_ports.specs.Counts.{Rose};
+ghost use Rattle.mo_front.specs.Ladder.{TellsLadder};
 ghost use Rattle.mo_front.specs.Limits.{most_files, file_limit};
 ghost use Rattle.mo_front.specs.Loading.{TellsTexts};
 ghost use Rattle.mo_front.specs.Run.{IsAnswer, IsNamedFault, IsSilent, NamesFault, TellsWords, WritesTold, WritesFront, words_of};
@@ -10,6 +11,7 @@ ghost use Rattle.mo_front.specs.Words.{Names};
 
 use crate::answer::of_texts;
 use crate::emit::written_of;
+use crate::ladder::ladder_answer;
 use crate::load::{Unread, read_files};
 use crate::refusal::refusal_text;
 use crate::status::Status;
@@ -18,8 +20,9 @@ use mo_ports::{Shelf, Sink, put_all};
 use mo_syntax::{Broken, List, NoMemory, Path, Stop, Text};
 use std::alloc::Global;
 
-/// Runs the program with its words: the name of a class, what is to be written of it, and from 1 to 64 names of files. It
-/// writes that text of the class in these files, or the line that names the first broken rule.
+/// Runs the program with its words: the name of a class, what is to be written of it, and from 1 to 64 names of files; or the
+/// number of rungs of a ladder. It writes that text of the class in these files, or the line with the counts of the ladder; or the line
+/// that names the first broken rule.
 ///
 /// All memory is taken before the first write.
 pub fn run<S: Shelf, W: Sink>(alloc: Global, words: &[String], shelf: &mut S, out: &mut W) -> Status
@@ -29,31 +32,45 @@ pub fn run<S: Shelf, W: Sink>(alloc: Global, words: &[String], shelf: &mut S, ou
     ensures front { result ≡ Status.WriteFault → IfSome (S.told shelf.old) (λ contents. WritesFront (TellsWords (words_of words.now) contents) (W.written out.old) (W.written out.new)) }
 
     // Where each answer comes from. Want of memory is the one free answer.
-    ensures usage { result ≡ Status.Usage → (path files : Seq (Seq ℕ)) → (emit : Emit) → Names (words_of words.now) path emit files → ⊥ }
-    ensures only_usage { ((path files : Seq (Seq ℕ)) → (emit : Emit) → Names (words_of words.now) path emit files → ⊥) → (result ≡ Status.Usage) ⊎ (result ≡ Status.NoMemory) }
-    ensures flat { (path files : Seq (Seq ℕ)) → Names (words_of words.now) path Emit.Flat files → result ≢ Status.Singular }
-    ensures alias { (path files : Seq (Seq ℕ)) → Names (words_of words.now) path Emit.Alias files → result ≢ Status.Singular }
+    ensures usage { result ≡ Status.Usage → (asked : Words) → Names (words_of words.now) asked → ⊥ }
+    ensures only_usage { ((asked : Words) → Names (words_of words.now) asked → ⊥) → (result ≡ Status.Usage) ⊎ (result ≡ Status.NoMemory) }
+    ensures flat { (class : Path) → (files : Seq (Seq ℕ)) → Names (words_of words.now) (Words.Job class Emit.Flat files) → result ≢ Status.Singular }
+    ensures alias { (class : Path) → (files : Seq (Seq ℕ)) → Names (words_of words.now) (Words.Job class Emit.Alias files) → result ≢ Status.Singular }
+    ensures ladder { (n : ℕ) → Names (words_of words.now) (Words.Make n) → (result ≢ Status.Singular) × (result ≢ Status.ReadFault) }
     ensures read { result ≡ Status.ReadFault → Rose (S.faults shelf.old) (S.faults shelf.new) }
     ensures read_name { result ≡ Status.ReadFault → NamesFault (words_of words.now) (S.failed shelf.new) }
     ensures write { result ≡ Status.WriteFault → Rose (W.faults out.old) (W.faults out.new) }
-    ensures complete { (path files : Seq (Seq ℕ)) → (emit : Emit) → Names (words_of words.now) path emit files → (Rose (S.faults shelf.old) (S.faults shelf.new) → ⊥) → (Rose (W.faults out.old) (W.faults out.new) → ⊥) → IsAnswer result ⊎ (result ≡ Status.NoMemory) }
+    ensures complete { (asked : Words) → Names (words_of words.now) asked → (Rose (S.faults shelf.old) (S.faults shelf.new) → ⊥) → (Rose (W.faults out.old) (W.faults out.new) → ⊥) → IsAnswer result ⊎ (result ≡ Status.NoMemory) }
 {
     match read_words(alloc, words) {
-        Ok(asked) => {
-            let (class, emit, files) = parts(asked);
+        Ok(Words::Job { class, emit, files }) => {
             run_job(alloc, &class, emit, files.as_slice(), shelf, out)
         }
+        Ok(Words::Make(n)) => run_ladder(alloc, n, out),
         Err(WordsFault::Usage) => Status::Usage,
         Err(WordsFault::NoMemory) => Status::NoMemory,
     }
 }
 
-/// What the words ask for, in parts.
-fn parts(asked: Words) -> (Path, Emit, List<Text>)
-    ensures { asked ≡ Words.Job result.0 result.1 result.2 }
+/// Runs the program for a ladder of so many rungs.
+fn run_ladder<W: Sink>(alloc: Global, n: u32, out: &mut W) -> Status
+    requires some { 1 ≤ n }
+    requires few { n ≤ 1000 }
+    ensures told { IsAnswer result → WritesTold (TellsLadder n) (W.written out.old) (W.written out.new) result }
+    ensures silent { IsSilent result → W.written out.new ≡ W.written out.old }
+    ensures front { result ≡ Status.WriteFault → WritesFront (TellsLadder n) (W.written out.old) (W.written out.new) }
+    ensures usage { result ≢ Status.Usage }
+    ensures singular { result ≢ Status.Singular }
+    ensures read { result ≢ Status.ReadFault }
+    ensures write { result ≡ Status.WriteFault → Rose (W.faults out.old) (W.faults out.new) }
 {
-    match asked {
-        Words::Job { class, emit, files } => (class, emit, files),
+    let (status, text) = match ladder_answer(alloc, n) {
+        Ok(answer) => answer,
+        Err(_) => return Status::NoMemory,
+    };
+    match put_all(out, text.as_slice()) {
+        Ok(()) => status,
+        Err(_) => Status::WriteFault,
     }
 }
 
@@ -152,14 +169,14 @@ fn written(alloc: Global, class: &Path, emit: Emit, texts: &[Text]) -> Result<(S
 }
 
 /// The bytes of a text.
-fn bytes_of(alloc: Global, text: &Text) -> Result<List<u8>, NoMemory>
+pub(crate) fn bytes_of(alloc: Global, text: &Text) -> Result<List<u8>, NoMemory>
     ensures { IfOk result (λ bytes. bytes ≡ text.now) }
 {
     Ok(List::from_vec(Vec::from_slice(alloc, text.as_str().as_bytes())?))
 }
 
 /// The line of a rule that is broken in files with these texts.
-fn line_of(
+pub(crate) fn line_of(
     alloc: Global,
     files: &[Text],
     texts: &[Text],

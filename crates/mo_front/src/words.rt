@@ -1,12 +1,13 @@
 //! The words of the command line.
-ghost use Rattle.std.specs.Prelude.{◌≡◌, ◌≢◌, ◌++◌, ◌∷◌, [], true, false, List as Seq, ℕ, None, Some, IfOk, IfSome, IsErrOf, OnOk, map, option_map};
+ghost use Rattle.std.specs.Prelude.{◌≡◌, ◌≢◌, ◌++◌, ◌∷◌, [], true, false, List as Seq, ℕ, None, Some, IfOk, IfSome, IsErrOf, OnOk, map, option_map, codes};
 ghost use Rattle.std.specs.List.{flat_map};
 ghost use Rattle.mo_syntax.specs.Lexeme.{lexemes};
 ghost use Rattle.std.specs.String.{string_bytes};
-ghost use Rattle.mo_front.specs.Words.{Asks, AsksFor, AsksWords, Names, NamesClass, NamesWords, command, dotted_names, is_dot, is_end, is_ident, name_alone, name_before_dot, with_dots};
+ghost use Rattle.mo_front.specs.Words.{Asks, AsksFor, Names, NamesClass, command, dotted_names, is_dot, is_end, is_ident, name_alone, name_before_dot, with_dots};
 ghost use Rattle.mo_front.specs.Run.{words_of};
-ghost use Rattle.clap.specs.Words.{app_of, found_of, kind_of, rows_of};
+ghost use Rattle.clap.specs.Words.{app_of, first_value, found_of, kind_of, rows_of};
 
+use crate::rungs::rungs_named;
 use clap::error::ErrorKind;
 use clap::{Arg, ArgAction, ArgMatches, Command};
 use mo_lexer::tokens;
@@ -48,6 +49,8 @@ pub enum Words {
         /// From 1 to 64 names of files.
         files: List<Text>,
     },
+    /// The counts of a ladder of so many rungs, from 1 to 1000.
+    Make(u32),
 }
 
 /// Why the words ask for nothing.
@@ -85,8 +88,8 @@ impl From<NoMemory> for WordsFault {
 /// Reads the words of the command line, without the program's own name. `Usage` exactly where they are of no form that the
 /// program knows; `NoMemory` is the only other answer.
 pub fn read_words(alloc: Global, words: &[String]) -> Result<Words, WordsFault>
-    ensures names { IfOk result (NamesWords (words_of words.now)) }
-    ensures usage { IsErrOf result WordsFault.Usage → (path files : Seq (Seq ℕ)) → (emit : Emit) → Names (words_of words.now) path emit files → ⊥ }
+    ensures names { IfOk result (Names (words_of words.now)) }
+    ensures usage { IsErrOf result WordsFault.Usage → (asked : Words) → Names (words_of words.now) asked → ⊥ }
 {
     match command(alloc)?.try_get_matches_from(words) {
         Ok(matches) => asked(alloc, &matches),
@@ -98,16 +101,16 @@ pub fn read_words(alloc: Global, words: &[String]) -> Result<Words, WordsFault>
 fn command<'a>(alloc: Global) -> Result<Command<'a>, AllocError>
     ensures { IfOk result (λ made. app_of made ≡ command) }
 {
-    let class = Arg::new(alloc, "class").long("class").required(true);
+    let class = Arg::new(alloc, "class").long("class");
     let emit = Arg::new(alloc, "emit").long("emit");
-    let file = Arg::new(alloc, "file")
-        .action(ArgAction::Append)
-        .required(true);
+    let make = Arg::new(alloc, "make").long("make");
+    let file = Arg::new(alloc, "file").action(ArgAction::Append);
     Command::new(alloc, "mofront")
         .no_binary_name(true)
         .disable_help_flag(true)
         .arg(class)?
         .arg(emit)?
+        .arg(make)?
         .arg(file)
 }
 
@@ -124,8 +127,38 @@ fn fault(error: &clap::Error) -> WordsFault
 
 /// What the options and files ask for.
 fn asked(alloc: Global, matches: &ArgMatches<'_>) -> Result<Words, WordsFault>
-    ensures asks { IfOk result (AsksWords (rows_of (found_of matches.now))) }
-    ensures usage { IsErrOf result WordsFault.Usage → (path files : Seq (Seq ℕ)) → (emit : Emit) → Asks (rows_of (found_of matches.now)) path emit files → ⊥ }
+    ensures asks { IfOk result (Asks (rows_of (found_of matches.now))) }
+    ensures usage { IsErrOf result WordsFault.Usage → (asked : Words) → Asks (rows_of (found_of matches.now)) asked → ⊥ }
+{
+    match matches.get_str("make") {
+        Some(word) => ladder_asked(matches, word),
+        None => class_asked(alloc, matches),
+    }
+}
+
+/// What they ask for where that word stands behind `--make`.
+fn ladder_asked(matches: &ArgMatches<'_>, word: &str) -> Result<Words, WordsFault>
+    requires given { Some word.now ≡ first_value (found_of matches.now) (codes "make") }
+    ensures asks { IfOk result (Asks (rows_of (found_of matches.now))) }
+    ensures usage { IsErrOf result WordsFault.Usage → (asked : Words) → Asks (rows_of (found_of matches.now)) asked → ⊥ }
+{
+    if matches.get_str("class").is_some() || matches.get_str("emit").is_some() {
+        return Err(WordsFault::Usage);
+    }
+    if matches.get_raw("file").is_some() {
+        return Err(WordsFault::Usage);
+    }
+    match rungs_named(word) {
+        Some(n) => Ok(Words::Make(n)),
+        None => Err(WordsFault::Usage),
+    }
+}
+
+/// What they ask for where nothing stands behind `--make`.
+fn class_asked(alloc: Global, matches: &ArgMatches<'_>) -> Result<Words, WordsFault>
+    requires no_ladder { first_value (found_of matches.now) (codes "make") ≡ None }
+    ensures asks { IfOk result (Asks (rows_of (found_of matches.now))) }
+    ensures usage { IsErrOf result WordsFault.Usage → (asked : Words) → Asks (rows_of (found_of matches.now)) asked → ⊥ }
 {
     let Some(word) = matches.get_str("class") else {
         return Err(WordsFault::Usage);

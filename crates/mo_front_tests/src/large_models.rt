@@ -77,6 +77,12 @@ fn blanks(alloc: Global, count: u32) -> Result<Ran, NoMemory> {
     run_class(alloc, "M", &["--emit", "flat"], text.as_str(), None)
 }
 
+/// The report on equations that mention 900 unknowns each, past a million entries together.
+fn entries(alloc: Global) -> Result<Ran, NoMemory> {
+    let text = "model M Real x[900]; equation for k in 1:1112 loop sum(x) = k; end for; end M;";
+    run_class(alloc, "M", &["--emit", "report"], text, None)
+}
+
 fn is_refused(rt: &impl Abort, ran: &Ran, line: &str) {
     assert_eq!(rt; ran.text.as_str(), line);
     assert_eq!(rt; ran.status, Status::Refused);
@@ -96,6 +102,13 @@ fn limits_the_report(rt: HostRuntime) -> Result<(), Fail> {
 fn limits_the_flat_model(rt: HostRuntime) -> Result<(), Fail> {
     let many = equations(rt.alloc(), 50_001)?;
     is_refused(&rt, &many, "m.mo:1:7: rule 41: flat model too large\n");
+    Ok(())
+}
+
+#[test]
+fn limits_the_incidence(rt: HostRuntime) -> Result<(), Fail> {
+    let many = entries(rt.alloc())?;
+    is_refused(&rt, &many, "m.mo:1:7: rule 42: incidence too large\n");
     Ok(())
 }
 

@@ -8,6 +8,8 @@ mod causes;
 #[cfg(test)]
 mod flat_rows;
 #[cfg(test)]
+mod ladder_rows;
+#[cfg(test)]
 mod large_models;
 #[cfg(test)]
 mod running;

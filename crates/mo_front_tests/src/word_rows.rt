@@ -35,7 +35,7 @@ const READ: [(&[&str], &str); 9] = [
     ),
     (
         &["--emit", "flat", "--class", "A.B", "a.mo", "b.mo"],
-        "a.mo:1:17: rule 34: outside the profile\n",
+        "model A.B\nend A.B;\n",
     ),
     (
         &["a.mo", "--emit", "all", "b.mo", "--class", "M", "a.mo"],
@@ -43,7 +43,7 @@ const READ: [(&[&str], &str); 9] = [
     ),
     (
         &["--class=A.'b c'", "--emit=reduced", "m.mo"],
-        "m.mo:1:32: rule 34: outside the profile\n",
+        "reduced A.'b c'\nend A.'b c';\n",
     ),
     (&["--class", "M", "--", "--emit", "--"], EVERYTHING),
     (&["--class", "M", "-", "help"], EVERYTHING),

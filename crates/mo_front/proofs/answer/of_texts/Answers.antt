@@ -3,6 +3,7 @@ use Rattle.std.proofs.Common.{map, subst, Ok, Err}
 use Rattle.mo_syntax.specs.Lexeme.{lexemes}
 use Rattle.mo_lexer.specs.Lexing.{IfBroken}
 use Rattle.mo_front.specs.Files.{Trees}
+use Rattle.mo_front.proofs.SoundTrees.{trees_sound}
 use Rattle.mo_front.proofs.Answering.{trees-flat, trees-refusal, no-trees, no-tokens}
 use Rattle.mo_front.proofs.answer.of_texts.Goals as goal
 
@@ -20,3 +21,7 @@ returns-in-Ok-clause-refused c =
 
 pub returns-clause-refused : goal.returns-clause-refused
 returns-clause-refused c = no-tokens _ _ c.all_tokens.result _ c.in-Err.is c.all_tokens.ensures.broken
+
+pub of_trees-requires : goal.of_trees-requires
+of_trees-requires c =
+    record { sound = trees_sound _ _ (subst (λ x. Trees (map lexemes x) (Ok c.in-Ok-all_trees.files)) c.as_slice.ensures c.in-Ok-all_trees.ensures.trees) }

@@ -1,43 +1,62 @@
 -- What is told of words.
-use Rattle.std.proofs.Common.{subst}
-use Rattle.mo_front.specs.Run.{words_of}
-use Rattle.mo_front.specs.Words.{NamesWords}
-use Rattle.mo_front.proofs.Writing.{answered, names-fault, one-emit, words-told, words-front}
+use Rattle.mo_front.specs.declared.words.Words.TheVariants.{Job}
+use Rattle.mo_front.proofs.Writing.{answered, ladder-front, ladder-told, names-fault, one-emit, one-form, words-front, words-told}
 use Rattle.mo_front.proofs.program.run.Goals as goal
 
 pub run_job-requires : goal.run_job-requires
-run_job-requires g c = record { few = rw c.as_slice.ensures (subst (NamesWords (words_of c.args.words.now)) c.parts-class.ensures c.in-Ok.ensures.names).asks.few }
+run_job-requires g c = record { few = rw c.as_slice.ensures (rw c.in-Ok-Job.field-0-is at c.in-Ok-Job.ensures.names).asks.few }
 
-pub returns-in-Ok-clause-told : goal.returns-in-Ok-clause-told
-returns-in-Ok-clause-told g c = λ is_answer.
-    words-told (g.S.Shelf.told c.args.shelf.now) _ _ _ _ _ _ _ (subst (NamesWords (words_of c.args.words.now)) c.parts-class.ensures c.in-Ok.ensures.names) (rw c.as_slice.ensures at (c.run_job.ensures.told is_answer))
+pub returns-in-Ok-Job-clause-told : goal.returns-in-Ok-Job-clause-told
+returns-in-Ok-Job-clause-told g c = λ is_answer.
+    words-told (g.S.Shelf.told c.args.shelf.now) _ _ _ _ (Job c.in-Ok-Job.class c.in-Ok-Job.emit c.in-Ok-Job.files) (rw c.in-Ok-Job.field-0-is at c.in-Ok-Job.ensures.names) (rw c.as_slice.ensures at (c.run_job.ensures.told is_answer))
 
-pub returns-in-Ok-clause-front : goal.returns-in-Ok-clause-front
-returns-in-Ok-clause-front g c = λ fault.
-    words-front (g.S.Shelf.told c.args.shelf.now) _ _ _ _ _ _ (subst (NamesWords (words_of c.args.words.now)) c.parts-class.ensures c.in-Ok.ensures.names) (rw c.as_slice.ensures at (c.run_job.ensures.front fault))
+pub returns-in-Ok-Job-clause-front : goal.returns-in-Ok-Job-clause-front
+returns-in-Ok-Job-clause-front g c = λ fault.
+    words-front (g.S.Shelf.told c.args.shelf.now) _ _ _ (Job c.in-Ok-Job.class c.in-Ok-Job.emit c.in-Ok-Job.files) (rw c.in-Ok-Job.field-0-is at c.in-Ok-Job.ensures.names) (rw c.as_slice.ensures at (c.run_job.ensures.front fault))
 
-pub returns-in-Ok-clause-flat : goal.returns-in-Ok-clause-flat
-returns-in-Ok-clause-flat g c = λ path files names.
-    c.run_job.ensures.flat (one-emit _ _ _ _ _ _ _ (subst (NamesWords (words_of c.args.words.now)) c.parts-class.ensures c.in-Ok.ensures.names) names)
+pub returns-in-Ok-Job-clause-flat : goal.returns-in-Ok-Job-clause-flat
+returns-in-Ok-Job-clause-flat g c = λ class files names. c.run_job.ensures.flat (one-emit _ _ _ _ _ _ _ (rw c.in-Ok-Job.field-0-is at c.in-Ok-Job.ensures.names) names)
 
-pub returns-in-Ok-clause-alias : goal.returns-in-Ok-clause-alias
-returns-in-Ok-clause-alias g c = λ path files names.
-    c.run_job.ensures.alias (one-emit _ _ _ _ _ _ _ (subst (NamesWords (words_of c.args.words.now)) c.parts-class.ensures c.in-Ok.ensures.names) names)
+pub returns-in-Ok-Job-clause-alias : goal.returns-in-Ok-Job-clause-alias
+returns-in-Ok-Job-clause-alias g c = λ class files names. c.run_job.ensures.alias (one-emit _ _ _ _ _ _ _ (rw c.in-Ok-Job.field-0-is at c.in-Ok-Job.ensures.names) names)
 
-pub returns-in-Ok-clause-only_usage : goal.returns-in-Ok-clause-only_usage
-returns-in-Ok-clause-only_usage g c = λ none. absurd (none _ _ _ (subst (NamesWords (words_of c.args.words.now)) c.parts-class.ensures c.in-Ok.ensures.names))
+pub returns-in-Ok-Job-clause-ladder : goal.returns-in-Ok-Job-clause-ladder
+returns-in-Ok-Job-clause-ladder g c = λ n names. one-form _ _ _ _ n (rw c.in-Ok-Job.field-0-is at c.in-Ok-Job.ensures.names) names
 
-pub returns-in-Ok-clause-read_name : goal.returns-in-Ok-clause-read_name
-returns-in-Ok-clause-read_name g c = λ fault.
-    names-fault _ _ _ _ _ (subst (NamesWords (words_of c.args.words.now)) c.parts-class.ensures c.in-Ok.ensures.names) (rw c.as_slice.ensures at (c.run_job.ensures.read_name fault))
+pub returns-in-Ok-Job-clause-only_usage : goal.returns-in-Ok-Job-clause-only_usage
+returns-in-Ok-Job-clause-only_usage g c = λ none. absurd (none _ (rw c.in-Ok-Job.field-0-is at c.in-Ok-Job.ensures.names))
 
-pub returns-in-Ok-clause-complete : goal.returns-in-Ok-clause-complete
-returns-in-Ok-clause-complete g c = λ path files emit names read write.
+pub returns-in-Ok-Job-clause-read_name : goal.returns-in-Ok-Job-clause-read_name
+returns-in-Ok-Job-clause-read_name g c = λ fault.
+    names-fault _ _ _ _ _ (rw c.in-Ok-Job.field-0-is at c.in-Ok-Job.ensures.names) (rw c.as_slice.ensures at (c.run_job.ensures.read_name fault))
+
+pub returns-in-Ok-Job-clause-complete : goal.returns-in-Ok-Job-clause-complete
+returns-in-Ok-Job-clause-complete g c = λ asked names read write.
     answered c.run_job.result c.run_job.ensures.usage (λ e. read (c.run_job.ensures.read e)) (λ e. write (c.run_job.ensures.write e))
 
-pub returns-in-Err-Usage-clause-usage : goal.returns-in-Err-Usage-clause-usage
-returns-in-Err-Usage-clause-usage g c = λ _ path files emit names. c.read_words.ensures.usage (rw c.in-Err-Usage.field-0-is at c.in-Err-Usage.is) path files emit names
+pub run_ladder-requires : goal.run_ladder-requires
+run_ladder-requires g c = record { some = (rw c.in-Ok-Make.field-0-is at c.in-Ok-Make.ensures.names).asks.names_rungs.low; few = (rw c.in-Ok-Make.field-0-is at c.in-Ok-Make.ensures.names).asks.names_rungs.high }
 
-pub returns-in-Err-Usage-clause-complete : goal.returns-in-Err-Usage-clause-complete
-returns-in-Err-Usage-clause-complete g c = λ path files emit names read write.
-    absurd (c.read_words.ensures.usage (rw c.in-Err-Usage.field-0-is at c.in-Err-Usage.is) path files emit names)
+pub returns-in-Ok-Make-clause-told : goal.returns-in-Ok-Make-clause-told
+returns-in-Ok-Make-clause-told g c = λ is_answer.
+    ladder-told (g.S.Shelf.told c.args.shelf.now) _ _ _ _ c.in-Ok-Make.n (rw c.in-Ok-Make.field-0-is at c.in-Ok-Make.ensures.names) (c.run_ladder.ensures.told is_answer)
+
+pub returns-in-Ok-Make-clause-front : goal.returns-in-Ok-Make-clause-front
+returns-in-Ok-Make-clause-front g c = λ fault.
+    ladder-front (g.S.Shelf.told c.args.shelf.now) _ _ _ c.in-Ok-Make.n (rw c.in-Ok-Make.field-0-is at c.in-Ok-Make.ensures.names) (c.run_ladder.ensures.front fault)
+
+pub returns-in-Ok-Make-clause-flat : goal.returns-in-Ok-Make-clause-flat
+returns-in-Ok-Make-clause-flat g c = λ class files names. one-form _ class _ files c.in-Ok-Make.n names (rw c.in-Ok-Make.field-0-is at c.in-Ok-Make.ensures.names)
+
+pub returns-in-Ok-Make-clause-alias : goal.returns-in-Ok-Make-clause-alias
+returns-in-Ok-Make-clause-alias g c = λ class files names. one-form _ class _ files c.in-Ok-Make.n names (rw c.in-Ok-Make.field-0-is at c.in-Ok-Make.ensures.names)
+
+pub returns-in-Ok-Make-clause-ladder : goal.returns-in-Ok-Make-clause-ladder
+returns-in-Ok-Make-clause-ladder g c = λ n names. (c.run_ladder.ensures.singular, c.run_ladder.ensures.read)
+
+pub returns-in-Ok-Make-clause-only_usage : goal.returns-in-Ok-Make-clause-only_usage
+returns-in-Ok-Make-clause-only_usage g c = λ none. absurd (none _ (rw c.in-Ok-Make.field-0-is at c.in-Ok-Make.ensures.names))
+
+pub returns-in-Ok-Make-clause-complete : goal.returns-in-Ok-Make-clause-complete
+returns-in-Ok-Make-clause-complete g c = λ asked names read write.
+    answered c.run_ladder.result c.run_ladder.ensures.usage (λ e. absurd (c.run_ladder.ensures.read e)) (λ e. write (c.run_ladder.ensures.write e))

@@ -1,0 +1,76 @@
+-- From what the text of a ladder gives to what is told of it.
+use Rattle.std.proofs.Common.{◌≡◌, ◌++◌, ℕ, List, Some, None, Result, Ok, Err, IfOk, OnOk, refl, ap, ◌∙◌, subst}
+use Rattle.std.proofs.lemmas.List.{append_assoc}
+use Rattle.mo_syntax.specs.declared.place.Broken.{Broken}
+use Rattle.mo_syntax.specs.declared.place.Stop.{Stop}
+use Rattle.mo_syntax.specs.declared.place.Stop.TheVariants.{Broken as broken_by, NoMemory as no_memory}
+use Rattle.mo_lexer.specs.Lexing.{IfBroken}
+use Rattle.mo_flat.specs.declared.model.FlatModel.{FlatModel}
+use Rattle.mo_incidence.specs.Model.{refusal_of}
+use Rattle.mo_report.specs.declared.report.Report.{Report}
+use Rattle.mo_report.specs.Right.{IsRightReport}
+use Rattle.mo_front.specs.declared.status.Status.{Status}
+use Rattle.mo_front.specs.declared.status.Status.TheVariants.{Refused, Singular}
+use Rattle.mo_front.specs.declared.words.Emit.TheVariants as emit
+use Rattle.mo_front.specs.Emitted.{PhasesBreak, Refuses, asked_by, no_text as no_part}
+use Rattle.mo_front.specs.Ladder.{IsSummary, SumsUpGiven, TellsLadder, ladder_names, ladder_path, ladder_texts, refused, summary_line, summed}
+use Rattle.mo_front.specs.Run.{IsAnswer}
+use Rattle.mo_front.specs.Told.{Breaks, TextsGive, broken, flat, line_of_broken, no_model, no_text}
+
+report-no-flat : emit.Report ≡ emit.Flat → ⊥
+report-no-flat e = cc
+
+-- three texts at the end, one behind the other
+pub behind-three : (s p q r a b c : List ℕ) → p ≡ s ++ a → q ≡ p ++ b → r ≡ q ++ c → r ≡ s ++ ((a ++ b) ++ c)
+behind-three s p q r a b c first second third =
+    third ∙ ap (λ (x : List ℕ). x ++ c) (second ∙ ap (λ (x : List ℕ). x ++ b) first ∙ append_assoc s a b) ∙ append_assoc s (a ++ b) c
+
+-- ---- by a right report
+
+module _ (n : ℕ) (m : FlatModel) (r : Report) (accepted : refusal_of m ≡ None) (right : IsRightReport m r) where
+  pub summed-up : (t : Result (List ℕ) Stop) → OnOk t (PhasesBreak m r (asked_by emit.Report).phases None) → IfOk t (λ text. text ≡ summary_line n m r) → IfOk t (IsSummary n m)
+  summed-up (Ok text) passed is = record { r = r; accepted = accepted; right = right; passed = passed; is = is }
+  summed-up (Err s) passed is = tt
+
+  pub report-refused : (t : Result (List ℕ) Stop) → IfBroken t (λ b. PhasesBreak m r (asked_by emit.Report).phases (Some b)) → IfBroken t (λ b. Refuses emit.Report m b)
+  report-refused (Ok text) was = tt
+  report-refused (Err (broken_by b)) was = no_part r report-no-flat accepted right was
+  report-refused (Err no_memory) was = tt
+
+-- ---- of what the text gives
+
+module _ (n : ℕ) (path texts : List (List ℕ)) (class : path ≡ ladder_path) where
+  module _ (m : FlatModel) (gives : TextsGive path texts (flat m)) where
+    ladder-gives : TextsGive ladder_path texts (flat m)
+    ladder-gives = subst (λ (p : List (List ℕ)). TextsGive p texts (flat m)) class gives
+
+    pub sums-given : (t : Result (List ℕ) Stop) → IfOk t (IsSummary n m) → IfOk t (SumsUpGiven (TextsGive ladder_path texts) n)
+    sums-given (Ok text) sums = record { m = m; given = ladder-gives; sums = sums }
+    sums-given (Err s) sums = tt
+
+    pub refused-given : (t : Result (List ℕ) Stop) → IfBroken t (λ b. Refuses emit.Report m b) → IfBroken t (λ b. Breaks (TextsGive ladder_path texts) emit.Report b)
+    refused-given (Ok text) refuses = tt
+    refused-given (Err (broken_by b)) refuses = no_text m ladder-gives refuses
+    refused-given (Err no_memory) refuses = tt
+
+  pub refused-before : (r : Result FlatModel Stop) (s : Stop) → r ≡ Err s → IfBroken r (λ b. TextsGive path texts (broken b))
+      → IfBroken {T = List ℕ} (Err s) (λ b. Breaks (TextsGive ladder_path texts) emit.Report b)
+  refused-before r s is was = at s (rw is at was)
+    where
+      at : (s : Stop) → IfBroken {T = FlatModel} (Err s) (λ b. TextsGive path texts (broken b)) → IfBroken {T = List ℕ} (Err s) (λ b. Breaks (TextsGive ladder_path texts) emit.Report b)
+      at (broken_by b) was = no_model (subst (λ (p : List (List ℕ)). TextsGive p texts (broken b)) class was)
+      at no_memory was = tt
+
+-- ---- what is told
+
+-- the line of a rule that the text breaks
+pub told-line : (n : ℕ) (texts others : List (List ℕ)) → texts ≡ ladder_texts n → others ≡ ladder_texts n → (b : Broken) (bytes : List ℕ) → bytes ≡ line_of_broken ladder_names others b
+    → Breaks (TextsGive ladder_path texts) emit.Report b → TellsLadder n Refused bytes
+told-line n texts others same also b bytes is breaks =
+    refused b (subst (λ (x : List (List ℕ)). Breaks (TextsGive ladder_path x) emit.Report b) same breaks) refl
+    (subst (λ (x : List (List ℕ)). bytes ≡ line_of_broken ladder_names x b) also is)
+
+-- a ladder is done or refused
+pub ladder-status : (n : ℕ) (status : Status) (text : List ℕ) → TellsLadder n status text → IsAnswer status × (status ≡ Singular → ⊥)
+ladder-status n status text (summed sums is) = (rw is tt, λ (e : status ≡ Singular). cc)
+ladder-status n status text (refused b breaks is text_is) = (rw is tt, λ (e : status ≡ Singular). cc)
