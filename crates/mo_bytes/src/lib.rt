@@ -1,0 +1,14 @@
+//! Where what is told of named files stands: the place of each broken rule is a byte of one of them, and so are the places in the flat
+//! model. Only that no class has the asked path is told on the command line.
+//!
+//! A tree of a file has places of tokens alone (`proofs/laws/Trees.antt`, by induction over all productions of the grammar), tokens begin at
+//! bytes of their text, and what names, values, instances and equations answer stands in the trees (mo_places).
+//!
+//! - [`refusals_stand`]: the first rule that is broken on the way to the flat model.
+//! - [`models_stand`]: the flat model.
+//! - [`told_refusals_stand`]: the first rule that is broken on the way to what is written.
+#![tactic(auto)]
+
+mod stated;
+
+pub use stated::{models_stand, refusals_stand, told_refusals_stand};

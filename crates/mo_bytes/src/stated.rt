@@ -1,0 +1,19 @@
+//! The laws of bytes. Each function does nothing: its contract is the law.
+ghost use Rattle.mo_bytes.specs.Laws.{ModelsStand, RefusalsStand, ToldRefusalsStand};
+
+/// The first rule that named files break, asked for a class, is broken at a byte of one of them, from 0 to its length, or it is rule 11 on
+/// the command line.
+pub fn refusals_stand()
+    ensures { RefusalsStand }
+{}
+
+/// The flat model that named files give, its variables and its equations stand at bytes of the files.
+pub fn models_stand()
+    ensures { ModelsStand }
+{}
+
+/// The first rule that is broken on the way to what is asked for of named files is broken at such a byte, or it is rule 11 on the command
+/// line.
+pub fn told_refusals_stand()
+    ensures { ToldRefusalsStand }
+{}
