@@ -13,27 +13,46 @@ fn push_number(text: &mut String, name: &str, number: u32) -> Result<(), NoMemor
     Ok(())
 }
 
-/// Puts an equation at the end in which an unknown is the derivative of another one.
-fn push_link(text: &mut String, number: u32, before: u32) -> Result<(), NoMemory> {
-    push_number(text, " x", number)?;
-    push_number(text, " = der(x", before)?;
-    text.push_str(");")?;
+/// Puts two classes at the end that extend the class of the number before, and one that extends both.
+fn push_diamond(text: &mut String, number: u32, before: u32) -> Result<(), NoMemory> {
+    push_number(text, " model L", number)?;
+    push_number(text, " extends C", before)?;
+    push_number(text, "; end L", number)?;
+    push_number(text, "; model R", number)?;
+    push_number(text, " extends C", before)?;
+    push_number(text, "; end R", number)?;
+    push_number(text, "; model C", number)?;
+    push_number(text, " extends L", number)?;
+    push_number(text, "; extends R", number)?;
+    push_number(text, "; end C", number)?;
+    text.push_str(";")?;
     Ok(())
 }
 
-/// Puts a class at the end with so many unknowns, the first of which is the time and each other one the derivative of the one
-/// before.
-fn push_derivatives(text: &mut String, count: u32) -> Result<(), NoMemory> {
-    text.push_str("model M")?;
-    for number in 0..count {
-        push_number(text, " Real x", number)?;
-        text.push_str(";")?;
+/// Puts so many diamonds at the end, one upon another.
+fn push_diamonds(text: &mut String, count: u32) -> Result<(), NoMemory> {
+    text.push_str("model C0 Real x = 1.0; end C0;")?;
+    for before in 0..count {
+        push_diamond(text, before.saturating_add(1), before)?;
     }
-    text.push_str(" equation x0 = time;")?;
-    for number in 1..count {
-        push_link(text, number, number - 1)?;
+    Ok(())
+}
+
+/// Puts so many of a piece at the end.
+fn push_all(text: &mut String, piece: &str, count: u32) -> Result<(), NoMemory> {
+    for _ in 0..count {
+        text.push_str(piece)?;
     }
-    text.push_str(" end M;")?;
+    Ok(())
+}
+
+/// Puts a class at the end with a number within so many parentheses.
+fn push_nested(text: &mut String, depth: u32) -> Result<(), NoMemory> {
+    text.push_str("model M Real x; equation x = ")?;
+    push_all(text, "(", depth)?;
+    text.push_str("1.0")?;
+    push_all(text, ")", depth)?;
+    text.push_str("; end M;")?;
     Ok(())
 }
 
@@ -47,19 +66,23 @@ fn push_equations(text: &mut String, count: u32) -> Result<(), NoMemory> {
     Ok(())
 }
 
-/// Puts so many blanks at the end.
-fn push_blanks(text: &mut String, count: u32) -> Result<(), NoMemory> {
-    for _ in 0..count {
-        text.push_str(" ")?;
-    }
-    Ok(())
+/// The report on unknowns each of which but the first is the derivative of the one before.
+fn derivatives(alloc: Global, text: &str) -> Result<Ran, NoMemory> {
+    run_class(alloc, "M", &["--emit", "report"], text, None)
 }
 
-/// The report on as many unknowns, each but the first the derivative of the one before.
-fn derivatives(alloc: Global, count: u32) -> Result<Ran, NoMemory> {
+/// The flat text of the class upon so many diamonds.
+fn diamonds(alloc: Global, class: &str, count: u32) -> Result<Ran, NoMemory> {
     let mut text = String::new(alloc);
-    push_derivatives(&mut text, count)?;
-    run_class(alloc, "M", &["--emit", "report"], text.as_str(), None)
+    push_diamonds(&mut text, count)?;
+    run_class(alloc, class, &["--emit", "flat"], text.as_str(), None)
+}
+
+/// The flat text of a class with a number within so many parentheses.
+fn nested(alloc: Global, depth: u32) -> Result<Ran, NoMemory> {
+    let mut text = String::new(alloc);
+    push_nested(&mut text, depth)?;
+    run_class(alloc, "M", &["--emit", "flat"], text.as_str(), None)
 }
 
 /// The flat text of a class with so many equations.
@@ -72,7 +95,7 @@ fn equations(alloc: Global, count: u32) -> Result<Ran, NoMemory> {
 /// The flat text of a class in a file of so many blanks more.
 fn blanks(alloc: Global, count: u32) -> Result<Ran, NoMemory> {
     let mut text = String::new(alloc);
-    push_blanks(&mut text, count)?;
+    push_all(&mut text, " ", count)?;
     text.push_str("model M end M;")?;
     run_class(alloc, "M", &["--emit", "flat"], text.as_str(), None)
 }
@@ -90,10 +113,16 @@ fn is_refused(rt: &impl Abort, ran: &Ran, line: &str) {
 
 #[test]
 fn limits_the_report(rt: HostRuntime) -> Result<(), Fail> {
-    let few = derivatives(rt.alloc(), 100)?;
+    let few = derivatives(
+        rt.alloc(),
+        "model M Real x[100]; equation x[1] = time; for i in 2:100 loop x[i] = der(x[i-1]); end for; end M;",
+    )?;
     assert!(rt; few.text.as_str().ends_with("index 100\nfreedom 0\n"));
     assert_eq!(rt; few.status, Status::Done);
-    let many = derivatives(rt.alloc(), 400)?;
+    let many = derivatives(
+        rt.alloc(),
+        "model M Real x[400]; equation x[1] = time; for i in 2:400 loop x[i] = der(x[i-1]); end for; end M;",
+    )?;
     is_refused(&rt, &many, "m.mo:1:7: rule 44: result too large\n");
     Ok(())
 }
@@ -118,5 +147,28 @@ fn limits_a_file(rt: HostRuntime) -> Result<(), Fail> {
     assert_eq!(rt; most.text.as_str(), "model M\nend M;\n");
     let more = blanks(rt.alloc(), 4_194_304 - 13)?;
     is_refused(&rt, &more, "m.mo:1:1: rule 1: file too long\n");
+    Ok(())
+}
+
+#[test]
+fn limits_parentheses(rt: HostRuntime) -> Result<(), Fail> {
+    let most = nested(rt.alloc(), 127)?;
+    assert_eq!(rt;
+        most.text.as_str(),
+        "model M\n  Real x;\nequation\n  x = 1.0;\nend M;\n"
+    );
+    let more = nested(rt.alloc(), 128)?;
+    is_refused(&rt, &more, "m.mo:1:157: rule 8: nesting too deep\n");
+    Ok(())
+}
+
+#[test]
+fn finds_the_one_element_of_diamonds(rt: HostRuntime) -> Result<(), Fail> {
+    let ran = diamonds(rt.alloc(), "C32", 32)?;
+    assert_eq!(rt;
+        ran.text.as_str(),
+        "model C32\n  Real x;\nequation\n  x = 1.0;\nend C32;\n"
+    );
+    assert_eq!(rt; ran.status, Status::Done);
     Ok(())
 }

@@ -6,6 +6,8 @@
 #[cfg(test)]
 mod causes;
 #[cfg(test)]
+mod device_rows;
+#[cfg(test)]
 mod flat_rows;
 #[cfg(test)]
 mod ladder_rows;
@@ -17,3 +19,5 @@ mod running;
 mod structure_rows;
 #[cfg(test)]
 mod word_rows;
+#[cfg(test)]
+mod worked_rows;

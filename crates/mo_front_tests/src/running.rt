@@ -78,8 +78,8 @@ pub(crate) struct Ran {
     pub text: Text,
 }
 
-/// A run over files, with a shelf that gives 4096 bytes a read and a sink that has room for a megabyte and takes 16 bytes a
-/// write, where these reads and writes fail.
+/// A run over files, with a shelf that gives 4096 bytes a read and a sink that has room for two megabytes and takes 16 bytes
+/// a write, where these reads and writes fail.
 pub(crate) fn run_over(
     alloc: Global,
     words: &[String],
@@ -87,14 +87,15 @@ pub(crate) fn run_over(
     reads: List<u64>,
     writes: List<u64>,
 ) -> Result<Ran, NoMemory> {
-    let mut sink = MemorySink::new(alloc, 1_000_000, 16, writes)?;
+    let mut sink = MemorySink::new(alloc, 2_000_000, 16, writes)?;
     let mut shelf = MemoryShelf::new(files, 4096, reads);
     let status = run(alloc, words, &mut shelf, &mut sink);
     let text = written(alloc, &sink)?;
     Ok(Ran { status, text })
 }
 
-fn written(alloc: Global, sink: &MemorySink) -> Result<Text, NoMemory> {
+/// The text that was written to a sink.
+pub(crate) fn written(alloc: Global, sink: &MemorySink) -> Result<Text, NoMemory> {
     match str::from_utf8(sink.bytes()) {
         Ok(text) => Text::from_str(alloc, text),
         Err(_) => Text::from_str(alloc, "no text"),
