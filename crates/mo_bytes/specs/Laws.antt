@@ -6,7 +6,9 @@ use Rattle.mo_flat.specs.declared.model.FlatModel.{FlatModel}
 use Rattle.mo_ports.specs.Contents.{Contents}
 use Rattle.mo_scope.specs.Outcome.{breach}
 use Rattle.mo_front.specs.declared.words.Emit.{Emit}
-use Rattle.mo_front.specs.Told.{FilesGive, Breaks, flat, broken, bytes_of_all}
+use Rattle.mo_front.specs.declared.words.Emit.TheVariants as emit
+use Rattle.mo_front.specs.Ladder.{ladder_path, ladder_texts}
+use Rattle.mo_front.specs.Told.{FilesGive, TextsGive, Breaks, flat, broken, bytes_of_all}
 use Rattle.mo_places.specs.TreeWritten.{nowhere}
 use Rattle.mo_places.specs.MadeStands.{ModelStands}
 use Rattle.mo_bytes.specs.Bytes.{IsByteOfSome}
@@ -30,3 +32,8 @@ ModelsStand =
 abbrev pub ToldRefusalsStand : Type 0
 ToldRefusalsStand =
     (path names : List (List ℕ)) (emit : Emit) (contents : Contents) (b : Broken) → Breaks (FilesGive path names contents) emit b → RefusalStands contents names b
+
+-- and the first rule that is broken on the way to the line of a ladder, at a byte of its text
+abbrev pub LadderRefusalsStand : Type 0
+LadderRefusalsStand =
+    (n : ℕ) (b : Broken) → Breaks (TextsGive ladder_path (ladder_texts n)) emit.Report b → IsByteOfSome 1 (ladder_texts n) b.place ⊎ (b ≡ breach 11 nowhere)

@@ -1,5 +1,5 @@
 //! The laws of bytes. Each function does nothing: its contract is the law.
-ghost use Rattle.mo_bytes.specs.Laws.{ModelsStand, RefusalsStand, ToldRefusalsStand};
+ghost use Rattle.mo_bytes.specs.Laws.{LadderRefusalsStand, ModelsStand, RefusalsStand, ToldRefusalsStand};
 
 /// The first rule that named files break, asked for a class, is broken at a byte of one of them, from 0 to its length, or it is rule 11 on
 /// the command line.
@@ -16,4 +16,10 @@ pub fn models_stand()
 /// line.
 pub fn told_refusals_stand()
     ensures { ToldRefusalsStand }
+{}
+
+/// The first rule that is broken on the way to the line of a ladder is broken at a byte of its text, from 0 to its length, or it is rule 11 on
+/// the command line.
+pub fn ladder_refusals_stand()
+    ensures { LadderRefusalsStand }
 {}

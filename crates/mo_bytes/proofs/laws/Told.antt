@@ -85,12 +85,12 @@ module _ (texts : List (List ℕ)) where
 
   -- ---- texts
 
-  texts_refuse : (path : List (List ℕ)) (b : Broken) → TextsGive path texts (broken_rule b) → Refused b
+  pub texts_refuse : (path : List (List ℕ)) (b : Broken) → TextsGive path texts (broken_rule b) → Refused b
   texts_refuse path b (no_tokens c lexed at) = at_byte b c at (tokens_refused 1 texts c lexed)
   texts_refuse path b (no_trees c tokens lexed grown at) = at_byte b c at (trees_refused 1 texts tokens c grown (tokens_given 1 texts tokens lexed))
   texts_refuse path b (trees tokens files lexed grown gives) = trees_refuse path files (trees_given Q 1 texts tokens files grown (tokens_given 1 texts tokens lexed) (λ place h. h)) b gives
 
-  texts_model : (path : List (List ℕ)) (m : FlatModel) → TextsGive path texts (flat_model m) → ModelStands (HoldsAll Q) m
+  pub texts_model : (path : List (List ℕ)) (m : FlatModel) → TextsGive path texts (flat_model m) → ModelStands (HoldsAll Q) m
   texts_model path m (no_tokens c lexed at) = absurd (let clash : ◌≡◌ {A = Outcome} (flat_model m) (broken_rule c) = at in cc)
   texts_model path m (no_trees c tokens lexed grown at) = absurd (let clash : ◌≡◌ {A = Outcome} (flat_model m) (broken_rule c) = at in cc)
   texts_model path m (trees tokens files lexed grown gives) = trees_model path files (trees_given Q 1 texts tokens files grown (tokens_given 1 texts tokens lexed) (λ place h. h)) m gives
