@@ -100,6 +100,11 @@ fn blanks(alloc: Global, count: u32) -> Result<Ran, NoMemory> {
     run_class(alloc, "M", &["--emit", "flat"], text.as_str(), None)
 }
 
+/// The flat text of a class with loops, whose turns count, those of outer loops too.
+fn turns(alloc: Global, text: &str) -> Result<Ran, NoMemory> {
+    run_class(alloc, "M", &["--emit", "flat"], text, None)
+}
+
 /// The report on equations that mention 900 unknowns each, past a million entries together.
 fn entries(alloc: Global) -> Result<Ran, NoMemory> {
     let text = "model M Real x[900]; equation for k in 1:1112 loop sum(x) = k; end for; end M;";
@@ -131,6 +136,26 @@ fn limits_the_report(rt: HostRuntime) -> Result<(), Fail> {
 fn limits_the_flat_model(rt: HostRuntime) -> Result<(), Fail> {
     let many = equations(rt.alloc(), 50_001)?;
     is_refused(&rt, &many, "m.mo:1:7: rule 41: flat model too large\n");
+    Ok(())
+}
+
+#[test]
+fn takes_the_most_turns_of_loops(rt: HostRuntime) -> Result<(), Fail> {
+    let most = turns(
+        rt.alloc(),
+        "model M equation for i in 1:4000000 loop end for; end M;",
+    )?;
+    assert_eq!(rt; most.text.as_str(), "model M\nend M;\n");
+    Ok(())
+}
+
+#[test]
+fn limits_the_turns_of_loops(rt: HostRuntime) -> Result<(), Fail> {
+    let more = turns(
+        rt.alloc(),
+        "model M equation for i in 1:2000, j in 1:2000 loop end for; end M;",
+    )?;
+    is_refused(&rt, &more, "m.mo:1:7: rule 41: flat model too large\n");
     Ok(())
 }
 
