@@ -1,0 +1,4 @@
+pub mod Identifiers
+pub mod Delimited
+pub mod Named
+pub mod Laws
