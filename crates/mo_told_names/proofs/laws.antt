@@ -1,0 +1,3 @@
+-- The laws, for identifiers.
+pub mod Read
+pub mod Told
