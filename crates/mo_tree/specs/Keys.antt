@@ -1,22 +1,17 @@
--- The key of a declared name. Names with one key are elements of one class, or classes of the top, and have one name.
-use Rattle.std.specs.Prelude.{◌≡◌, ℕ, ◌+◌, ◌/◌, ◌%◌, Bool, List, [], ◌∷◌, ◌++◌, Option, Some, None, map}
+-- The key of a declared name: the number of the class whose element it is, in two halves, and the name. The top has the number 0.
+use Rattle.std.specs.Prelude.{◌≡◌, ℕ, ◌+◌, ◌/◌, ◌%◌, Bool, List, ◌∷◌, ◌++◌, Option, Some, None, map}
 use Rattle.std.specs.List.{list_any}
 use Rattle.std.specs.Str.{bytes_eq}
 use Rattle.mo_syntax.specs.Classes.{Home, Under, Inside, Apart, Declaration, Outline}
 use Rattle.mo_tree.specs.declared.keys.Keys.{Keys}
 use Rattle.mo_tree.specs.declared.names.Name.{Name}
 use Rattle.mo_tree.specs.declared.names.Scope.{Scope}
-use Rattle.mo_tree.specs.declared.names.Scope.TheVariants.{Under as under, Inside as within, Apart as aside}
+use Rattle.mo_tree.specs.declared.names.Scope.TheVariants.{Of as of, Apart as aside}
 
--- names one behind the other, so that no two lists of names are written alike: 0 ends a name, a byte is one more
-abbrev pub encoded : List (List ℕ) → List ℕ
-encoded [] = []
-encoded (name ∷ names) = (map (λ b. b + 1) name ++ 0 ∷ []) ++ encoded names
-
--- None where the name is no element of a class and not at the top
+-- None where the name is no element of a class with a number
 abbrev pub key_in : Home → List ℕ → Option (List ℕ)
-key_in (Under path) name = Some (0 ∷ encoded (path ++ name ∷ []))
-key_in (Inside n) name = Some (1 ∷ n / 65536 ∷ n % 65536 ∷ encoded (name ∷ []))
+key_in (Under path) name = None
+key_in (Inside n) name = Some (n / 65536 ∷ n % 65536 ∷ name)
 key_in Apart name = None
 
 -- a declared name as its key and its place
@@ -30,8 +25,7 @@ Lists part home first before after next = (next ≡ first + part.classes) × (af
 
 -- the home that the code carries
 abbrev pub home_of : Scope → Home
-home_of (under path) = Under path
-home_of (within n) = Inside n
+home_of (of n) = Inside n
 home_of aside = Apart
 
 -- whether a key stands among those that were put in

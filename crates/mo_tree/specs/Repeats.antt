@@ -5,9 +5,9 @@ use Rattle.mo_syntax.specs.declared.class.FileTree.{FileTree}
 use Rattle.mo_syntax.specs.declared.place.Broken.{Broken}
 use Rattle.mo_syntax.specs.declared.place.Place.{Place}
 use Rattle.mo_syntax.specs.declared.text.Path.{Path}
-use Rattle.mo_syntax.specs.Classes.{Apart}
 use Rattle.mo_syntax.specs.ClassTable.{in_file, is_long, class_of_path, otherwise}
 use Rattle.mo_tree.specs.declared.names.Name.{Name}
+use Rattle.mo_tree.specs.Homes.{declared_under, number_of_within}
 use Rattle.mo_tree.specs.Keys.{name_of}
 
 abbrev pub has_key : (List ℕ → Bool) → Option (List ℕ) → Bool
@@ -33,13 +33,14 @@ abbrev pub within_broken : List FileTree → Option (Path × Place) → Option B
 within_broken files None = None
 within_broken files (Some within) = if is_long (class_of_path files within.0.0) then None else Some (record { rule = 10; place = within.1 })
 
--- the names that a file declares, whose first class has that number
-abbrev pub names_in : FileTree → ℕ → List Name
-names_in file n = map name_of ((in_file file).declared Apart n)
+-- the names that a file declares, whose classes are elements of the class with the number home, and whose first class has the number n
+abbrev pub names_in : (home : ℕ) → FileTree → ℕ → List Name
+names_in home file n = map name_of (declared_under home file n)
 
 -- the first broken rule of these files, of which those keys stand before
 abbrev pub files_broken : List FileTree → (List ℕ → Bool) → ℕ → List FileTree → Option Broken
 files_broken all keys n [] = None
 files_broken all keys n (file ∷ files) =
     otherwise (within_broken all file.within)
-    (otherwise (repeated keys (names_in file n)) (files_broken all (with_keys keys (names_in file n)) (n + (in_file file).classes) files))
+    (otherwise (repeated keys (names_in (number_of_within all file.within) file n))
+    (files_broken all (with_keys keys (names_in (number_of_within all file.within) file n)) (n + (in_file file).classes) files))

@@ -1,9 +1,10 @@
 //! The class tree of files, or the first of its rules that they break.
 ghost use Rattle.std.specs.Prelude.{◌≡◌, ◌<◌, List as Seq, ℕ, true, false, IfOk, OnOk, Some, None};
 ghost use Rattle.std.specs.Option.{option_map};
-ghost use Rattle.mo_syntax.specs.ClassTable.{class_count, broken_tree, is_long as is_long_row};
+ghost use Rattle.mo_syntax.specs.ClassTable.{class_count, broken_tree};
 ghost use Rattle.mo_syntax.specs.Refusal.{IfBroken};
 ghost use Rattle.mo_syntax.specs.Rows.{row_of};
+ghost use Rattle.mo_tree.specs.Homes.{long_number, number_of_within};
 ghost use Rattle.mo_tree.specs.Keys.{holds};
 ghost use Rattle.mo_tree.specs.Repeats.{has_key, with_key, with_keys, repeated, within_broken};
 
@@ -35,35 +36,37 @@ fn check(alloc: Global, files: &[FileTree]) -> Result<(), Stop>
     let mut keys = Keys::new(alloc);
     let mut next = 6u32;
     for file in files {
-        check_within(files, file)?;
+        let home = number_of_home(files, file)?;
         let mut names = List::new(alloc);
-        next = file_names(alloc, file, next, &mut names)?;
+        next = file_names(alloc, file, home, next, &mut names)?;
         put_all(&mut keys, names)?;
     }
     Ok(())
 }
 
-/// Ok where the name behind `within` is the path of a long class.
-fn check_within(files: &[FileTree], file: &FileTree) -> Result<(), Stop>
+/// The number of the class whose elements the classes of a file are, 0 where they stand at the top: that of the long class
+/// with the path behind `within`, or rule 10 where there is none.
+fn number_of_home(files: &[FileTree], file: &FileTree) -> Result<u32, Stop>
     requires few { class_count files.now < 4294967290 }
-    ensures accepted { OnOk result (within_broken files.now file.now.within ≡ None) }
+    ensures accepted { IfOk result (λ _. within_broken files.now file.now.within ≡ None) }
+    ensures number { IfOk result (λ home. home ≡ number_of_within files.now file.now.within) }
     ensures refused { IfBroken result (λ broken. within_broken files.now file.now.within ≡ Some broken) }
 {
     let Some((within, place)) = &file.within else {
-        return Ok(());
+        return Ok(0);
     };
-    if is_long(&find_class(files, within.0.as_slice())) {
-        return Ok(());
+    match long_class(&find_class(files, within.0.as_slice())) {
+        Some(number) => Ok(number),
+        None => Err(Stop::Broken(Broken {
+            rule: Rule::new(10),
+            place: *place,
+        })),
     }
-    Err(Stop::Broken(Broken {
-        rule: Rule::new(10),
-        place: *place,
-    }))
 }
 
-/// Whether there is a class, and it is long.
-fn is_long(found: &Option<ClassAt>) -> bool
-    ensures { result ≡ is_long_row (option_map row_of found.now) }
+/// The number of the class, where there is one and it is long.
+fn long_class(found: &Option<ClassAt>) -> Option<u32>
+    ensures { result ≡ long_number (option_map row_of found.now) }
 {
     match found {
         Some(found) => match &found.class.body {
@@ -71,17 +74,17 @@ fn is_long(found: &Option<ClassAt>) -> bool
                 extending: _,
                 items: _,
                 external: _,
-            } => true,
+            } => Some(found.id.0),
             Body::Short {
                 causal: _,
                 base: _,
                 subs: _,
                 mods: _,
-            } => false,
-            Body::Enumeration(_) => false,
-            Body::Der(_, _) => false,
+            } => None,
+            Body::Enumeration(_) => None,
+            Body::Der(_, _) => None,
         },
-        None => false,
+        None => None,
     }
 }
 

@@ -1,7 +1,7 @@
 //! The names that files declare, each with a key that tells whose element it is.
-ghost use Rattle.std.specs.Prelude.{◌≡◌, ◌+◌, ◌/◌, ◌%◌, List as Seq, ℕ, [], ◌∷◌, ◌++◌, map, Some, IfOk, OnOk};
+ghost use Rattle.std.specs.Prelude.{◌≡◌, ◌/◌, ◌%◌, List as Seq, ℕ, ◌∷◌, IfOk};
 ghost use Rattle.mo_syntax.specs.Classes.{inside as home_inside};
-ghost use Rattle.mo_tree.specs.Keys.{encoded, key_in, home_of};
+ghost use Rattle.mo_tree.specs.Keys.{home_of, key_in};
 
 use mo_syntax::{List, NoMemory, Place, Text};
 use std::alloc::Global;
@@ -9,10 +9,8 @@ use std::alloc::Global;
 /// Whose element a name is that is declared there.
 #[derive(Drop)]
 pub(crate) enum Scope {
-    /// Of the class with that path, or of the top where it is empty.
-    Under(List<Text>),
-    /// Of the class with that number, which has no path.
-    Inside(u32),
+    /// Of the class with that number; of the top, where the number is 0.
+    Of(u32),
     /// Of none.
     Apart,
 }
@@ -25,39 +23,13 @@ pub(crate) struct Name {
     pub place: Place,
 }
 
-/// A copy of some names.
-pub(crate) fn path_copy(alloc: Global, names: &[Text]) -> Result<List<Text>, NoMemory>
-    ensures { IfOk result (λ path. path ≡ names.now) }
-{
-    let mut path = List::new(alloc);
-    for name in names {
-        path.push(name.copy(alloc)?)?;
-    }
-    Ok(path)
-}
-
-/// A copy of some names, with one more behind them.
-fn longer_path(alloc: Global, names: &[Text], last: &Text) -> Result<List<Text>, NoMemory>
-    ensures { IfOk result (λ path. path ≡ names.now ++ last.now ∷ []) }
-{
-    let mut path = path_copy(alloc, names)?;
-    path.push(last.copy(alloc)?)?;
-    Ok(path)
-}
-
-/// Where the elements of a class stand that is declared in a scope.
-pub(crate) fn inside(
-    alloc: Global,
-    scope: &Scope,
-    name: &Text,
-    number: u32,
-) -> Result<Scope, NoMemory>
-    ensures { IfOk result (λ s. home_of s ≡ home_inside (home_of scope.now) name.now number) }
+/// Where the elements of a class with that number stand that is declared in a scope.
+pub(crate) fn inside(scope: &Scope, number: u32) -> Scope
+    ensures { (name : Seq ℕ) → home_of result ≡ home_inside (home_of scope.now) name number }
 {
     match scope {
-        Scope::Under(path) => Ok(Scope::Under(longer_path(alloc, path.as_slice(), name)?)),
-        Scope::Inside(_) => Ok(Scope::Inside(number)),
-        Scope::Apart => Ok(Scope::Inside(number)),
+        Scope::Of(_) => Scope::Of(number),
+        Scope::Apart => Scope::Of(number),
     }
 }
 
@@ -70,41 +42,19 @@ pub(crate) fn key_of(
     ensures { IfOk result (λ key. key ≡ key_in (home_of scope.now) name.now) }
 {
     match scope {
-        Scope::Under(path) => Ok(Some(key_under(alloc, path.as_slice(), name)?)),
-        Scope::Inside(number) => Ok(Some(key_inside(alloc, *number, name)?)),
+        Scope::Of(number) => Ok(Some(key_inside(alloc, *number, name)?)),
         Scope::Apart => Ok(None),
     }
 }
 
-fn key_under(alloc: Global, path: &[Text], name: &Text) -> Result<List<u16>, NoMemory>
-    ensures { IfOk result (λ key. key ≡ 0 ∷ encoded (path.now ++ name.now ∷ [])) }
-{
-    let mut key = List::new(alloc);
-    key.push(0)?;
-    for before in path {
-        write_name(&mut key, before)?;
-    }
-    write_name(&mut key, name)?;
-    Ok(key)
-}
-
 fn key_inside(alloc: Global, number: u32, name: &Text) -> Result<List<u16>, NoMemory>
-    ensures { IfOk result (λ key. key ≡ 1 ∷ number / 65536 ∷ number % 65536 ∷ encoded (name.now ∷ [])) }
+    ensures { IfOk result (λ key. key ≡ number / 65536 ∷ number % 65536 ∷ name.now) }
 {
     let mut key = List::new(alloc);
-    key.push(1)?;
     key.push((number / 65536) as u16)?;
     key.push((number % 65536) as u16)?;
-    write_name(&mut key, name)?;
-    Ok(key)
-}
-
-/// Writes a name so that no other one is written alike.
-fn write_name(key: &mut List<u16>, name: &Text) -> Result<(), NoMemory>
-    ensures { OnOk result (key.new ≡ key.old ++ (map (λ b. b + 1) name.now ++ 0 ∷ [])) }
-{
     for b in name.as_str().as_bytes() {
-        key.push(*b as u16 + 1)?;
+        key.push(*b as u16)?;
     }
-    key.push(0)
+    Ok(key)
 }

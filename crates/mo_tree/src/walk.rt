@@ -1,38 +1,34 @@
 //! The names that files declare, in the order of the text.
 ghost use Rattle.std.specs.Prelude.{◌≡◌, ◌++◌, map, true, false, IfOk};
-ghost use Rattle.mo_syntax.specs.Classes.{Under, Apart, each, outline_of_body, outline_of_give, outline_of_item, outline_of_what, outline_of_element};
-ghost use Rattle.mo_syntax.specs.ClassTable.{names_of, in_file};
+ghost use Rattle.mo_syntax.specs.Classes.{Inside, Apart, each, outline_of_body, outline_of_give, outline_of_item, outline_of_what, outline_of_element};
 ghost use Rattle.mo_syntax.specs.Parts.{outline_of_class, outline_of_extending, marked};
 ghost use Rattle.mo_tree.specs.Keys.{home_of, Lists};
 
-use crate::names::{Name, Scope, inside, key_of, path_copy};
+use crate::names::{Name, Scope, inside, key_of};
 use mo_syntax::{
     Argument, Body, ClassDef, Element, FileTree, Give, Item, List, Mods, NoMemory, What,
 };
 use std::alloc::Global;
 
-/// Puts the names that a file declares behind others, where its first class has that number. The answer is the number
-/// behind its last class; a number past the greatest is want of memory.
+/// Puts the names that a file declares behind others, where its classes are elements of the class with that number, or stand at
+/// the top where it is 0, and its first class has the number `first`. The answer is the number behind its last class; a
+/// number past the greatest is want of memory.
 pub(crate) fn file_names(
     alloc: Global,
     file: &FileTree,
+    home: u32,
     first: u32,
     names: &mut List<Name>,
 ) -> Result<u32, NoMemory>
-    ensures { IfOk result (λ next. Lists (in_file file.now) Apart first names.old names.new next) }
+    ensures { IfOk result (λ next. Lists (each (outline_of_class true) file.now.classes) (Inside home) first names.old names.new next) }
 {
-    let scope = file_scope(alloc, file)?;
-    of_classes(alloc, file.classes.as_slice(), &scope, first, names)
-}
-
-/// Where the classes of a file stand.
-fn file_scope(alloc: Global, file: &FileTree) -> Result<Scope, NoMemory>
-    ensures { IfOk result (λ scope. home_of scope ≡ Under (names_of file.now.within)) }
-{
-    match &file.within {
-        Some((within, _)) => Ok(Scope::Under(path_copy(alloc, within.0.as_slice())?)),
-        None => Ok(Scope::Under(List::new(alloc))),
-    }
+    of_classes(
+        alloc,
+        file.classes.as_slice(),
+        &Scope::Of(home),
+        first,
+        names,
+    )
 }
 
 fn of_classes(
@@ -66,7 +62,7 @@ fn of_class(
         key,
         place: class.place,
     })?;
-    let inner = inside(alloc, scope, &class.name, number)?;
+    let inner = inside(scope, number);
     let Some(first) = number.checked_add(1) else {
         return Err(NoMemory);
     };

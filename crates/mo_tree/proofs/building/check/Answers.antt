@@ -12,6 +12,6 @@ pub loop-file-init : goal.loop-file-init
 loop-file-init c = ap (λ k. files_broken c.args.files.now k 6 c.args.files.now) (fun_ext c.new-keys.ensures) ∙ sym (tree_alike c.args.files.now)
 
 pub loop-file-preserved : goal.loop-file-preserved
-loop-file-preserved c = file_fits c.args.files.now _ _ c.file-item.result (holds c.loop-file.keys) (holds c.put_all.new.keys) c.loop-file.next c.in_ok-next.next c.new-names.result c.file_names.new.names
-    (front_of c.args.files.now c.loop-file.file-index c.file-item.result c.loop-file-test.true c.file-item.is) c.in_ok-check_within.ensures.accepted c.new-names.ensures c.in_ok-next.ensures
+loop-file-preserved c = file_fits c.args.files.now _ _ c.file-item.result (holds c.loop-file.keys) (holds c.put_all.new.keys) c.in_ok-home.home c.loop-file.next c.in_ok-next.next c.new-names.result c.file_names.new.names
+    (front_of c.args.files.now c.loop-file.file-index c.file-item.result c.loop-file-test.true c.file-item.is) c.in_ok-home.ensures.accepted c.in_ok-home.ensures.number c.new-names.ensures c.in_ok-next.ensures
     c.in_ok-put_all.ensures.accepted c.in_ok-put_all.ensures.kept ∙ c.loop-file.invariant
