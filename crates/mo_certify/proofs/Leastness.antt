@@ -31,7 +31,7 @@ sum-rest f b n le =
     omega arith
 
 -- t gives each of n numbers another one from 1 to n
-record Permutes (t : ℕ → ℕ) (n : ℕ) : Type 0 where
+pub record Permutes (t : ℕ → ℕ) (n : ℕ) : Type 0 where
   pub known : (i : ℕ) → i < n → (0 < t i) × (t i ≤ n)
   pub apart : (i k : ℕ) → i < n → k < n → t i ≡ t k → i ≡ k
 
@@ -61,14 +61,14 @@ module _ (t : ℕ → ℕ) (n : ℕ) (permutes : Permutes t n) where
       let whole_t : sum_below (λ i. b - f (t i)) n + sum_below (λ i. f (t i)) n ≡ sum_below (λ i. b) n = sum-rest (λ i. f (t i)) b n bound_t in
       omega arith
 
-  reached : (j : ℕ) → 0 < j → j ≤ n → (i : ℕ) × (i < n) × (t i ≡ j)
+  pub reached : (j : ℕ) → 0 < j → j ≤ n → (i : ℕ) × (i < n) × (t i ≡ j)
   reached j pos le =
       let found = onto (λ _. 1) (λ i. t i - 1) n
       (λ i l _. let known = permutes.known i l in (omega (arith, known.0, known.1), omega arith))
       (λ i k il kl _ _. back-apart i k il kl) (j - 1) (omega arith) (omega arith) in
       (found.0, found.1, let again = back-again found.0 found.1 in omega (arith, again, found.3))
 
-tight-entry : (g : Signature) (c d : ℕ → ℕ) (i j : ℕ) → IsTight g c d i j → (k : ℕ) × (k < row_len g i) × (unknown_at g i k ≡ j) × (d j ≡ c i + order_at g i k)
+pub tight-entry : (g : Signature) (c d : ℕ → ℕ) (i j : ℕ) → IsTight g c d i j → (k : ℕ) × (k < row_len g i) × (unknown_at g i k ≡ j) × (d j ≡ c i + order_at g i k)
 unfolding IsTight
 tight-entry g c d i j tight = tight
 
@@ -79,7 +79,7 @@ tight-within g c d c' d' fits i j l tight =
     let fit : c' i + order_at g i entry.0 ≤ d' j = rw entry.2 at (fits.entry i entry.0 l entry.1) in
     omega (arith, entry.3)
 
-assigns-permute : (g : Signature) (c d t : ℕ → ℕ) → IsSound g → equations g ≡ g.unknowns → Assigns (IsTight g c d) (equations g) t → CoversAll g t → Permutes t (equations g)
+pub assigns-permute : (g : Signature) (c d t : ℕ → ℕ) → IsSound g → equations g ≡ g.unknowns → Assigns (IsTight g c d) (equations g) t → CoversAll g t → Permutes t (equations g)
 assigns-permute g c d t sound square assigns covers = record {
   known = λ i l.
       let entry = tight-entry g c d i (t i) (assigns.allowed i l (covers i l)) in
@@ -88,8 +88,8 @@ assigns-permute g c d t sound square assigns covers = record {
   apart = λ i k il kl same. assigns.apart i k il kl (covers i il) same;
 }
 
-module _ (g : Signature) (c d t r : ℕ → ℕ) (sound : IsSound g) (square : equations g ≡ g.unknowns) (fits : Fits g c d)
-    (assigns : Assigns (IsTight g c d) (equations g) t) (covers : CoversAll g t) (why : AreReasons g c d t r)
+module _ (g : Signature) (c d t : ℕ → ℕ) (sound : IsSound g) (square : equations g ≡ g.unknowns) (fits : Fits g c d)
+    (assigns : Assigns (IsTight g c d) (equations g) t) (covers : CoversAll g t)
     (c' d' : ℕ → ℕ) (rival : IsAdmissible g c' d') where
   permutes : Permutes t (equations g)
   permutes = assigns-permute g c d t sound square assigns covers
@@ -104,7 +104,7 @@ module _ (g : Signature) (c d t r : ℕ → ℕ) (sound : IsSound g) (square : e
   there-within i l = tight-within g c' d' c d fits i (rival.tight.0 i) l (rival.tight.1.allowed i l (rival.tight.2 i l))
 
   -- the rival is tight at the same pairs
-  tight-for-both : (i : ℕ) → i < equations g → c' i + d (t i) ≡ d' (t i) + c i
+  pub tight-for-both : (i : ℕ) → i < equations g → c' i + d (t i) ≡ d' (t i) + c i
   tight-for-both =
       let m = equations g in
       let q = rival.tight.0 in
@@ -119,29 +119,37 @@ module _ (g : Signature) (c d t r : ℕ → ℕ) (sound : IsSound g) (square : e
       let other' : sum_below (λ i. d' (q i)) m ≡ sum_below (λ u. d' (u + 1)) m = sum-permuted q m rival-permutes d' in
       terms-same (λ i. c' i + d (t i)) (λ i. d' (t i) + c i) m here-within (omega arith)
 
+  -- where the rival is above at an equation that is tight at the unknown of another one, it is above at that one too
+  pub above-along : (i k : ℕ) → i < equations g → k < equations g → IsTight g c d k (t i) → c k ≤ c' k → c i ≤ c' i
+  above-along i k l known tight lower =
+      let within : c' k + d (t i) ≤ d' (t i) + c k = tight-within g c d c' d' rival.fits k (t i) known tight in
+      omega (arith, tight-for-both i l)
+
+  -- where it is above at all equations, it is above at all unknowns
+  pub above-all : ((i : ℕ) → i < equations g → c i ≤ c' i) → AreBelow g c d c' d'
+  above-all lower = record {
+    equation = lower;
+    unknown = λ j pos le.
+        let paired = reached t (equations g) permutes j pos (omega arith) in
+        let both : c' paired.0 + d j ≡ d' j + c paired.0 = rw paired.2 at (tight-for-both paired.0 paired.1) in
+        let here : c paired.0 ≤ c' paired.0 = lower paired.0 paired.1 in
+        omega arith;
+  }
+
+module _ (g : Signature) (c d t r : ℕ → ℕ) (sound : IsSound g) (square : equations g ≡ g.unknowns) (fits : Fits g c d)
+    (assigns : Assigns (IsTight g c d) (equations g) t) (covers : CoversAll g t) (why : AreReasons g c d t r)
+    (c' d' : ℕ → ℕ) (rival : IsAdmissible g c' d') where
   equation-below : (n i : ℕ) → i < equations g → c (after_reasons r n i) ≡ 0 → c i ≤ c' i
   equation-below zero i l none = let h : c i ≡ 0 = none in omega arith
   equation-below (suc n) i l none = elim (eqb_tells (c i) 0) [
     | inl e ↦ omega (arith, e.1)
     | inr e ↦
         let reason = why.tight i l e.1 in
-        let lower : c (r i) ≤ c' (r i) = equation-below n (r i) reason.0 none in
-        let within : c' (r i) + d (t i) ≤ d' (t i) + c (r i) = tight-within g c d c' d' rival.fits (r i) (t i) reason.0 reason.2 in
-        omega (arith, tight-for-both i l)
+        above-along g c d t sound square fits assigns covers c' d' rival i (r i) l reason.0 reason.2 (equation-below n (r i) reason.0 none)
   ]
 
-  equations-below : (i : ℕ) → i < equations g → c i ≤ c' i
-  equations-below i l = let ends = why.ends i l in equation-below ends.0 i l ends.1
-
-  unknowns-below : (j : ℕ) → 0 < j → j ≤ g.unknowns → d j ≤ d' j
-  unknowns-below j pos le =
-      let paired = reached t (equations g) permutes j pos (omega arith) in
-      let both : c' paired.0 + d j ≡ d' j + c paired.0 = rw paired.2 at (tight-for-both paired.0 paired.1) in
-      let lower : c paired.0 ≤ c' paired.0 = equations-below paired.0 paired.1 in
-      omega arith
-
   below-rival : AreBelow g c d c' d'
-  below-rival = record { equation = equations-below; unknown = unknowns-below }
+  below-rival = above-all g c d t sound square fits assigns covers c' d' rival (λ i l. let ends = why.ends i l in equation-below ends.0 i l ends.1)
 
 shown-least : (g : Signature) (c d pairs : List ℕ) (reasons : List Reason) → IsSound g → AreShownLeast g c d pairs reasons → IsLeast g (by_place c) (by_number d)
 shown-least g c d pairs reasons sound shown = record {

@@ -1,0 +1,6 @@
+use Rattle.mo_verify.specs.Finding.{printed_in}
+use Rattle.mo_verify.proofs.Faulty.{AreTaken}
+use Rattle.mo_verify.proofs.faults.shared.Given as goal
+
+abbrev pub invariant-loop-i : goal.invariant-loop-i
+invariant-loop-i l = AreTaken l.inc (printed_in l.claims) l.owner l.i
