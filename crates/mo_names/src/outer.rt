@@ -1,9 +1,8 @@
 //! Components that are declared `outer` (Modelica Language Specification 3.5, section 5.4).
 #![tactic(auto, using(crate::proofs::Later::later))]
 
-ghost use Rattle.std.specs.Prelude.{◌≡◌, ◌&&◌, find, map, option_map, IfOk, IfSome, Ok};
-ghost use Rattle.std.specs.Str.{bytes_eq};
-ghost use Rattle.mo_scope.specs.Frames.{at_eq, indexed_eq, is_same_element as is_one_element, numbers_eq};
+ghost use Rattle.std.specs.Prelude.{◌≡◌, find, map, option_map, IfOk, IfSome, Ok};
+ghost use Rattle.mo_scope.specs.Frames.{is_same_element as is_one_element};
 ghost use Rattle.mo_scope.specs.Lookup.{Component as found_component};
 ghost use Rattle.mo_scope.specs.Names.{elements_of, inner_of as inner_component, is_inner_for, stands_for as stood_for};
 ghost use Rattle.mo_scope.specs.Outcome.{Gives};
@@ -17,45 +16,9 @@ use crate::free::elements_kept_at;
 use crate::same::is_same_class;
 use crate::stops::stop;
 use crate::walk::Inherited;
-use mo_scope::{Member, MemberTable, Scopes, is_class};
-use mo_syntax::{FrameId, InstancePath, List, Place, Stop, Text};
+use mo_scope::{Member, MemberTable, Scopes, is_class, is_same_path};
+use mo_syntax::{FrameId, Place, Stop, Text};
 use std::alloc::Global;
-
-/// Whether two names of instance paths are one, with one index.
-fn is_same_name(a: &(Text, List<u32>), b: &(Text, List<u32>)) -> bool
-    ensures { result ≡ (bytes_eq a.now.0 b.now.0 && numbers_eq a.now.1 b.now.1) }
-{
-    if !a.0.equals(&b.0) {
-        return false;
-    }
-    a.1.as_slice() == b.1.as_slice()
-}
-
-/// Whether two instance paths have the same names with the same indices.
-fn are_same_names(a: &[(Text, List<u32>)], b: &[(Text, List<u32>)]) -> bool
-    ensures { result ≡ indexed_eq a.now b.now }
-{
-    if a.len() != b.len() {
-        return false;
-    }
-    for i in 0..a.len() {
-        if !is_same_name(&a[i], &b[i]) {
-            return false;
-        }
-    }
-    true
-}
-
-/// Whether two instance paths are one, or both are missing.
-fn is_same_path(a: Option<&InstancePath>, b: Option<&InstancePath>) -> bool
-    ensures { result ≡ at_eq (option_map (λ path. path.now.0) a.entry) (option_map (λ path. path.now.0) b.entry) }
-{
-    match (a, b) {
-        (None, None) => true,
-        (Some(a), Some(b)) => are_same_names(a.0.as_slice(), b.0.as_slice()),
-        _ => false,
-    }
-}
 
 /// Whether two elements are one declaration in one instance.
 fn is_same_element(s: &Scopes, a: &Member, b: &Member) -> bool

@@ -1,6 +1,6 @@
 -- Frames that are found by their class and the frame around it.
 use Rattle.std.proofs.Common.{◌≡◌, ℕ, zero, suc, ◌<◌, ◌⊎◌, inl, inr, Bool, true, false, ◌&&◌, nat_eq, List, [], ◌∷◌, ◌++◌, length, map, take, Option, Some, None, refl, ap, sym, ◌∙◌, subst, arith, eqb-true, eq-eqb}
-use Rattle.std.specs.Prelude.{slice_get, IfSome, IsSome, IsTrue, is_none, is_some, not, option_map, if◌then◌else◌}
+use Rattle.std.specs.Prelude.{slice_get, IfOk, IfSome, IsSome, IsTrue, Result, Ok, Err, is_none, is_some, not, option_map, if◌then◌else◌}
 use Rattle.std.specs.Option.{option_eq}
 use Rattle.std.proofs.lemmas.List.{length-map, map-append}
 use Rattle.mo_scope.specs.Bare.{bare_entry, is_bare, is_around, AreEntered}
@@ -147,6 +147,21 @@ bare_is path number (x ∷ sources) at owner class outer false a o tests is_a is
 bare_is path number [] None None class outer e a o tests is_a is_o = rw (is_a, is_o) (ap (λ b. b && true && true) (tests.1 refl))
 bare_is path number [] None (Some n) class outer e a o tests is_a is_o = rw (is_a, is_o) (ap (λ b. b && true && false) (tests.1 refl))
 bare_is path number [] (Some p) owner class outer e a o tests is_a is_o = rw is_a (ap (λ b. b && false && o) (tests.1 refl))
+
+-- entries of the same parts without sources
+pub that_entry : (sources : List SourceEntry) (class c : ℕ) (outer o : Option ℕ) (at p : Option Indexed) (owner n : Option ℕ) → sources ≡ [] → class ≡ c → outer ≡ o → at ≡ p → owner ≡ n →
+    ◌≡◌ {A = FrameEntry} (record { class = class; sources = sources; outer = outer; at = at; owner = owner }) (record { class = c; sources = []; outer = o; at = p; owner = n })
+that_entry sources class c outer o at p owner n is_sources is_class is_outer is_at is_owner =
+    ap (λ (xs : List SourceEntry). record { class = class; sources = xs; outer = outer; at = at; owner = owner }) is_sources
+    ∙ ap (λ (x : ℕ). record { class = x; sources = []; outer = outer; at = at; owner = owner }) is_class
+    ∙ ap (λ (x : Option ℕ). record { class = c; sources = []; outer = x; at = at; owner = owner }) is_outer
+    ∙ ap (λ (x : Option Indexed). record { class = c; sources = []; outer = o; at = x; owner = owner }) is_at
+    ∙ ap (λ (x : Option ℕ). record { class = c; sources = []; outer = o; at = p; owner = x }) is_owner
+
+-- what is told of a new frame is told of an old or a new one
+pub or_new : {T E : Type 0} (A : Type 0) (B C : T → Type 0) (r : Result T E) → IfOk r B → IfOk r C → IfOk r (λ t. A ⊎ (B t × C t))
+or_new A B C (Ok t) b c = inr (b, c)
+or_new A B C (Err e) b c = tt
 
 -- ---- a frame that is pushed
 

@@ -1,3 +1,4 @@
+pub mod AlikePaths
 pub mod Entering
 pub mod Keys
 pub mod Lists

@@ -235,6 +235,19 @@ pub grows_pushed : {A : Type 0} (seen : A → FrameEntry) (kept : A → Option (
 grows_pushed seen kept files xs ys x w is pushed =
     subst (λ v. Grows v (world seen kept files ys)) is (record { files = refl; more = seen x ∷ []; entries = entries_pushed seen xs ys x pushed })
 
+pub grows_refl : (w : World) → Grows w w
+grows_refl w = record { files = refl; more = []; entries = sym (append_nil w.entries) }
+  where
+    append_nil : (xs : List FrameEntry) → xs ++ [] ≡ xs
+    append_nil [] = refl
+    append_nil (x ∷ xs) = ap (λ ys. x ∷ ys) (append_nil xs)
+
+-- frames that are as they were
+pub grows_same : {A : Type 0} (seen : A → FrameEntry) (kept : A → Option (List MemberEntry)) (files : List FileTree) (xs ys : List A) (w : World) →
+    world seen kept files xs ≡ w → ys ≡ xs → Grows w (world seen kept files ys)
+grows_same seen kept files xs ys w is back =
+    subst (λ zs. Grows w (world seen kept files zs)) (sym back) (subst (λ v. Grows v (world seen kept files xs)) is (grows_refl (world seen kept files xs)))
+
 pub tables_pushed : {A : Type 0} (seen : A → FrameEntry) (kept : A → Option (List MemberEntry)) (files : List FileTree) (xs ys : List A) (x : A) (w : World) →
     world seen kept files xs ≡ w → ys ≡ xs ++ x ∷ [] → kept x ≡ None → map kept ys ≡ w.tables ++ None ∷ []
 tables_pushed seen kept files xs ys x w is pushed none =

@@ -2,7 +2,8 @@
 //! 5.4, 5.6, 7.1 to 7.3 and 13.2).
 //!
 //! - `Scopes`: the classes of the files and frames by number. `row`, `top_class`, `number_at` and `declared` read the
-//!   classes; `enter` makes a frame and `entered` finds one that only looks a class up; `class_of`, `sources`, `outer`,
+//!   classes; `enter` makes a frame, or finds it where it has no sources and was made before, and `entered` finds one that only
+//!   looks a class up; `class_of`, `sources`, `outer`,
 //!   `path` and `owner` read it; `keep` and `table` hold the table of its elements, which `MemberTable` finds by name.
 //! - `Source`: what modifies a class, by reference into the class tree. `pick_here` finds the value that sources give for it, and
 //!   `pick` the one for a path.
@@ -10,7 +11,7 @@
 //!   `component_sources` and `base_sources` make the sources with which an element or a base is entered.
 //! - `Row`, `Declares`, `Member`: a class with what it declares, and an element of a frame. `is_class`, `is_constant`,
 //!   `is_encapsulated`, `is_open` and `component_of` read what is declared.
-//! - `Names`: the first place of each name in a list.
+//! - `Names`: the first place of each name in a list. `is_same_path` compares instance paths.
 //! - `nested_list` and `replacing` read arguments and items; `pending_at` gives the indices behind a name.
 //! - `InstanceTree`, `Instance`, `Leaf`, `Chosen`: the components of a class, as data for what makes them and what reads them.
 //!
@@ -29,6 +30,7 @@ mod instance;
 mod making;
 mod mentions;
 mod names;
+mod paths;
 mod pick_path;
 mod places;
 mod row;
@@ -46,6 +48,7 @@ mod written;
 pub use copies::{copied, copied_scope, extend};
 pub use instance::{Chosen, Instance, InstanceTree, Leaf};
 pub use names::Names;
+pub use paths::is_same_path;
 pub use pick_path::pick;
 pub use row::{Clause, Constraint, Declares, Home, Member, Part, Row, Sort};
 pub use saying::{Redeclaration, nested_list, pending_at, replacing};

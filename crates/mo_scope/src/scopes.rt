@@ -1,5 +1,5 @@
 //! Frames by number, and the tables of their elements.
-ghost use Rattle.std.specs.Prelude.{◌≡◌, List as Seq, ◌+◌, ◌<◌, [], ◌∷◌, ◌++◌, length, map, Some, None, option_map, slice_get, IfOk, IfSome, IsSome, ℕ, OnErr, IsTrue, IsNone, ◌↔◌, set, option_copied, find};
+ghost use Rattle.std.specs.Prelude.{◌≡◌, ◌⊎◌, List as Seq, ◌+◌, ◌<◌, [], ◌∷◌, ◌++◌, length, map, Some, None, option_map, slice_get, IfOk, IfSome, IsSome, ℕ, OnErr, IsTrue, IsNone, ◌↔◌, set, option_copied, find};
 ghost use Rattle.std.specs.Str.{bytes_eq};
 ghost use Rattle.mo_syntax.specs.SoundTree.{IsSoundTree};
 ghost use Rattle.mo_scope.specs.Bare.{bare_entry};
@@ -13,7 +13,7 @@ ghost use Rattle.mo_scope.specs.Worlds.{MemberEntry, IsTable, AreFrames, AreHome
 
 use crate::classes::Classes;
 use crate::declaring::declared_by;
-use crate::entered::Entered;
+use crate::entered::{Entered, standing_of};
 use crate::frame::FrameData;
 use crate::frame_sources::FrameSources;
 use crate::row::{Declares, Row};
@@ -168,8 +168,80 @@ impl<'t> Scopes<'t> {
         self.entered.frame(class, outer)
     }
 
-    /// Enters a class: a new number for that frame. The numbers before keep their frames, after a refusal too.
+    /// The frame with that number, if it is the one with no sources and these other parts.
+    fn compared(
+        &self,
+        frame: FrameId,
+        class: ClassId,
+        outer: Option<FrameId>,
+        at: Option<&InstancePath>,
+        owner: Option<FrameId>,
+    ) -> Option<FrameId>
+        ensures exists { IfSome result (λ frame. IsFrame self.now frame.0) }
+        ensures is { IfSome result (λ frame. frame_at self.now frame.0 ≡ In class.0 (gathered []) (frame_or_top (frames_of self.now) (option_map number_of outer)) (option_map (λ path. path.now.0) at.entry) (frame_or_top (frames_of self.now) (option_map number_of owner))) }
+    {
+        if frame.0 as usize >= self.frames.len() {
+            return None;
+        }
+        if self.entry(frame).is_that(class, outer, at, owner) {
+            Some(frame)
+        } else {
+            None
+        }
+    }
+
+    /// The frame that was entered before with no sources and these other parts, None where it is not at hand.
+    fn entered_before(
+        &self,
+        sources: &List<Source<'t>>,
+        class: ClassId,
+        outer: Option<FrameId>,
+        at: Option<&InstancePath>,
+        owner: Option<FrameId>,
+    ) -> Option<FrameId>
+        ensures none { IfSome result (λ _. sources.now ≡ []) }
+        ensures exists { IfSome result (λ frame. IsFrame self.now frame.0) }
+        ensures is { IfSome result (λ frame. frame_at self.now frame.0 ≡ In class.0 (gathered []) (frame_or_top (frames_of self.now) (option_map number_of outer)) (option_map (λ path. path.now.0) at.entry) (frame_or_top (frames_of self.now) (option_map number_of owner))) }
+    {
+        if !sources.is_empty() {
+            return None;
+        }
+        let standing = standing_of(class, outer, at, owner);
+        match self.entered.noted(&standing) {
+            Some(frame) => self.compared(frame, class, outer, at, owner),
+            None => None,
+        }
+    }
+
+    /// Enters a class: a number for that frame, an old one where it was entered before with no sources, else a new one. The
+    /// numbers before keep their frames, after a refusal too.
     pub fn enter(
+        &mut self,
+        alloc: Global,
+        class: ClassId,
+        sources: List<Source<'t>>,
+        outer: Option<FrameId>,
+        at: Option<InstancePath>,
+        owner: Option<FrameId>,
+    ) -> Result<FrameId, NoMemory>
+        requires class { class.0 < number_of_classes (table_in self.old) }
+        requires sources { AreFrames self.old (map source_seen sources) }
+        requires outer { IsFrameOrNone self.old (option_map number_of outer) }
+        requires owner { IsFrameOrNone self.old (option_map number_of owner) }
+        ensures grows { Grows self.old self.new }
+        ensures number { IfOk result (λ frame. (self.new ≡ self.old) ⊎ ((frame.0 ≡ length self.old.entries) × (self.new.tables ≡ self.old.tables ++ None ∷ []))) }
+        ensures exists { IfOk result (λ frame. IsFrame self.new frame.0) }
+        ensures is { IfOk result (λ frame. frame_at self.new frame.0 ≡ In class.0 (gathered (sources_in (frames_of self.old) (map source_seen sources.entry))) (frame_or_top (frames_of self.old) (option_map number_of outer)) (option_map names_of at) (frame_or_top (frames_of self.old) (option_map number_of owner))) }
+        ensures err { OnErr result (self.new ≡ self.old) }
+    {
+        match self.entered_before(&sources, class, outer, at.as_ref(), owner) {
+            Some(frame) => Ok(frame),
+            None => self.enter_anew(alloc, class, sources, outer, at, owner),
+        }
+    }
+
+    /// Enters a class: a new number for that frame. The numbers before keep their frames, after a refusal too.
+    fn enter_anew(
         &mut self,
         alloc: Global,
         class: ClassId,
@@ -203,8 +275,12 @@ impl<'t> Scopes<'t> {
             table: None,
         };
         let bare = frame.is_bare();
+        let standing = frame.standing();
         self.frames.push(frame)?;
-        match self.entered.put(bare, class, outer, number as u32) {
+        match self
+            .entered
+            .put(bare, standing, class, outer, number as u32)
+        {
             Ok(()) => Ok(FrameId(number as u32)),
             Err(refused) => {
                 self.frames.truncate(number);
