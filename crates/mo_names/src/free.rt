@@ -9,6 +9,7 @@ ghost use Rattle.mo_scope.specs.Worlds.{Grows, IsFrame, frame_at, frames_of, sco
 ghost use Rattle.mo_names.specs.Past.{first_met};
 ghost use Rattle.mo_names.specs.Sights.{IsFound, IsReached, IsWalk, classed_seen, found_in, met_seen, reached_seen, walk_seen};
 
+use crate::ahead::{keep_ahead, keep_for_name};
 use crate::bases::{class_named, found_first};
 use crate::circle::{behind_class, reached, walked};
 use crate::found::{Ask, Classed, Found, Met, Reached};
@@ -88,8 +89,8 @@ pub(crate) fn elements_kept_at<'t>(
     Ok(walk)
 }
 
-/// What a name reaches among the elements of a frame.
-pub(crate) fn reached_at<'t>(
+/// What a name reaches among the elements of a frame, found by a lookup.
+fn reached_by_lookup<'t>(
     alloc: Global,
     s: &mut Scopes<'t>,
     frame: FrameId,
@@ -110,8 +111,25 @@ pub(crate) fn reached_at<'t>(
     reached(alloc, s, &ask, frame, name)
 }
 
-/// What stands behind a class.
-pub(crate) fn behind_class_at<'t>(
+/// What a name reaches among the elements of a frame.
+pub(crate) fn reached_at<'t>(
+    alloc: Global,
+    s: &mut Scopes<'t>,
+    frame: FrameId,
+    name: &Text,
+    place: Place,
+) -> Result<Reached<'t>, Stop>
+    requires { IsFrame s.old frame.0 }
+    ensures grows { Grows s.old s.new }
+    ensures value { Gives (reached_seen (frames_of s.new)) result (reached_of (table_in s.old) (asking_of (table_in s.old)) place (frame_at s.old frame.0) name.now) }
+    ensures stand { IfOk result (IsReached s.new) }
+{
+    keep_ahead(alloc, s, frame, name)?;
+    reached_by_lookup(alloc, s, frame, name, place)
+}
+
+/// What stands behind a class, found by a lookup.
+fn behind_by_lookup<'t>(
     alloc: Global,
     s: &mut Scopes<'t>,
     frame: FrameId,
@@ -132,8 +150,25 @@ pub(crate) fn behind_class_at<'t>(
     behind_class(alloc, s, &ask, place, None, frame, name)
 }
 
-/// What the first identifier of a name finds; a leading dot starts at the top.
-pub(crate) fn first_at<'t>(
+/// What stands behind a class.
+pub(crate) fn behind_class_at<'t>(
+    alloc: Global,
+    s: &mut Scopes<'t>,
+    frame: FrameId,
+    name: &Text,
+    place: Place,
+) -> Result<Found<'t>, Stop>
+    requires { IsFrame s.old frame.0 }
+    ensures grows { Grows s.old s.new }
+    ensures value { Gives (found_in (frames_of s.new)) result (found_behind_class (table_in s.old) (asking_of (table_in s.old)) place place None (frame_at s.old frame.0) name.now) }
+    ensures stand { IfOk result (IsFound s.new) }
+{
+    keep_ahead(alloc, s, frame, name)?;
+    behind_by_lookup(alloc, s, frame, name, place)
+}
+
+/// What the first identifier of a name finds by a lookup.
+fn first_by_lookup<'t>(
     alloc: Global,
     s: &mut Scopes<'t>,
     at: &ScopeAt,
@@ -155,8 +190,42 @@ pub(crate) fn first_at<'t>(
     found_first(alloc, s, &ask, false, top, at, name)
 }
 
-/// The class that the name of a type or a constraining class finds in a scope.
-pub(crate) fn class_named_at(
+/// What the first identifier of a name finds; a leading dot starts at the top.
+pub(crate) fn first_at<'t>(
+    alloc: Global,
+    s: &mut Scopes<'t>,
+    at: &ScopeAt,
+    top: bool,
+    name: &Text,
+    place: Place,
+) -> Result<Met<'t>, Stop>
+    requires { IsFrame s.old at.now.frame.0 }
+    ensures grows { Grows s.old s.new }
+    ensures value { Gives (met_seen (frames_of s.new)) result (first_met (table_in s.old) (asking_of (table_in s.old)) false top (scope_in (frames_of s.old) at.now.frame.0 at.now.iters) place name.now) }
+    ensures stand { IfOk result (λ met. IsFound s.new met.found) }
+{
+    keep_for_name(alloc, s, top, at.frame, name)?;
+    first_by_lookup(alloc, s, at, top, name, place)
+}
+
+/// Keeps elements before the first identifier of the name of a class is looked up in a frame.
+fn keep_for_class(
+    alloc: Global,
+    s: &mut Scopes,
+    frame: FrameId,
+    reference: &Reference,
+) -> Result<(), NoMemory>
+    requires { IsFrame s.old frame.0 }
+    ensures { Grows s.old s.new }
+{
+    match reference.parts.get(0) {
+        Some(part) => keep_for_name(alloc, s, reference.top, frame, &part.name),
+        None => Ok(()),
+    }
+}
+
+/// The class that the name of a type or a constraining class finds by a lookup.
+fn class_by_lookup(
     alloc: Global,
     s: &mut Scopes,
     at: &ScopeAt,
@@ -174,4 +243,20 @@ pub(crate) fn class_named_at(
         depth: s.depth(),
     };
     class_named(alloc, s, &ask, false, at, reference)
+}
+
+/// The class that the name of a type or a constraining class finds in a scope.
+pub(crate) fn class_named_at(
+    alloc: Global,
+    s: &mut Scopes,
+    at: &ScopeAt,
+    reference: &Reference,
+) -> Result<Classed, Stop>
+    requires { IsFrame s.old at.now.frame.0 }
+    ensures grows { Grows s.old s.new }
+    ensures value { Gives (classed_seen (frames_of s.new)) result (named_class (table_in s.old) (asking_of (table_in s.old)) false (scope_in (frames_of s.old) at.now.frame.0 at.now.iters) reference.now) }
+    ensures stand { IfOk result (λ class. IsFrame s.new class.frame.0) }
+{
+    keep_for_class(alloc, s, at.frame, reference)?;
+    class_by_lookup(alloc, s, at, reference)
 }

@@ -13,6 +13,7 @@
 //! Each call keeps the frames that exist, after a refusal too. A broken rule is the first one of the definition in `mo_scope`.
 #![tactic(auto)]
 
+mod ahead;
 mod bases;
 mod circle;
 mod class_element;
