@@ -9,9 +9,9 @@ use Rattle.mo_scope.specs.Frames.{Indexed, Member}
 use Rattle.mo_scope.specs.Parts.{Picked}
 use Rattle.mo_typing.specs.Indices.{Index}
 use Rattle.mo_eval.specs.Components.{binding_of}
-use Rattle.mo_eval.specs.Scalars.{Known, has_values}
+use Rattle.mo_values.specs.Scalars.{Known, has_values}
 use Rattle.mo_eval.specs.Values.{value_of_element}
-use Rattle.mo_eval.specs.declared.value.Scalar.{Scalar}
+use Rattle.mo_values.specs.declared.value.Scalar.{Scalar}
 use Rattle.mo_eval.specs.Virtuals.{Element}
 use Rattle.mo_eval.proofs.Remembered.{element_with, value_anywhere}
 use Rattle.mo_equations.specs.Replacing.{Replacing, constant, constant_by, flat_value, standing, value_or}

@@ -10,9 +10,9 @@ use Rattle.mo_syntax.specs.declared.place.Place.{Place}
 use Rattle.mo_flat.specs.declared.expr.FlatExpr.{FlatExpr}
 use Rattle.mo_scope.specs.Outcome.{Outcome, and_then, breach}
 use Rattle.mo_scope.specs.Places.{Every}
-use Rattle.mo_eval.specs.declared.value.Scalar.{Scalar}
-use Rattle.mo_eval.specs.declared.value.Scalar.TheVariants.{Whole, Truth, Literal}
-use Rattle.mo_eval.specs.Scalars.{Known}
+use Rattle.mo_values.specs.declared.value.Scalar.{Scalar}
+use Rattle.mo_values.specs.declared.value.Scalar.TheVariants.{Whole, Truth, Literal}
+use Rattle.mo_values.specs.Scalars.{Known}
 use Rattle.mo_equations.specs.Asserts.{is_assert}
 use Rattle.mo_equations.specs.Equations.{Former, Site, all_made, condition_known, flat_condition, in_branch, made_choice, made_form, made_kind, made_loop, numbers_of_index, undecided_branch, with_iteration}
 use Rattle.mo_equations.specs.Equalities.{equalities}

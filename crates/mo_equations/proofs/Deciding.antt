@@ -10,9 +10,9 @@ use Rattle.mo_syntax.specs.declared.place.Stop.TheVariants.{Broken as broken_by,
 use Rattle.mo_flat.specs.declared.expr.FlatExpr.{FlatExpr}
 use Rattle.mo_scope.specs.Outcome.{Outcome, and_then}
 use Rattle.mo_typing.specs.Outcome as told
-use Rattle.mo_eval.specs.Scalars.{Known}
-use Rattle.mo_eval.specs.declared.value.Scalar.{Scalar}
-use Rattle.mo_eval.specs.declared.value.Scalar.TheVariants.{Whole, Truth, Literal}
+use Rattle.mo_values.specs.Scalars.{Known}
+use Rattle.mo_values.specs.declared.value.Scalar.{Scalar}
+use Rattle.mo_values.specs.declared.value.Scalar.TheVariants.{Whole, Truth, Literal}
 use Rattle.mo_equations.specs.declared.desk.Desk.{Desk}
 use Rattle.mo_equations.specs.declared.flat.Flat.{Flat}
 use Rattle.mo_equations.specs.declared.joining.Choice.{Choice as ChoiceAt}

@@ -30,9 +30,9 @@ use Rattle.mo_typing.specs.Dims.{Dims}
 use Rattle.mo_typing.specs.Kinds.{accepts}
 use Rattle.mo_typing.specs.Subscripts.{Checked}
 use Rattle.mo_names.proofs.Later.{is_frame_later, table_later}
-use Rattle.mo_eval.specs.Contexts.{layered}
+use Rattle.mo_values.specs.Asked.{layered}
 use Rattle.mo_eval.specs.Components.{place_of}
-use Rattle.mo_eval.specs.Scalars.{Known, has_values, if_it_has}
+use Rattle.mo_values.specs.Scalars.{Known, has_values, if_it_has}
 use Rattle.mo_eval.specs.Values.{known_of, most_references, resolved_for_value}
 use Rattle.mo_eval.specs.Virtuals.{Resolved}
 use Rattle.mo_equations.specs.declared.desk.Desk.{Desk}

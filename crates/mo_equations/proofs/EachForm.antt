@@ -15,7 +15,7 @@ use Rattle.mo_flat.specs.declared.array.ArrayExpr.{ArrayExpr}
 use Rattle.mo_scope.specs.Rows.{Table}
 use Rattle.mo_scope.specs.Frames.{Scope}
 use Rattle.mo_eval.specs.Virtuals.{Ask, Making}
-use Rattle.mo_eval.specs.declared.context.Context.{Context}
+use Rattle.mo_values.specs.declared.context.Context.{Context}
 use Rattle.mo_eval.specs.Contexts.{Part}
 use Rattle.mo_eval.specs.Resolving.{made, made_node, made_expr, argument_of, arguments_of}
 use Rattle.mo_equations.specs.Leaves.{Tree}

@@ -21,16 +21,15 @@ use Rattle.mo_typing.proofs.Agreeing.{after, not_broken, ok_same}
 use Rattle.mo_typing.proofs.ShapeLaw.{dims_agree}
 use Rattle.mo_arrays.specs.Elements as element
 use Rattle.mo_arrays.specs.Elements.{element_node, element_of, element_of_node, element_part, plain}
-use Rattle.mo_eval.specs.declared.value.Reckoned.{Reckoned}
-use Rattle.mo_eval.specs.declared.value.Reckoned.TheVariants.{Unknown, Outside, Is}
-use Rattle.mo_eval.specs.declared.value.Scalar.{Scalar}
-use Rattle.mo_eval.specs.declared.value.Scalar.TheVariants.{Whole, Truth, Literal}
-use Rattle.mo_eval.specs.Numbers.{absolute, added, fits, fitting, greater, lesser, multiplied}
-use Rattle.mo_eval.specs.Scalars.{Known, absolute_of, greater_of, has_values, known_from, lesser_of, no_result, of_known, of_number, on_numbers, product_with, read_all, settled, sum_with}
-use Rattle.mo_eval.specs.Virtuals.{Resolved}
-use Rattle.mo_eval.specs.Virtuals.{Element as VirtualElement}
-use Rattle.mo_eval.specs.Walk as walk
-use Rattle.mo_eval.specs.Walk.{both, kind_or_real, known_by, known_of_virtuals, known_part, number, numbered, read_as, result_node, result_of_node}
+use Rattle.mo_values.specs.declared.value.Reckoned.{Reckoned}
+use Rattle.mo_values.specs.declared.value.Reckoned.TheVariants.{Unknown, Outside, Is}
+use Rattle.mo_values.specs.declared.value.Scalar.{Scalar}
+use Rattle.mo_values.specs.declared.value.Scalar.TheVariants.{Whole, Truth, Literal}
+use Rattle.mo_values.specs.Numbers.{absolute, added, fits, fitting, greater, lesser, multiplied}
+use Rattle.mo_values.specs.Scalars.{Known, absolute_of, greater_of, has_values, known_from, lesser_of, no_result, of_known, of_number, on_numbers, product_with, read_all, settled, sum_with}
+use Rattle.mo_eval.specs.Virtuals.{Resolved, Element as VirtualElement, known_of_virtuals, numbered}
+use Rattle.mo_values.specs.Walk as walk
+use Rattle.mo_values.specs.Walk.{both, kind_or_real, known_by, known_part, number, read_as, result_node, result_of_node}
 use Rattle.mo_equations.specs.ElementValues.{ElementsHaveTheirValues, Number, called, known_number, magnitude, number_by, number_node, on_both, on_one, with_factor, with_term}
 
 -- ---- one number

@@ -20,9 +20,9 @@ use Rattle.mo_scope.specs.declared.source.ScopeAt.{ScopeAt}
 use Rattle.mo_scope.specs.Worlds.{World, Grows, IsFrame, frame_in, frames_of, scope_in}
 use Rattle.mo_names.proofs.Later.{frame_later}
 use Rattle.mo_typing.specs.Outcome as told
-use Rattle.mo_eval.specs.Scalars.{Known}
-use Rattle.mo_eval.specs.declared.value.Scalar.{Scalar}
-use Rattle.mo_eval.specs.declared.value.Scalar.TheVariants.{Whole, Truth, Literal}
+use Rattle.mo_values.specs.Scalars.{Known}
+use Rattle.mo_values.specs.declared.value.Scalar.{Scalar}
+use Rattle.mo_values.specs.declared.value.Scalar.TheVariants.{Whole, Truth, Literal}
 use Rattle.mo_equations.specs.declared.desk.Desk.{Desk}
 use Rattle.mo_equations.specs.declared.flat.Flat.{Flat}
 use Rattle.mo_equations.specs.declared.forms.Site.{Site as SiteAt}

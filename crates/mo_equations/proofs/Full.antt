@@ -27,8 +27,9 @@ use Rattle.mo_typing.specs.Subscripts.{Checked, both, fine, subscript, subscript
 use Rattle.mo_eval.specs.Components.{reader}
 use Rattle.mo_eval.specs.Contexts.{Part}
 use Rattle.mo_eval.specs.Ends.{Selected, first_identifier, reading_of_end, selected_from, unless_removed, with_parts}
-use Rattle.mo_eval.specs.References.{Components, Found_at, Named, Selection, agrees, component_behind, dims_at, elements_below, elements_selected, emptied, every as every_of, handed_in, is_inside, joined, kept_dims, named, next_member, read_subscript, read_subscripts, selected, selected_numbers, selection_at, selections}
-use Rattle.mo_eval.specs.Scalars.{Known}
+use Rattle.mo_eval.specs.References.{Components, Found_at, Named, Selection, agrees, component_behind, dims_at, elements_below, elements_selected, every as every_of, handed_in, is_inside, joined, kept_dims, named, next_member, read_subscript, read_subscripts, selection_at, selections}
+use Rattle.mo_values.specs.Selected.{emptied, selected, selected_numbers}
+use Rattle.mo_values.specs.Scalars.{Known}
 use Rattle.mo_eval.specs.Values.{most_references, reading}
 use Rattle.mo_eval.specs.Virtuals.{Element, Reading}
 use Rattle.mo_equations.specs.Leaves.{Tree}

@@ -23,17 +23,17 @@ use Rattle.mo_typing.specs.Outcome.{Gives, each}
 use Rattle.mo_typing.specs.Subscripts.{Checked}
 use Rattle.mo_names.proofs.Later.{table_later}
 use Rattle.mo_eval.specs.declared.virtuals.Resolved.{Resolved as ResolvedAt}
-use Rattle.mo_eval.specs.Contexts.{layered, must_be_whole, only_whole}
+use Rattle.mo_values.specs.Asked.{layered, must_be_whole, only_whole}
 use Rattle.mo_eval.specs.References.{numbers_of}
-use Rattle.mo_eval.specs.declared.value.Reckoned.{Reckoned}
-use Rattle.mo_eval.specs.declared.value.Reckoned.TheVariants.{Is}
-use Rattle.mo_eval.specs.declared.value.Scalar.TheVariants.{Whole as whole}
+use Rattle.mo_values.specs.declared.value.Reckoned.{Reckoned}
+use Rattle.mo_values.specs.declared.value.Reckoned.TheVariants.{Is}
+use Rattle.mo_values.specs.declared.value.Scalar.TheVariants.{Whole as whole}
 use Rattle.mo_eval.specs.Components.{place_of, reader}
-use Rattle.mo_eval.specs.Scalars.{Known, settled}
-use Rattle.mo_eval.specs.Walk.{kind_or_real, known_by, known_of_virtuals, known_part, numbered, result_node, result_of_node}
+use Rattle.mo_values.specs.Scalars.{Known, settled}
+use Rattle.mo_values.specs.Walk.{kind_or_real, known_by, known_part, result_node, result_of_node}
+use Rattle.mo_eval.specs.Virtuals.{known_of_virtuals, numbered, Resolved, Virtual}
 use Rattle.mo_eval.specs.Seen.{AreThere, resolved_seen, virtuals_seen}
 use Rattle.mo_eval.specs.Values.{known_of, most_references, reading, resolved_for_value}
-use Rattle.mo_eval.specs.Virtuals.{Resolved, Virtual}
 use Rattle.mo_eval.proofs.Grown.{same_virtuals}
 use Rattle.mo_equations.specs.Equations.{range_numbers, vector_size}
 use Rattle.mo_equations.specs.Leaves.{Tree}

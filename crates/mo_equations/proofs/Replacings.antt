@@ -24,13 +24,13 @@ use Rattle.mo_typing.specs.Outcome as told
 use Rattle.mo_typing.specs.Dims.{Dims}
 use Rattle.mo_typing.specs.Indices.{Index}
 use Rattle.mo_typing.specs.Subscripts.{Checked}
-use Rattle.mo_eval.specs.declared.value.Scalar.{Scalar}
+use Rattle.mo_values.specs.declared.value.Scalar.{Scalar}
 use Rattle.mo_eval.specs.declared.virtuals.Element.{Element as ElementAt}
 use Rattle.mo_eval.specs.declared.virtuals.Virtual.{Virtual as VirtualAt}
 use Rattle.mo_eval.specs.declared.virtuals.Virtual.TheVariants.{Component, Division as division_at}
-use Rattle.mo_eval.specs.Contexts.{layered}
-use Rattle.mo_eval.specs.Components.{binding_of, fitted, place_of}
-use Rattle.mo_eval.specs.Scalars.{Known}
+use Rattle.mo_values.specs.Asked.{layered, fitted}
+use Rattle.mo_eval.specs.Components.{binding_of, place_of}
+use Rattle.mo_values.specs.Scalars.{Known}
 use Rattle.mo_eval.specs.Seen.{AreThere, element_seen, virtual_seen, virtuals_seen}
 use Rattle.mo_eval.specs.Values.{resolved}
 use Rattle.mo_eval.specs.Virtuals.{Element, Virtual, Component_element, Division, Resolved}

@@ -17,13 +17,13 @@ use Rattle.mo_typing.specs.Indices.{Index, range_element}
 use Rattle.mo_typing.specs.Subscripts.{Checked, fine, subscripts_of, subscripts_of_node, subscripts_node, subscripts_part}
 use Rattle.mo_arrays.specs.Elements.{element_of, element_of_node, element_node, element_part}
 use Rattle.mo_arrays.specs.Equations.{sides}
-use Rattle.mo_eval.specs.declared.value.Reckoned.{Reckoned}
-use Rattle.mo_eval.specs.declared.value.Reckoned.TheVariants.{Is, Unknown}
-use Rattle.mo_eval.specs.declared.value.Scalar.TheVariants as scalar
-use Rattle.mo_eval.specs.Scalars.{Known, of_known, settled}
+use Rattle.mo_values.specs.declared.value.Reckoned.{Reckoned}
+use Rattle.mo_values.specs.declared.value.Reckoned.TheVariants.{Is, Unknown}
+use Rattle.mo_values.specs.declared.value.Scalar.TheVariants as scalar
+use Rattle.mo_values.specs.Scalars.{Known, of_known, settled}
 use Rattle.mo_eval.specs.Virtuals.{Virtual}
-use Rattle.mo_eval.specs.Walk.{known_by, known_part, kind_or_real, read_as, result_node}
-use Rattle.mo_eval.specs.Contexts.{layered}
+use Rattle.mo_values.specs.Walk.{known_by, known_part, kind_or_real, read_as, result_node}
+use Rattle.mo_values.specs.Asked.{layered}
 use Rattle.mo_equations.specs.Leaves.{Tree}
 use Rattle.mo_equations.specs.Replacing.{of_variable, replaced_node, with_variables}
 use Rattle.mo_equations.specs.Variables.{replacing}

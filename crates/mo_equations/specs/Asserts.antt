@@ -16,7 +16,7 @@ use Rattle.mo_scope.specs.Outcome.{Outcome, and_then, breaks}
 use Rattle.mo_scope.specs.Frames.{Scope}
 use Rattle.mo_scope.specs.Sizes.{is_nothing}
 use Rattle.mo_typing.specs.Kinds.{accepts}
-use Rattle.mo_eval.specs.Contexts.{only_scalar}
+use Rattle.mo_values.specs.Asked.{only_scalar}
 use Rattle.mo_eval.specs.Components.{place_of}
 use Rattle.mo_eval.specs.Resolving.{is_empty}
 use Rattle.mo_eval.specs.Values.{most_references}

@@ -11,11 +11,10 @@ use Rattle.mo_scope.specs.Outcome.{Outcome}
 use Rattle.mo_typing.specs.Dims.{Dims, dims_of}
 use Rattle.mo_typing.specs.Indices.{Index}
 use Rattle.mo_arrays.specs.Elements.{element_of}
-use Rattle.mo_eval.specs.declared.value.Scalar.TheVariants.{Whole}
-use Rattle.mo_eval.specs.Numbers.{greater, lesser}
-use Rattle.mo_eval.specs.Scalars.{Known}
-use Rattle.mo_eval.specs.Virtuals.{Element, Resolved}
-use Rattle.mo_eval.specs.Walk.{known_at, known_of_virtuals, numbered}
+use Rattle.mo_values.specs.declared.value.Scalar.TheVariants.{Whole}
+use Rattle.mo_values.specs.Numbers.{greater, lesser}
+use Rattle.mo_values.specs.Scalars.{Known}
+use Rattle.mo_eval.specs.Virtuals.{Element, Resolved, known_at, known_of_virtuals, numbered}
 
 -- ---- numbers of scalar expressions
 

@@ -10,7 +10,7 @@ use Rattle.mo_scope.specs.Frames.{Scope}
 use Rattle.mo_typing.specs.Outcome.{each}
 use Rattle.mo_arrays.specs.Equations.{equations_of}
 use Rattle.mo_eval.specs.Virtuals.{Virtual, Making, make, make_then}
-use Rattle.mo_eval.specs.Contexts.{for_flat}
+use Rattle.mo_values.specs.Asked.{for_flat}
 use Rattle.mo_eval.specs.Resolving.{made}
 use Rattle.mo_eval.specs.Values.{most_references, reading}
 use Rattle.mo_equations.specs.Leaves.{Tree}

@@ -14,9 +14,10 @@ use Rattle.mo_flat.specs.declared.expr.FlatExpr.{FlatExpr}
 use Rattle.mo_scope.specs.Outcome.{Outcome, and_then, breaks}
 use Rattle.mo_scope.specs.Frames.{Scope}
 use Rattle.mo_typing.specs.Dims.{Dims}
-use Rattle.mo_eval.specs.declared.value.Scalar.TheVariants.{Truth}
-use Rattle.mo_eval.specs.Scalars.{Known}
-use Rattle.mo_eval.specs.Contexts.{layered, only_scalar, only_truth, only_whole, truth_of}
+use Rattle.mo_values.specs.declared.value.Scalar.TheVariants.{Truth}
+use Rattle.mo_values.specs.Scalars.{Known}
+use Rattle.mo_values.specs.Asked.{layered, only_scalar, only_truth, only_whole}
+use Rattle.mo_eval.specs.Contexts.{truth_of}
 use Rattle.mo_eval.specs.Components.{place_of, reader}
 use Rattle.mo_eval.specs.References.{numbers_of}
 use Rattle.mo_eval.specs.Values.{most_references, known_of, reading, resolved_for_value}

@@ -18,12 +18,12 @@ use Rattle.mo_typing.specs.Kinds.{accepts}
 use Rattle.mo_typing.specs.Indices.{Index}
 use Rattle.mo_typing.specs.Subscripts.{Checked}
 use Rattle.mo_arrays.specs.Elements.{element_of}
-use Rattle.mo_eval.specs.declared.value.Scalar.{Scalar}
-use Rattle.mo_eval.specs.declared.value.Scalar.TheVariants.{Whole, Truth, Literal}
-use Rattle.mo_eval.specs.Scalars.{Known, has_values}
+use Rattle.mo_values.specs.declared.value.Scalar.{Scalar}
+use Rattle.mo_values.specs.declared.value.Scalar.TheVariants.{Whole, Truth, Literal}
+use Rattle.mo_values.specs.Scalars.{Known, has_values}
 use Rattle.mo_eval.specs.Virtuals.{Element, Virtual, Component_element, Division, Resolved}
-use Rattle.mo_eval.specs.Contexts.{layered}
-use Rattle.mo_eval.specs.Components.{place_of, fitted, binding_of}
+use Rattle.mo_values.specs.Asked.{layered, fitted}
+use Rattle.mo_eval.specs.Components.{place_of, binding_of}
 use Rattle.mo_eval.specs.Resolving.{literal_text}
 use Rattle.mo_eval.specs.Values.{resolved, value_of_element}
 

@@ -18,8 +18,8 @@ use Rattle.mo_typing.specs.Outcome.{each}
 use Rattle.mo_typing.specs.Dims.{Dims, are_equal}
 use Rattle.mo_typing.specs.Kinds.{accepts, is_among}
 use Rattle.mo_typing.specs.Subscripts.{Checked, fine}
-use Rattle.mo_eval.specs.Scalars.{Known, has_values, if_it_has}
-use Rattle.mo_eval.specs.Contexts.{layered}
+use Rattle.mo_values.specs.Scalars.{Known, has_values, if_it_has}
+use Rattle.mo_values.specs.Asked.{layered}
 use Rattle.mo_eval.specs.Components.{place_of}
 use Rattle.mo_eval.specs.Resolving.{dotted, path_of_class}
 use Rattle.mo_eval.specs.Values.{most_references, known_of, resolved_for_value}

@@ -2,7 +2,7 @@
 ghost use Rattle.std.specs.Prelude.{◌≡◌, ◌≤◌};
 ghost use Rattle.mo_typing.specs.Dims.{are_equal as are_equal_dims};
 ghost use Rattle.mo_typing.specs.Outcome.{Gives};
-ghost use Rattle.mo_eval.specs.Contexts.{layered as layered_by, only_scalar as only_scalar_by, only_whole as only_whole_by};
+ghost use Rattle.mo_values.specs.Asked.{layered as layered_by, only_scalar as only_scalar_by, only_whole as only_whole_by};
 ghost use Rattle.mo_equations.specs.Equations.{vector_size as size_of_vector};
 ghost use Rattle.mo_equations.specs.Variables.{fits_sizes as sizes_fit};
 ghost use Rattle.mo_equations.specs.steps.Layers.{HasRule, fit_of, wanted_of};

@@ -12,7 +12,7 @@ ghost use Rattle.mo_names.specs.Sights.{IsMember};
 ghost use Rattle.mo_eval.specs.Seen.{AreThere, element_seen, resolved_seen, virtual_seen, virtuals_seen};
 ghost use Rattle.mo_equations.specs.Replacing.{constant as constant_by_left, constant_by as constant_by_reader, flat_at as flat_of_expression, flat_element as element_of_resolved, flat_value as expression_of_value, of_variable, of_virtual as virtual_by, standing as standing_by, with_variables};
 ghost use Rattle.mo_typing.specs.Outcome.{Gives, IfBroken, Outcome};
-ghost use Rattle.mo_eval.specs.Scalars.{has_values as kind_has_values};
+ghost use Rattle.mo_values.specs.Scalars.{has_values as kind_has_values};
 ghost use Rattle.mo_equations.specs.Leaves.{number_of};
 ghost use Rattle.mo_equations.specs.steps.Desks.{IsDesk, Stays, replacing_in, tree_in};
 ghost use Rattle.mo_equations.specs.steps.Flats.{Answers, IsFlat};

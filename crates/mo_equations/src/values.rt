@@ -4,7 +4,7 @@
 ghost use Rattle.std.specs.Prelude.{◌≡◌, ◌<◌, Some, length, slice_get, IfOk};
 ghost use Rattle.mo_typing.specs.Outcome.{Gives};
 ghost use Rattle.mo_scope.specs.Worlds.{IsFrame, frames_of, scope_in, table_in};
-ghost use Rattle.mo_eval.specs.Contexts.{must_be_whole as whole_that_is_known};
+ghost use Rattle.mo_values.specs.Asked.{must_be_whole as whole_that_is_known};
 ghost use Rattle.mo_eval.specs.References.{numbers_of as numbers_read};
 ghost use Rattle.mo_eval.specs.Seen.{AreThere, resolved_seen};
 ghost use Rattle.mo_eval.specs.Values.{known_of, most_references};

@@ -16,11 +16,12 @@ use Rattle.mo_scope.specs.Worlds.{World}
 use Rattle.mo_tables.specs.declared.functions.TheConstants.{FILL}
 use Rattle.mo_flat.specs.declared.array.ArrayNode.TheVariants.{Sized}
 use Rattle.mo_typing.specs.Outcome.{Outcome, and_then, breaks, Gives}
-use Rattle.mo_eval.specs.declared.context.Context.{Context}
+use Rattle.mo_values.specs.declared.context.Context.{Context}
 use Rattle.mo_eval.specs.declared.virtuals.Virtual.{Virtual as VirtualAt}
-use Rattle.mo_eval.specs.Scalars.{Known}
+use Rattle.mo_values.specs.Scalars.{Known}
 use Rattle.mo_eval.specs.Virtuals.{Ask, Element, Virtual, make, make_from}
-use Rattle.mo_eval.specs.Contexts.{Part, operand}
+use Rattle.mo_eval.specs.Contexts.{Part}
+use Rattle.mo_values.specs.Asked.{operand}
 use Rattle.mo_eval.specs.Calls.{function_named, made_call, made_fill, made_function, made_ndims, make_arguments, read_size, read_sizes}
 use Rattle.mo_eval.specs.Resolving.{is_empty}
 use Rattle.mo_eval.specs.Sites.{IsMade}

@@ -19,11 +19,10 @@ use Rattle.mo_syntax.specs.declared.place.Place.{Place}
 use Rattle.mo_typing.specs.Kinds.{accepts}
 use Rattle.mo_typing.specs.Indices.{Index}
 use Rattle.mo_typing.specs.Outcome.{Gives, Outcome, and_then}
-use Rattle.mo_eval.specs.Scalars.{Known, if_it_has}
-use Rattle.mo_eval.specs.Virtuals.{Ask, Element, Resolved}
-use Rattle.mo_eval.specs.Walk.{known_at}
-use Rattle.mo_eval.specs.Contexts.{layered}
-use Rattle.mo_eval.specs.Components.{element_value, fitted, value_in}
+use Rattle.mo_values.specs.Scalars.{Known, if_it_has}
+use Rattle.mo_eval.specs.Virtuals.{Ask, Element, Resolved, known_at}
+use Rattle.mo_values.specs.Asked.{layered, fitted}
+use Rattle.mo_eval.specs.Components.{element_value, value_in}
 use Rattle.mo_eval.specs.steps.Asking.{bound_in, unbound}
 use Rattle.mo_eval.proofs.Calling.{then_then}
 

@@ -7,15 +7,16 @@ use Rattle.mo_syntax.specs.declared.place.Stop.TheVariants.{Broken as broken_by,
 use Rattle.mo_flat.specs.declared.array.ArrayExpr.{ArrayExpr}
 use Rattle.mo_scope.specs.Worlds.{World}
 use Rattle.mo_typing.specs.Outcome.{Outcome, and_then}
-use Rattle.mo_eval.specs.declared.context.Context.{Context}
+use Rattle.mo_values.specs.declared.context.Context.{Context}
 use Rattle.mo_eval.specs.declared.choice.BranchMade.{BranchMade}
 use Rattle.mo_eval.specs.declared.choice.BranchMade.TheVariants.{Dropped, Kept, Last}
-use Rattle.mo_eval.specs.declared.value.Scalar.TheVariants.{Whole, Truth, Literal}
+use Rattle.mo_values.specs.declared.value.Scalar.TheVariants.{Whole, Truth, Literal}
 use Rattle.mo_eval.specs.declared.virtuals.Virtual.{Virtual as VirtualAt}
-use Rattle.mo_eval.specs.Scalars.{Known}
+use Rattle.mo_values.specs.Scalars.{Known}
 use Rattle.mo_eval.specs.Virtuals.{Element, Virtual, Making, make, make_then}
 use Rattle.mo_eval.specs.Contexts.{Part}
-use Rattle.mo_eval.specs.Resolving.{Choice, make_part, made_choice}
+use Rattle.mo_values.specs.Made.{Choice}
+use Rattle.mo_eval.specs.Resolving.{make_part, made_choice}
 use Rattle.mo_eval.specs.Sites.{IsMade}
 use Rattle.mo_eval.specs.steps.Choosing.{read_condition, truth_in, branch_by, made_branch, kept_in, last_in}
 

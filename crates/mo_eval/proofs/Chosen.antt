@@ -16,10 +16,11 @@ use Rattle.mo_typing.specs.Dims.{Dims, are_equal}
 use Rattle.mo_typing.specs.Indices.{Index}
 use Rattle.mo_typing.specs.Outcome.{Outcome, and_then, breaks, each, Gives}
 use Rattle.mo_typing.specs.Subscripts.{fine, subscripts}
-use Rattle.mo_eval.specs.Scalars.{Known}
+use Rattle.mo_values.specs.Scalars.{Known}
 use Rattle.mo_eval.specs.Virtuals.{Element as Element_of, Reading}
 use Rattle.mo_eval.specs.Contexts.{Part}
-use Rattle.mo_eval.specs.References.{Selection, agrees, component_behind, elements_below, joined, next_member, selected, selection_at, selections, there}
+use Rattle.mo_eval.specs.References.{Selection, agrees, component_behind, elements_below, joined, next_member, selection_at, selections, there}
+use Rattle.mo_values.specs.Selected.{selected}
 use Rattle.mo_eval.specs.steps.Selecting.{component_found, component_in, component_reached, component_standing, dims_there, each_below, elements_more, member_behind, next_among, next_if, next_selected}
 use Rattle.mo_eval.proofs.Calling.{then_then}
 use Rattle.mo_eval.proofs.Subscripting.{then_alike}

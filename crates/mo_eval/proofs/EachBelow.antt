@@ -18,7 +18,8 @@ use Rattle.mo_eval.specs.declared.selections.Selection.{Selection as SelectionAt
 use Rattle.mo_eval.specs.Components.{reading_by}
 use Rattle.mo_eval.specs.Values.{reading}
 use Rattle.mo_eval.specs.Virtuals.{Reading}
-use Rattle.mo_eval.specs.References.{Selection, agrees, component_behind, elements_below, selected}
+use Rattle.mo_eval.specs.References.{Selection, agrees, component_behind, elements_below}
+use Rattle.mo_values.specs.Selected.{selected}
 use Rattle.mo_eval.specs.steps.Absence.{Removal, reading_for}
 use Rattle.mo_eval.specs.steps.Selecting.{each_below, elements_more, elements_seen, reading_in, selection_seen, selections_seen}
 use Rattle.mo_eval.proofs.Along.{rest_of}

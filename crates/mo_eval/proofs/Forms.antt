@@ -24,7 +24,7 @@ use Rattle.mo_scope.specs.Rows.{Table}
 use Rattle.mo_scope.specs.Frames.{Scope}
 use Rattle.mo_typing.specs.Outcome.{breaks}
 use Rattle.mo_eval.specs.Virtuals.{Ask, Making, make_from}
-use Rattle.mo_eval.specs.declared.context.Context.{Context}
+use Rattle.mo_values.specs.declared.context.Context.{Context}
 use Rattle.mo_eval.specs.Contexts.{Part}
 use Rattle.mo_eval.specs.steps.Parts.{Former, made_below, made_arguments, made_argument, as_part, as_term, as_factor, as_branch, as_identifier, as_reference, as_callee}
 use Rattle.mo_eval.specs.Resolving.{made, made_node, made_expr, argument_of, arguments_of, is_empty, all_arguments}

@@ -10,15 +10,14 @@ use Rattle.mo_scope.specs.Frames.{Scope}
 use Rattle.mo_scope.specs.Worlds.{World, Grows, IsFrame, frames_of, table_in}
 use Rattle.mo_scope.proofs.Numbered.{frames_stay}
 use Rattle.mo_typing.specs.Outcome.{Outcome, and_then, Gives}
-use Rattle.mo_eval.specs.declared.context.Context.{Context}
+use Rattle.mo_values.specs.declared.context.Context.{Context}
 use Rattle.mo_eval.specs.declared.resolve.Site.{Site}
 use Rattle.mo_eval.specs.declared.virtuals.Virtual.{Virtual as VirtualAt}
-use Rattle.mo_eval.specs.Virtuals.{Element, Virtual, Making, make_then, make_each}
-use Rattle.mo_eval.specs.Walk.{numbered, known_of_virtuals}
+use Rattle.mo_eval.specs.Virtuals.{Element, Virtual, Making, make_then, make_each, numbered, known_of_virtuals}
 use Rattle.mo_eval.specs.Contexts.{Part}
 use Rattle.mo_eval.specs.Resolving.{made, make_part, make_parts}
 use Rattle.mo_eval.specs.Components.{reader}
-use Rattle.mo_eval.specs.Scalars.{Known}
+use Rattle.mo_values.specs.Scalars.{Known}
 use Rattle.mo_eval.specs.Values.{reading}
 use Rattle.mo_eval.specs.Seen.{AreThere, virtuals_seen}
 use Rattle.mo_eval.specs.Sites.{scope_of, ask_of, part_in, elements_in, variables_in, IsMade}

@@ -8,7 +8,8 @@ use Rattle.mo_flat.specs.declared.array.Subscript.TheVariants.{All}
 use Rattle.mo_typing.specs.Dims.{Dims, subscripted}
 use Rattle.mo_typing.specs.Subscripts.{subscripts}
 use Rattle.mo_eval.specs.declared.selections.Selection.{Selection as SelectionAt}
-use Rattle.mo_eval.specs.References.{Selection, emptied, every, handed_in, is_inside, kept_dims}
+use Rattle.mo_eval.specs.References.{Selection, every, handed_in, is_inside, kept_dims}
+use Rattle.mo_values.specs.Selected.{emptied}
 use Rattle.mo_eval.specs.steps.Selecting.{inside_or, selection_seen, selections_seen}
 
 kept_append : (before : List Selection) (last : Selection) → kept_dims (before ++ last ∷ []) ≡ kept_dims before ++ subscripted last.subs last.dims

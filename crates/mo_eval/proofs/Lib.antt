@@ -6,12 +6,8 @@ pub mod Dividing
 pub mod Forms
 pub mod Growing
 pub mod Grown
-pub mod Lists
-pub mod Nodes
 pub mod OneDeeper
 pub mod Prefixes
-mod Rows
-pub mod Splitting
 pub mod Telling
 pub mod Sizing
 pub mod TypeSizes

@@ -3,7 +3,7 @@ use Rattle.std.proofs.Common.{◌≡◌, ℕ, suc, Bool, true, false, None, Ok, 
 use Rattle.std.specs.Prelude.{◌||◌, if◌then◌else◌}
 use Rattle.mo_scope.specs.Rows.{Table}
 use Rattle.mo_typing.specs.Outcome.{Outcome, and_then, breaks}
-use Rattle.mo_eval.specs.Scalars.{Known, has_values}
+use Rattle.mo_values.specs.Scalars.{Known, has_values}
 use Rattle.mo_eval.specs.Virtuals.{Element}
 use Rattle.mo_eval.specs.References.{is_replaced}
 use Rattle.mo_eval.specs.Components.{reader}

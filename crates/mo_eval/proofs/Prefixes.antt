@@ -10,10 +10,9 @@ use Rattle.std.proofs.lemmas.List.{append-nil}
 use Rattle.std.proofs.lemmas.Option.{slice_get_past, slice_get-map}
 use Rattle.mo_typing.specs.Outcome.{Outcome}
 use Rattle.mo_typing.specs.Indices.{or_else}
-use Rattle.mo_eval.specs.Scalars.{Known}
-use Rattle.mo_eval.specs.Virtuals.{Element, Virtual}
-use Rattle.mo_eval.specs.Walk.{numbered, known_of_virtual, known_of_virtuals}
-use Rattle.mo_eval.specs.Told.{Reads, IsRead, AreRead, IsUnread}
+use Rattle.mo_values.specs.Scalars.{Known}
+use Rattle.mo_eval.specs.Virtuals.{Element, Virtual, numbered, known_of_virtual, known_of_virtuals}
+use Rattle.mo_values.specs.Told.{Reads, IsRead, AreRead, IsUnread}
 
 -- ---- what each variable has, by those before it
 

@@ -14,7 +14,7 @@ use Rattle.mo_scope.specs.Rows.{Table, is_constant}
 use Rattle.mo_scope.specs.Worlds.{World}
 use Rattle.mo_typing.specs.Indices.{Index}
 use Rattle.mo_typing.specs.Outcome.{Outcome, and_then, breaks, Gives}
-use Rattle.mo_eval.specs.declared.context.Context.{Context}
+use Rattle.mo_values.specs.declared.context.Context.{Context}
 use Rattle.mo_eval.specs.declared.virtuals.Virtual.{Virtual as VirtualAt}
 use Rattle.mo_eval.specs.Contexts.{Part, read_element}
 use Rattle.mo_eval.specs.Components.{reading_by}

@@ -22,7 +22,7 @@ use Rattle.mo_typing.specs.Dims.{Dims}
 use Rattle.mo_typing.specs.Indices.{Index}
 use Rattle.mo_typing.specs.Outcome.{Outcome, Gives, and_then, breaks}
 use Rattle.mo_eval.specs.declared.names.Name.{Name}
-use Rattle.mo_eval.specs.declared.context.Context.{Context}
+use Rattle.mo_values.specs.declared.context.Context.{Context}
 use Rattle.mo_eval.specs.declared.references.Common.{Common}
 use Rattle.mo_eval.specs.declared.resolve.Site.{Site}
 use Rattle.mo_eval.specs.declared.virtuals.Virtual.{Virtual as VirtualAt}

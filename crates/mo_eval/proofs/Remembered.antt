@@ -15,7 +15,7 @@ use Rattle.mo_names.specs.Sights.{IsMember, member_of}
 use Rattle.mo_typing.specs.Indices.{Index}
 use Rattle.mo_typing.specs.Outcome.{Outcome, breaks}
 use Rattle.mo_eval.specs.References.{is_replaced}
-use Rattle.mo_eval.specs.Scalars.{Known}
+use Rattle.mo_values.specs.Scalars.{Known}
 use Rattle.mo_eval.specs.Values.{reading, value_of_element}
 use Rattle.mo_eval.specs.Virtuals.{Element}
 use Rattle.mo_eval.specs.steps.Asking.{unbound}

@@ -10,12 +10,13 @@ use Rattle.mo_scope.specs.Worlds.{World, Grows, IsFrame, frames_of, table_in}
 use Rattle.mo_scope.proofs.Numbered.{frames_stay}
 use Rattle.mo_syntax.specs.declared.expr.Arg.{Arg}
 use Rattle.mo_typing.specs.Outcome.{Outcome, and_then, breaks}
-use Rattle.mo_eval.specs.declared.context.Context.{Context}
+use Rattle.mo_values.specs.declared.context.Context.{Context}
 use Rattle.mo_eval.specs.declared.resolve.Site.{Site}
-use Rattle.mo_eval.specs.Scalars.{Known}
+use Rattle.mo_values.specs.Scalars.{Known}
 use Rattle.mo_eval.specs.Virtuals.{Element, Virtual}
 use Rattle.mo_eval.specs.Values.{reading}
-use Rattle.mo_eval.specs.Contexts.{Part, argument_of_size}
+use Rattle.mo_eval.specs.Contexts.{Part}
+use Rattle.mo_values.specs.Asked.{argument_of_size}
 use Rattle.mo_eval.specs.Calls.{made_size, make_arguments, read_size}
 use Rattle.mo_eval.specs.Sites.{plain_in, scope_of}
 use Rattle.mo_eval.specs.steps.Calling.{number_of_size, plain}

@@ -10,10 +10,10 @@ use Rattle.mo_flat.specs.declared.array.Subscript.{Subscript}
 use Rattle.mo_typing.specs.Dims.{Dims}
 use Rattle.mo_typing.specs.Indices.{Index, numbers_to}
 use Rattle.mo_typing.specs.Outcome.{Outcome, and_then, each, Gives}
-use Rattle.mo_eval.specs.Scalars.{Known}
-use Rattle.mo_eval.specs.Virtuals.{Element, Resolved}
-use Rattle.mo_eval.specs.Walk.{known_at}
-use Rattle.mo_eval.specs.Contexts.{Part, alone, layered, only_whole, place_of, scalar_or_vector, subscript_of}
+use Rattle.mo_values.specs.Scalars.{Known}
+use Rattle.mo_eval.specs.Virtuals.{Element, Resolved, known_at}
+use Rattle.mo_eval.specs.Contexts.{Part, alone, place_of}
+use Rattle.mo_values.specs.Asked.{layered, only_whole, scalar_or_vector, subscript_of}
 use Rattle.mo_eval.specs.References.{read_subscript, read_subscripts}
 use Rattle.mo_eval.specs.steps.Subscripting.{numbers_by, subscript_at, subscript_in}
 use Rattle.mo_eval.proofs.Calling.{each_more}

@@ -1,23 +1,14 @@
--- Answers of a walk, operand by operand.
-use Rattle.std.proofs.Common.{◌≡◌, List, Result, Ok, Err, subst}
+-- How a walk that reads its variables ends.
+use Rattle.std.proofs.Common.{List, Result, Ok, Err}
 use Rattle.std.specs.Prelude.{IfOk}
 use Rattle.mo_syntax.specs.declared.place.Stop.{Stop}
 use Rattle.mo_syntax.specs.declared.place.Stop.TheVariants.{Broken as broken_by, NoMemory as no_memory}
 use Rattle.mo_typing.specs.Outcome.{Outcome, Gives}
-use Rattle.mo_eval.specs.declared.halt.Halt.{Halt}
 use Rattle.mo_eval.specs.declared.reading.Step.{Step}
-use Rattle.mo_eval.specs.Scalars.{Known}
+use Rattle.mo_values.specs.Scalars.{Known}
 use Rattle.mo_eval.specs.Virtuals.{Element, Virtual}
-use Rattle.mo_eval.specs.Told.{Reads, Tells}
+use Rattle.mo_values.specs.Told.{Reads}
 use Rattle.mo_eval.specs.Sequence.{IsStep}
-
--- a value that is answered
-pub tells : {A : Type 0} {read : Reads} (a : A) (told : Outcome A) → told ≡ Ok a → Tells {T = A} read (Ok a) told
-tells a told e = record { answers = e }
-
--- the same outcome in other words
-pub told_as : {A : Type 0} {read : Reads} (answer : Result A Halt) (a b : Outcome A) → a ≡ b → Tells read answer a → Tells read answer b
-told_as {read = read} answer a b e h = subst (Tells read answer) e h
 
 -- a walk that ends
 pub step_halts : (read : Element → Outcome Known) (virtuals : List Virtual) (reads : Reads) (stop : Stop) (told : Outcome Known) →

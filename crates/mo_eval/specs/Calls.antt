@@ -1,35 +1,32 @@
 -- Calls (Modelica Language Specification 3.5, sections 3.7 and 10.3).
 --
 -- The function is looked up first, then forms that are left out are refused, then the arguments are resolved.
-use Rattle.std.specs.Prelude.{ℕ, ℤ, Bool, true, false, ◌&&◌, not, List, [], ◌∷◌, map, length, Option, Some, None, Ok, if◌then◌else◌, nat_eq, nat_lt}
+use Rattle.std.specs.Prelude.{ℕ, ℤ, Bool, not, List, [], ◌∷◌, map, length, Option, Some, None, Ok, if◌then◌else◌, nat_eq}
 use Rattle.std.specs.List.{list_all}
 use Rattle.mo_syntax.specs.declared.expr.CalleeOf.{CalleeOf}
 use Rattle.mo_syntax.specs.declared.expr.CalleeOf.TheVariants.{Named, Der as der, Initial, Pure}
 use Rattle.mo_syntax.specs.declared.expr.ReferenceOf.{ReferenceOf}
 use Rattle.mo_syntax.specs.declared.expr.PartOf.{PartOf}
-use Rattle.mo_syntax.specs.declared.meaning.Kind.{Kind}
 use Rattle.mo_syntax.specs.declared.meaning.Kind.TheVariants.{Whole as whole_kind}
 use Rattle.mo_syntax.specs.declared.place.Place.{Place}
 use Rattle.mo_tables.specs.declared.functions.TheConstants.{DIV, FILL, IDENTITY, MOD, NDIMS, ONES, REM, SIZE, ZEROS}
 use Rattle.mo_flat.specs.declared.array.ArrayExpr.{ArrayExpr}
 use Rattle.mo_flat.specs.declared.array.ArrayNode.{ArrayNode}
-use Rattle.mo_flat.specs.declared.array.ArrayNode.TheVariants.{Whole, Vars, Call, Der, Size, Sized}
+use Rattle.mo_flat.specs.declared.array.ArrayNode.TheVariants.{Vars, Call, Size, Sized}
 use Rattle.mo_scope.specs.Rows.{Table}
 use Rattle.mo_scope.specs.Frames.{Scope}
 use Rattle.mo_scope.specs.Lookup.{Found, Class, Function}
 use Rattle.mo_scope.specs.Names.{found_reference}
 use Rattle.mo_scope.specs.Sizes.{is_nothing}
 use Rattle.mo_typing.specs.Outcome.{Outcome, and_then, each, breaks}
-use Rattle.mo_typing.specs.Dims.{dims_of, scalars}
-use Rattle.mo_typing.specs.Kinds.{kind_of, is_among}
-use Rattle.mo_typing.specs.Subscripts.{Checked, fine, every, subscripts_of}
-use Rattle.mo_eval.specs.declared.value.Scalar.TheVariants.{Whole as whole_scalar}
-use Rattle.mo_eval.specs.Scalars.{Known, division}
-use Rattle.mo_eval.specs.Virtuals.{Element, Virtual, Division, Making, make, make_then, make_from, make_each, make_variables}
-use Rattle.mo_eval.specs.Walk.{known_at}
-use Rattle.mo_eval.specs.declared.context.Context.{Context}
-use Rattle.mo_eval.specs.Contexts.{Part, alone, operand, argument_of_size, read_in, place_of, whole_of}
+use Rattle.mo_typing.specs.Kinds.{is_among}
+use Rattle.mo_values.specs.Scalars.{Known, division}
+use Rattle.mo_eval.specs.Virtuals.{Element, Virtual, Division, Making, make, make_then, make_from, make_each, make_variables, known_at}
+use Rattle.mo_values.specs.declared.context.Context.{Context}
+use Rattle.mo_eval.specs.Contexts.{Part, alone, place_of, whole_of}
+use Rattle.mo_values.specs.Asked.{operand, argument_of_size, read_in, checked_operands}
 use Rattle.mo_eval.specs.References.{identifier}
+use Rattle.mo_values.specs.Made.{takes, derivative_of, known_number}
 
 -- ---- the function
 
@@ -98,32 +95,12 @@ made_fill read context place (filling ∷ sizes) =
     make_then (make_from (read_sizes read context sizes)) (λ sizes.
     if is_nothing sizes then make_from (breaks 33 place) else make (Sized FILL (Some filling) sizes)))
 
--- `identity` takes one size, `zeros` and `ones` at least one
-abbrev pub takes : ℕ → ℕ → Bool
-takes function count = if nat_eq function IDENTITY then nat_eq count 1 else nat_lt 0 count
-
 abbrev pub made_sized : (Element → Outcome Known) → Context → Place → ℕ → List Part → Making ArrayNode
 made_sized read context place function arguments =
     make_then (make_from (read_sizes read context arguments)) (λ sizes.
     if takes function (length sizes) then make (Sized function None sizes) else make_from (breaks 33 place))
 
 -- ---- `div`, `mod` and `rem`
-
-abbrev pub is_whole : Kind → Bool
-is_whole whole_kind = true
-is_whole kind = false
-
--- Kinds, dimensions and subscripts of the operands are asked where the call is resolved: two scalar Integers.
-abbrev pub checked_operands : Place → List ArrayExpr → Checked
-checked_operands place operands =
-    and_then (each kind_of operands) (λ kinds.
-    and_then (if nat_eq (length kinds) 2 && list_all is_whole kinds then fine else breaks 33 place) (λ _.
-    and_then (each dims_of operands) (λ dims.
-    and_then (scalars place dims) (λ _. every subscripts_of operands))))
-
-abbrev pub known_number : Place → Known → Outcome ArrayNode
-known_number place (Some (whole_scalar n)) = Ok (Whole n)
-known_number place known = breaks 34 place
 
 abbrev pub known_of_operands : (Element → Outcome Known) → Place → ℕ → List ArrayExpr → List Virtual → Outcome Known
 known_of_operands read place function (a ∷ b ∷ []) virtuals =
@@ -159,10 +136,6 @@ made_function read context place function arguments =
     (if is_among (IDENTITY ∷ ONES ∷ ZEROS ∷ []) function then made_sized read context place function arguments else
     (if is_among (DIV ∷ MOD ∷ REM ∷ []) function then made_division read context place function arguments else
     make_then (make_arguments context arguments) (λ arguments. make (Call function arguments))))))
-
-abbrev pub derivative_of : Place → List ArrayExpr → Outcome ArrayNode
-derivative_of place (argument ∷ []) = Ok (Der argument)
-derivative_of place arguments = breaks 33 place
 
 -- a call by its function and its arguments, none where they are of a form that is left out
 abbrev pub made_call : Table → Scope → (Element → Outcome Known) → Context → Place → CalleeOf Part → Option (List Part) → Making ArrayNode

@@ -17,11 +17,10 @@ use Rattle.mo_typing.specs.Outcome.{Outcome, and_then, breaks}
 use Rattle.mo_typing.specs.Dims.{Dims, size}
 use Rattle.mo_typing.specs.Kinds.{accepts}
 use Rattle.mo_typing.specs.Indices.{Index, is_index, or_else}
-use Rattle.mo_typing.specs.Subscripts.{Checked, fine}
-use Rattle.mo_eval.specs.Scalars.{Known, if_it_has}
-use Rattle.mo_eval.specs.Virtuals.{Element, Ask, Reading}
-use Rattle.mo_eval.specs.Walk.{known_at}
-use Rattle.mo_eval.specs.Contexts.{for_value, layered, any_kind, whole_of, truth_of, must_be_truth, read_element}
+use Rattle.mo_values.specs.Scalars.{Known, if_it_has}
+use Rattle.mo_eval.specs.Virtuals.{Element, Ask, Reading, known_at}
+use Rattle.mo_values.specs.Asked.{for_value, layered, any_kind, must_be_truth, fitted}
+use Rattle.mo_eval.specs.Contexts.{whole_of, truth_of, read_element}
 use Rattle.mo_eval.specs.References.{is_replaced}
 use Rattle.mo_eval.specs.Resolving.{resolved_in}
 
@@ -53,14 +52,6 @@ is_there table ask member = there_by (component_of member.declares)
     there_by (Some component) = there_if component.condition
 
 -- ---- how a binding fits
-
--- Indices that are pending for an expression of these dimensions: a scalar breaks rule 23, another number of dimensions rule 33, an
--- index outside rule 31.
-abbrev pub fitted : Place → Index → Dims → Checked
-fitted place [] [] = fine
-fitted place (index ∷ indices) [] = breaks 23 place
-fitted place indices dims =
-    if nat_eq (length indices) (length dims) then (if is_index dims indices then fine else breaks 31 place) else breaks 33 place
 
 -- Of an expression that binds so many dimensions behind the pending indices: those dimensions.
 abbrev pub dims_behind : Place → Index → ℕ → Dims → Outcome Dims

@@ -9,7 +9,7 @@ use Rattle.mo_scope.specs.Frames.{Scope, Member}
 use Rattle.mo_typing.specs.Outcome.{Outcome}
 use Rattle.mo_typing.specs.Dims.{Dims}
 use Rattle.mo_typing.specs.Indices.{Index}
-use Rattle.mo_eval.specs.Scalars.{Known}
+use Rattle.mo_values.specs.Scalars.{Known}
 use Rattle.mo_eval.specs.Virtuals.{Element}
 use Rattle.mo_eval.specs.Values.{value_of, sizes_of, resolved, there_of, component_dims, value_of_element}
 

@@ -1,8 +1,4 @@
-pub mod Numbers
-pub mod Scalars
 pub mod Virtuals
-pub mod Walk
-pub mod Told
 pub mod Seen
 pub mod Sequence
 pub mod Sites

@@ -21,14 +21,14 @@ use Rattle.mo_scope.specs.Names.{child_of_member, component_frame, stands_for, t
 use Rattle.mo_scope.specs.Sizes.{declared_sizes, type_sizes, count_sizes, is_nothing}
 use Rattle.mo_typing.specs.Outcome.{Outcome, and_then, each, breaks}
 use Rattle.mo_typing.specs.Dims.{Dims, subscripted, are_equal}
-use Rattle.mo_typing.specs.Shape.{size_of}
 use Rattle.mo_typing.specs.Indices.{Index, numbers_to}
 use Rattle.mo_typing.specs.Subscripts.{Checked, fine, subscripts}
-use Rattle.mo_eval.specs.Scalars.{Known}
-use Rattle.mo_eval.specs.Virtuals.{Element, Virtual, Component_element, Reading, Ask, Making, make, make_then, make_from, make_variables}
-use Rattle.mo_eval.specs.Walk.{known_at}
-use Rattle.mo_eval.specs.declared.context.Context.{Context}
-use Rattle.mo_eval.specs.Contexts.{Part, alone, place_of, subscript_of, layered, only_whole, scalar_or_vector, must_be_whole, read_element}
+use Rattle.mo_values.specs.Scalars.{Known}
+use Rattle.mo_eval.specs.Virtuals.{Element, Virtual, Component_element, Reading, Ask, Making, make, make_then, make_from, make_variables, known_at}
+use Rattle.mo_values.specs.declared.context.Context.{Context}
+use Rattle.mo_eval.specs.Contexts.{Part, alone, place_of, read_element}
+use Rattle.mo_values.specs.Asked.{subscript_of, layered, only_whole, scalar_or_vector, must_be_whole}
+use Rattle.mo_values.specs.Selected.{selected, emptied}
 
 -- ---- names
 
@@ -105,17 +105,6 @@ read_subscripts read [] subs = Ok []
 read_subscripts read (n ∷ dims) [] = and_then (read_subscripts read dims []) (λ others. Ok (All ∷ others))
 read_subscripts read (n ∷ dims) (sub ∷ subs) =
     and_then (read_subscript read n sub) (λ first. and_then (read_subscripts read dims subs) (λ others. Ok (first ∷ others)))
-
-abbrev pub selected_numbers : ℕ → Subscript → List ℕ
-selected_numbers size All = numbers_to size
-selected_numbers size (One place n) = size_of n ∷ []
-selected_numbers size (Many place ns) = map size_of ns
-
--- the indices that subscripts select, the last one fastest
-abbrev pub selected : Dims → List Subscript → List Index
-selected [] subs = [] ∷ []
-selected (n ∷ dims) [] = []
-selected (n ∷ dims) (sub ∷ subs) = flat_map (λ k. map (λ index. k ∷ index) (selected dims subs)) (selected_numbers n sub)
 
 -- ---- along the first element
 
@@ -221,12 +210,6 @@ kept_dims chosen = flat_map (λ selection. subscripted selection.subs selection.
 
 abbrev pub every : {A : Type 0} → List A → List Subscript
 every xs = map (λ x. All) xs
-
--- a dimension whose subscript lies outside has no elements
-abbrev pub emptied : Dims → List Subscript → Dims
-emptied [] subs = []
-emptied (n ∷ dims) [] = n ∷ emptied dims []
-emptied (n ∷ dims) (sub ∷ subs) = (if is_ok (subscripts (n ∷ []) (sub ∷ [])) then n else 0) ∷ emptied dims subs
 
 -- Dimensions and subscripts: none of these where all lie inside, else those of the last part as they are.
 abbrev pub handed_in : List Selection → Dims × List Subscript

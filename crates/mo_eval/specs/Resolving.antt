@@ -2,8 +2,7 @@
 -- variables, each subscript, range and size by its numbers.
 --
 -- Parts are resolved from left to right. A form that is left out is refused before its parts are read.
-use Rattle.std.specs.Prelude.{ℕ, pos, Bool, true, false, ◌&&◌, ◌||◌, not, List, [], ◌∷◌, ◌++◌, Option, Some, None, Ok, if◌then◌else◌, codes, slice_get}
-use Rattle.std.specs.List.{list_all}
+use Rattle.std.specs.Prelude.{ℕ, pos, Bool, true, false, ◌&&◌, List, [], ◌∷◌, ◌++◌, Option, Some, None, Ok, if◌then◌else◌, codes, slice_get}
 use Rattle.mo_syntax.specs.declared.expr.Arg.{Arg, Arg-F}
 use Rattle.mo_syntax.specs.declared.expr.Args.{Args, Args-F}
 use Rattle.mo_syntax.specs.declared.expr.BranchOf.{BranchOf}
@@ -12,8 +11,6 @@ use Rattle.mo_syntax.specs.declared.expr.FactorOf.{FactorOf}
 use Rattle.mo_syntax.specs.declared.expr.Node.{Node, Node-F}
 use Rattle.mo_syntax.specs.declared.expr.ReferenceOf.{ReferenceOf}
 use Rattle.mo_syntax.specs.declared.expr.TermOf.{TermOf}
-use Rattle.mo_syntax.specs.declared.meaning.Kind.{Kind}
-use Rattle.mo_syntax.specs.declared.meaning.Kind.TheVariants.{Str as string_kind}
 use Rattle.mo_syntax.specs.declared.place.Place.{Place}
 use Rattle.mo_syntax.specs.Classes.{Home, Under}
 use Rattle.mo_flat.specs.declared.array.ArrayExpr.{ArrayExpr, roll-ArrayExpr}
@@ -24,18 +21,17 @@ use Rattle.mo_scope.specs.Frames.{Scope}
 use Rattle.mo_scope.specs.Lookup.{Found, Iteration, literals_at, type_names}
 use Rattle.mo_scope.specs.Lookup.{Literal as found_literal, Time as found_time}
 use Rattle.mo_typing.specs.Outcome.{Outcome, and_then, breaks}
-use Rattle.mo_typing.specs.Dims.{Dims, dims_of}
-use Rattle.mo_typing.specs.Kinds.{kind_of}
 use Rattle.mo_typing.specs.Indices.{or_else}
-use Rattle.mo_eval.specs.declared.value.Scalar.{Scalar}
-use Rattle.mo_eval.specs.declared.value.Scalar.TheVariants.{Truth as truth_scalar}
-use Rattle.mo_eval.specs.Scalars.{Known}
-use Rattle.mo_eval.specs.Virtuals.{Element, Ask, Making, make, make_then, make_from, make_each, Resolved, resolved_by}
-use Rattle.mo_eval.specs.declared.context.Context.{Context}
-use Rattle.mo_eval.specs.Contexts.{Part, alone, operand, read_in, place_of, read_element, truth_of, layered, only_whole, only_scalar}
-use Rattle.mo_eval.specs.Walk.{known_at}
+use Rattle.mo_values.specs.declared.value.Scalar.{Scalar}
+use Rattle.mo_values.specs.declared.value.Scalar.TheVariants.{Truth as truth_scalar}
+use Rattle.mo_values.specs.Scalars.{Known}
+use Rattle.mo_eval.specs.Virtuals.{Element, Ask, Making, make, make_then, make_from, make_each, Resolved, resolved_by, known_at}
+use Rattle.mo_values.specs.declared.context.Context.{Context}
+use Rattle.mo_eval.specs.Contexts.{Part, alone, place_of, read_element, truth_of}
+use Rattle.mo_values.specs.Asked.{operand, read_in, layered, only_whole, only_scalar}
 use Rattle.mo_eval.specs.References.{Named, Components, Found_at, named, made_reference, is_replaced}
 use Rattle.mo_eval.specs.Calls.{made_call}
+use Rattle.mo_values.specs.Made.{sum_of, power_of, range_of, Choice, chosen, made_end}
 
 -- ---- names
 
@@ -85,22 +81,6 @@ make_part context part = part.1 (operand context)
 abbrev pub make_parts : Context → List Part → Making (List ArrayExpr)
 make_parts context = make_each (make_part context)
 
-abbrev pub is_string : Outcome Kind → Bool
-is_string (Ok string_kind) = true
-is_string outcome = false
-
-abbrev pub is_joined : Bool × Bool × ArrayExpr → Bool
-is_joined term = not (term.0 || term.1) && is_string (kind_of term.2)
-
--- Two or more Strings that are joined by `+` alone are a form that is left out.
-abbrev pub is_string_sum : List (Bool × Bool × ArrayExpr) → Bool
-is_string_sum [] = false
-is_string_sum (term ∷ []) = false
-is_string_sum (term ∷ next ∷ terms) = list_all is_joined (term ∷ next ∷ terms)
-
-abbrev pub sum_of : Place → List (Bool × Bool × ArrayExpr) → Outcome ArrayNode
-sum_of place terms = if is_string_sum terms then breaks 34 place else Ok (Sum terms)
-
 abbrev pub made_sum : Context → Place → List (TermOf Part) → Making ArrayNode
 made_sum context place terms =
     make_then (make_each (λ term. make_then (make_part context term.value) (λ e. make (term.minus, term.dotted, e))) terms) (λ terms.
@@ -110,14 +90,6 @@ abbrev pub made_product : Context → List (FactorOf Part) → Making ArrayNode
 made_product context factors =
     make_then (make_each (λ factor. make_then (make_part context factor.value) (λ e. make (factor.divide, factor.dotted, e))) factors) (λ factors.
     make (Product factors))
-
--- A power of a matrix is a form that is left out.
-abbrev pub is_matrix : Outcome Dims → Bool
-is_matrix (Ok (n ∷ m ∷ [])) = true
-is_matrix outcome = false
-
-abbrev pub power_of : Place → ArrayExpr → Bool → ArrayExpr → Outcome ArrayNode
-power_of place base dotted exponent = if not dotted && is_matrix (dims_of base) then breaks 34 place else Ok (Power base dotted exponent)
 
 abbrev pub made_power : Context → Place → Part → Bool → Part → Making ArrayNode
 made_power context place base dotted exponent =
@@ -136,11 +108,6 @@ abbrev pub read_step : (Element → Outcome Known) → Context → Option Part �
 read_step read context None = Ok (Some (Scalar.Whole (pos 1)))
 read_step read context (Some part) = read_end read context part
 
--- Where one of them is undecided, rule 28 is broken at the range.
-abbrev pub range_of : Place → Known → Known → Known → Outcome ArrayNode
-range_of place (Some (Scalar.Whole first)) (Some (Scalar.Whole step)) (Some (Scalar.Whole last)) = Ok (Range first step last)
-range_of place first step last = breaks 28 place
-
 abbrev pub made_range : (Element → Outcome Known) → Context → Place → Part → Option Part → Part → Outcome ArrayNode
 made_range read context place first step last =
     and_then (read_end read context first) (λ first.
@@ -148,10 +115,6 @@ made_range read context place first step last =
     and_then (read_end read context last) (λ last. range_of place first step last)))
 
 -- ---- if-expressions
-
--- the branches that are left with the value of the last one
-abbrev pub Choice : Type 0
-Choice = List (ArrayExpr × ArrayExpr) × ArrayExpr
 
 -- A condition is a scalar Boolean, else rule 33 is broken at it. It is read for its value: a false one is dropped with its branch; a
 -- true one makes its branch the last, and nothing behind it is read.
@@ -169,23 +132,10 @@ made_choice read context (branch ∷ branches) other =
         make_then (make_part context branch.value) (λ value.
         make_then further (λ choice. make ((condition, value) ∷ choice.0, choice.1))))
 
--- Where no condition is left, the expression is what its last branch is.
-abbrev pub chosen : Place → Choice → ArrayExpr
-chosen place ([], other) = other
-chosen place (branch ∷ branches, other) = roll-ArrayExpr (record { place = place; node = If (branch ∷ branches) other })
-
 -- ---- all forms
 
 abbrev pub at_place : Place → Making ArrayNode → Making ArrayExpr
 at_place place made = make_then made (λ node. make (roll-ArrayExpr (record { place = place; node = node })))
-
--- `end` is the size of the dimension whose subscript it stands in
-abbrev pub made_end : Context → Place → Outcome ArrayNode
-made_end context place = end_of context.last
-  where
-    end_of : Option ℕ → Outcome ArrayNode
-    end_of None = breaks 34 place
-    end_of (Some size) = Ok (Whole (pos size))
 
 -- An argument that is no function; the arguments of a call, where none has a name, is a function, or is iterated.
 abbrev pub argument_of : Arg-F (Arg × Option Part) (Node × (Place → Context → Making ArrayExpr)) (Args × Option (List Part)) Part → Option Part

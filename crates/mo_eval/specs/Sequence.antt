@@ -8,10 +8,9 @@ use Rattle.mo_syntax.specs.declared.place.Stop.TheVariants.{Broken as broken_by,
 use Rattle.mo_typing.specs.Outcome.{Outcome}
 use Rattle.mo_eval.specs.declared.reading.Step.{Step}
 use Rattle.mo_eval.specs.declared.reading.Step.TheVariants.{Known as known_step, Read, Divided}
-use Rattle.mo_eval.specs.Scalars.{Known}
-use Rattle.mo_eval.specs.Virtuals.{Element, Virtual, Component_element}
-use Rattle.mo_eval.specs.Walk.{known_of_virtuals}
-use Rattle.mo_eval.specs.Told.{Reads, IsUnread}
+use Rattle.mo_values.specs.Scalars.{Known}
+use Rattle.mo_eval.specs.Virtuals.{Element, Virtual, Component_element, known_of_virtuals}
+use Rattle.mo_values.specs.Told.{Reads, IsUnread}
 
 -- it stands for an element of a component
 pub record IsComponent (it : Virtual) : Type 0 where

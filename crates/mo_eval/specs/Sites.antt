@@ -9,9 +9,8 @@ use Rattle.mo_scope.specs.Worlds.{World, frames_of, table_in, scope_in}
 use Rattle.mo_typing.specs.Outcome.{Outcome}
 use Rattle.mo_eval.specs.declared.resolve.Site.{Site}
 use Rattle.mo_eval.specs.declared.virtuals.Virtual.{Virtual as VirtualAt}
-use Rattle.mo_eval.specs.Scalars.{Known}
-use Rattle.mo_eval.specs.Virtuals.{Element, Virtual, Ask}
-use Rattle.mo_eval.specs.Walk.{numbered, known_of_virtuals}
+use Rattle.mo_values.specs.Scalars.{Known}
+use Rattle.mo_eval.specs.Virtuals.{Element, Virtual, Ask, numbered, known_of_virtuals}
 use Rattle.mo_eval.specs.Contexts.{Part}
 use Rattle.mo_eval.specs.Components.{reader}
 use Rattle.mo_eval.specs.Resolving.{made, all_arguments}

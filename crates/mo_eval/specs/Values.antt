@@ -12,13 +12,12 @@ use Rattle.mo_typing.specs.Outcome.{Outcome, and_then, breaks}
 use Rattle.mo_typing.specs.Dims.{Dims}
 use Rattle.mo_typing.specs.Kinds.{kind_of}
 use Rattle.mo_typing.specs.Indices.{Index}
-use Rattle.mo_eval.specs.declared.value.Value.{Value}
-use Rattle.mo_eval.specs.Scalars.{Known, if_it_has, value_with}
-use Rattle.mo_eval.specs.Virtuals.{Element, Virtual, Ask, Resolved, make, make_then}
-use Rattle.mo_eval.specs.Walk.{known_at}
-use Rattle.mo_eval.specs.Contexts.{for_value, for_flat, layered, any_kind}
+use Rattle.mo_values.specs.declared.value.Value.{Value}
+use Rattle.mo_values.specs.Scalars.{Known, if_it_has, value_with}
+use Rattle.mo_eval.specs.Virtuals.{Element, Virtual, Ask, Resolved, make, make_then, known_at}
+use Rattle.mo_values.specs.Asked.{for_value, for_flat, layered, any_kind, fitted}
 use Rattle.mo_eval.specs.Resolving.{made, resolved_in}
-use Rattle.mo_eval.specs.Components.{place_of, reader, fitted, reading_by, is_there, dims_of_component, element_value}
+use Rattle.mo_eval.specs.Components.{place_of, reader, reading_by, is_there, dims_of_component, element_value}
 
 -- What a reference may ask for: where no more references may be read, rule 29 is broken at it.
 unfoldable pub reading : Table → ℕ → Ask

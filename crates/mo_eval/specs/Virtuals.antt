@@ -2,15 +2,16 @@
 --
 -- Resolving an expression puts numbers of variables in the place of its names. They are virtual: a list says what each stands for,
 -- the first one has number 1.
-use Rattle.std.specs.Prelude.{ℕ, ◌+◌, Bool, List, [], ◌∷◌, ◌++◌, length, Ok}
+use Rattle.std.specs.Prelude.{ℕ, ◌+◌, ◌-◌, Bool, List, [], ◌∷◌, ◌++◌, fold, length, None, Ok, slice_get}
 use Rattle.mo_syntax.specs.declared.meaning.Kind.{Kind}
 use Rattle.mo_syntax.specs.declared.place.Place.{Place}
 use Rattle.mo_flat.specs.declared.array.ArrayExpr.{ArrayExpr}
 use Rattle.mo_scope.specs.Frames.{Member}
 use Rattle.mo_typing.specs.Outcome.{Outcome, and_then}
 use Rattle.mo_typing.specs.Dims.{Dims}
-use Rattle.mo_typing.specs.Indices.{Index}
-use Rattle.mo_eval.specs.Scalars.{Known}
+use Rattle.mo_typing.specs.Indices.{Index, or_else}
+use Rattle.mo_values.specs.Scalars.{Known, division}
+use Rattle.mo_values.specs.Walk.{known_by}
 
 -- An element of a component: its declaration, with the frame that it stands in, and its index; the kind of its type, which is Real for
 -- a component that is no leaf; where the reference to it stands, and whether a declaration found by the names of the reference makes it
@@ -73,3 +74,21 @@ make_variables new virtuals = Ok (numbers_behind (length virtuals) new, virtuals
 
 abbrev pub resolved_by : Outcome (ArrayExpr × List Virtual) → Outcome Resolved
 resolved_by outcome = and_then outcome (λ made. Ok (record { expression = made.0; virtuals = made.1 }))
+
+-- ---- what is known of them
+
+abbrev pub numbered : List (Outcome Known) → ℕ → Outcome Known
+numbered known n = or_else (slice_get known (n - 1)) (Ok None)
+
+abbrev pub known_of_virtual : (Element → Outcome Known) → List (Outcome Known) → Virtual → Outcome Known
+known_of_virtual read before (Component_element element) = read element
+known_of_virtual read before (Division place function a b) =
+    and_then (known_by (numbered before) a []) (λ a. and_then (known_by (numbered before) b []) (λ b. division place function a b))
+
+-- what each variable has, by those before it
+abbrev pub known_of_virtuals : (Element → Outcome Known) → List Virtual → List (Outcome Known)
+known_of_virtuals read virtuals = fold (λ before virtual. before ++ known_of_virtual read before virtual ∷ []) [] virtuals
+
+-- what is known of a resolved expression at an index
+abbrev pub known_at : (Element → Outcome Known) → Resolved → Index → Outcome Known
+known_at read resolved = known_by (numbered (known_of_virtuals read resolved.virtuals)) resolved.expression

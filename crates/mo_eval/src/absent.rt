@@ -2,8 +2,8 @@
 ghost use Rattle.std.specs.Prelude.{◌≡◌};
 ghost use Rattle.mo_eval.specs.steps.Absence.{Breaks, as_stopped};
 
-use crate::operations::broken;
 use mo_syntax::{NoMemory, Place, Stop};
+use mo_values::broken;
 use std::alloc::AllocError;
 
 /// Why the elements of a reference are not found.

@@ -4,19 +4,19 @@
 ghost use Rattle.std.specs.Prelude.{List, IfSome};
 ghost use Rattle.mo_scope.specs.Frames.{Frame};
 ghost use Rattle.mo_typing.specs.Outcome.{Outcome};
-ghost use Rattle.mo_eval.specs.Scalars.{Known};
-ghost use Rattle.mo_eval.specs.Virtuals.{Element};
-ghost use Rattle.mo_eval.specs.Walk.{known_by, numbered, known_of_virtuals};
-ghost use Rattle.mo_eval.specs.Told.{AreRead, IsUnread};
+ghost use Rattle.mo_values.specs.Scalars.{Known};
+ghost use Rattle.mo_eval.specs.Virtuals.{Element, numbered, known_of_virtuals};
+ghost use Rattle.mo_values.specs.Walk.{known_by};
+ghost use Rattle.mo_values.specs.Told.{AreRead, IsUnread};
 ghost use Rattle.mo_eval.specs.Seen.{virtuals_seen};
 ghost use Rattle.mo_eval.specs.Sequence.{IsStep};
 
-use crate::halt::Told;
 use crate::reader::Reader;
 use crate::reading::{Step, next, reading};
 use crate::virtuals::Virtual;
 use mo_flat::ArrayExpr;
 use mo_syntax::Stop;
+use mo_values::Told;
 
 /// How many walks halt before anything is read ahead: elements of an array that are made from one another are read one by one, as long
 /// as each of them needs no more variables than this.

@@ -12,14 +12,14 @@ ghost use Rattle.mo_eval.specs.Sites.{part_in, elements_in};
 ghost use Rattle.mo_eval.specs.steps.Asking.{end_in};
 ghost use Rattle.mo_eval.specs.steps.Choosing.{read_condition};
 
-use crate::layers::{answer, must_be_whole, truth_scalar, whole_scalar};
 use crate::reader::Reader;
 use crate::resolve::{Site, resolve};
-use crate::value::Scalar;
 use crate::variables::known_in;
 use crate::virtuals::Resolved;
 use mo_scope::Scopes;
 use mo_syntax::{Expr, List, Place, Stop};
+use mo_values::Scalar;
+use mo_values::layers::{answer, must_be_whole, truth_scalar, whole_scalar};
 
 /// An expression with its own virtual variables.
 #[cycle(resolving)]

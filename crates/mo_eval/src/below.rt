@@ -9,17 +9,18 @@ ghost use Rattle.mo_names.specs.Sights.{IsMember, member_of};
 ghost use Rattle.mo_typing.specs.Dims.{are_equal};
 ghost use Rattle.mo_typing.specs.Outcome.{Gives};
 ghost use Rattle.mo_eval.specs.Keeping.{IsKept};
-ghost use Rattle.mo_eval.specs.References.{agrees, elements_below, selected};
+ghost use Rattle.mo_eval.specs.References.{agrees, elements_below};
+ghost use Rattle.mo_values.specs.Selected.{selected};
 ghost use Rattle.mo_eval.specs.steps.Absence.{Removal, as_stopped};
 ghost use Rattle.mo_eval.specs.steps.Selecting.{each_below, elements_more, elements_seen, reading_in, selection_seen, selections_seen};
 
 use crate::absent::Absent;
-use crate::operations::broken;
 use crate::reader::Reader;
-use crate::selecting::selected;
 use crate::selections::{Selection, component_behind, dims_there};
 use mo_scope::{Member, Scopes, copied};
 use mo_syntax::{List, NoMemory, Place, Stop};
+use mo_values::broken;
+use mo_values::selecting::selected;
 use std::alloc::Global;
 
 /// An element by the declaration of its component, in its frame, and its index.

@@ -13,12 +13,12 @@ ghost use Rattle.mo_eval.specs.Resolving.{all_arguments};
 ghost use Rattle.mo_eval.specs.Sites.{part_in, scope_of};
 ghost use Rattle.mo_eval.specs.steps.Parts.{as_identifier, as_reference, made_argument, made_arguments};
 
-use crate::layers::answer;
-use crate::operations::broken;
 use crate::resolve::Site;
 use mo_names::{Found, find_path};
 use mo_scope::Scopes;
 use mo_syntax::{Arg, Args, Broken, Part, Place, Reference, Stop};
+use mo_values::broken;
+use mo_values::layers::answer;
 use std::alloc::Global;
 
 /// Whether one of the identifiers has subscripts.

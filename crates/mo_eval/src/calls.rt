@@ -11,7 +11,8 @@ ghost use Rattle.mo_typing.specs.Outcome.{Outcome, and_then, Gives};
 ghost use Rattle.mo_eval.specs.Keeping.{IsKept};
 ghost use Rattle.mo_eval.specs.declared.virtuals.Virtual.{Virtual as VirtualAt};
 ghost use Rattle.mo_eval.specs.Virtuals.{Ask, Virtual as VirtualSeen};
-ghost use Rattle.mo_eval.specs.Contexts.{Part as PartOf, argument_of_size};
+ghost use Rattle.mo_eval.specs.Contexts.{Part as PartOf};
+ghost use Rattle.mo_values.specs.Asked.{argument_of_size};
 ghost use Rattle.mo_eval.specs.Calls.{make_arguments, read_sizes, made_size, made_ndims, made_fill, made_sized, made_function, made_call};
 ghost use Rattle.mo_eval.specs.Seen.{AreThere, virtuals_seen};
 ghost use Rattle.mo_eval.specs.Sites.{part_in, plain_in, elements_in, ask_of, scope_of, IsMade};
@@ -21,9 +22,6 @@ ghost use Rattle.mo_eval.specs.steps.Calling.{IsFirst, is_lone, filled_with, num
 use crate::alone::read_size;
 use crate::callee::{are_plain, function_named};
 use crate::division::{Called, division};
-use crate::layers::answer;
-use crate::making::{derivative_of, takes};
-use crate::operations::broken;
 use crate::reader::Reader;
 use crate::resolve::{Site, operand, resolve};
 use crate::virtuals::Virtual;
@@ -31,6 +29,9 @@ use mo_flat::{ArrayExpr, ArrayNode};
 use mo_scope::Scopes;
 use mo_syntax::{Arg, Args, Broken, Callee, Expr, List, NoMemory, Place, Stop};
 use mo_tables::functions;
+use mo_values::broken;
+use mo_values::layers::answer;
+use mo_values::making::{derivative_of, takes};
 use std::alloc::Global;
 
 /// All arguments, which are expressions.

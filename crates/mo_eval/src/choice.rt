@@ -15,15 +15,15 @@ ghost use Rattle.mo_eval.specs.steps.Parts.{as_branch};
 ghost use Rattle.mo_eval.specs.steps.Choosing.{kept_in, last_in, made_branch, truth_in};
 
 use crate::alone::{read_condition, read_end};
-use crate::layers::answer;
-use crate::making::range_of;
 use crate::reader::Reader;
 use crate::resolve::{Site, operand, two};
-use crate::value::Scalar;
 use crate::virtuals::Virtual;
 use mo_flat::{ArrayExpr, ArrayNode};
 use mo_scope::Scopes;
 use mo_syntax::{Branch, Expr, List, NoMemory, Place, Stop};
+use mo_values::Scalar;
+use mo_values::layers::answer;
+use mo_values::making::range_of;
 
 /// The step of a range, 1 where none is written.
 #[cycle(resolving)]

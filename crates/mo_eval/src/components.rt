@@ -13,18 +13,16 @@ ghost use Rattle.mo_eval.specs.Sites.{elements_in};
 ghost use Rattle.mo_eval.specs.steps.Asking.{bound_in, unbound};
 
 use crate::alone::{alone, truth_of};
-use crate::context::Context;
 use crate::kept::{keep_there, there_kept};
-use crate::layers::{answer, binding, must_be_truth};
-use crate::operations::{broken, if_it_has};
 use crate::reader::Reader;
 use crate::resolve::Site;
-use crate::value::Scalar;
 use crate::variables::{is_replaced, known_in};
 use crate::virtuals::{Element, Resolved};
 use mo_names::child_of_member;
 use mo_scope::{Member, Picked, ScopeAt, Scopes, Sort, pick_here};
 use mo_syntax::{Broken, Expr, FrameId, Kind, List, Place, Stop};
+use mo_values::layers::{answer, binding, must_be_truth};
+use mo_values::{Context, Scalar, broken, if_it_has};
 
 /// Whether a condition holds that stands in a class with this frame, where so many references may still be read.
 #[cycle(resolving)]

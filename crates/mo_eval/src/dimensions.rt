@@ -9,16 +9,13 @@ ghost use Rattle.mo_typing.specs.Dims.{size};
 ghost use Rattle.mo_typing.specs.Outcome.{Outcome, and_then, Gives};
 ghost use Rattle.mo_eval.specs.Keeping.{IsKept};
 ghost use Rattle.mo_eval.specs.Components.{dim_at, dims_behind, each_dim, written_dim};
-ghost use Rattle.mo_eval.specs.Contexts.{any_kind, layered};
+ghost use Rattle.mo_values.specs.Asked.{any_kind, layered};
 ghost use Rattle.mo_eval.specs.Values.{reading, component_dims};
 ghost use Rattle.mo_eval.specs.steps.Measuring.{GoesOn, bound_in, dims_more, dims_of_binding, scoped};
 ghost use Rattle.mo_eval.specs.steps.Sizing.{AreSized, sizes_seen};
 
 use crate::alone::{alone, whole_of};
-use crate::context::Context;
 use crate::kept::{dims_kept, keep_dims};
-use crate::layers::{answer, is_index};
-use crate::operations::broken;
 use crate::reader::Reader;
 use crate::resolve::Site;
 use crate::sizes::{Sizes, all_sizes, count_of};
@@ -27,6 +24,8 @@ use mo_names::child_of_member;
 use mo_scope::{Member, Picked, ScopeAt, Scopes, copied, pick_here};
 use mo_syntax::{Broken, Expr, List, Place, Stop};
 use mo_typing::{dims_of, kind_of, subscripts};
+use mo_values::layers::{answer, is_index};
+use mo_values::{Context, broken};
 use std::alloc::Global;
 
 /// A number as a dimension; one that is negative or above 4,294,967,295 breaks rule 31.

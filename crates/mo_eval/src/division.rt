@@ -11,19 +11,17 @@ ghost use Rattle.mo_eval.specs.steps.Dividing.{variable_of};
 ghost use Rattle.mo_eval.specs.Sites.{plain_in, elements_in, IsMade};
 
 use crate::calls::arguments;
-use crate::layers::answer;
-use crate::making::known_number;
-use crate::operands::{checked_operands, two_operands};
-use crate::operations;
-use crate::operations::broken;
 use crate::reader::Reader;
 use crate::resolve::Site;
-use crate::value::Scalar;
 use crate::variables::known_in;
 use crate::virtuals::Virtual;
 use mo_flat::{ArrayExpr, ArrayNode};
 use mo_scope::Scopes;
 use mo_syntax::{Arg, Broken, Kind, List, NoMemory, Place, Stop};
+use mo_values::layers::answer;
+use mo_values::making::known_number;
+use mo_values::operands::{checked_operands, two_operands};
+use mo_values::{Scalar, broken};
 use std::alloc::Global;
 
 /// A call: where it stands, and its function.
@@ -54,7 +52,7 @@ fn value_of<'t>(
     };
     let m = known_in(reader, s, left, a, &[], virtuals)?;
     let n = known_in(reader, s, left, b, &[], virtuals)?;
-    answer(operations::division(called.place, called.function, m, n))
+    answer(mo_values::division(called.place, called.function, m, n))
 }
 
 /// The value of a call in the flat model.

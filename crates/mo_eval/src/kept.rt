@@ -4,15 +4,15 @@ ghost use Rattle.std.specs.Prelude.{◌≡◌, ℕ, IfOk, IfSome, IsTrue, Ok};
 ghost use Rattle.mo_scope.specs.Worlds.{World, frames_of, table_in};
 ghost use Rattle.mo_names.specs.Sights.{IsMember, member_of};
 ghost use Rattle.mo_eval.specs.Keeping.{IsKept};
-ghost use Rattle.mo_eval.specs.Scalars.{Known};
+ghost use Rattle.mo_values.specs.Scalars.{Known};
 ghost use Rattle.mo_eval.specs.Seen.{element_seen};
 ghost use Rattle.mo_eval.specs.Values.{component_dims, there_of, value_of_element};
 
 use crate::reader::{KeptDims, KeptThere, KeptValue, Key, Reader};
-use crate::value::Scalar;
 use crate::virtuals::Element;
 use mo_scope::{Member, copied};
 use mo_syntax::{Broken, List, NoMemory};
+use mo_values::Scalar;
 
 /// Whether two components are one: the same element of the class of one frame.
 fn is_same<'t>(a: &Member<'t>, b: &Member<'t>) -> bool

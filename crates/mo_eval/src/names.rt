@@ -16,12 +16,12 @@ ghost use Rattle.mo_eval.specs.steps.Parts.{as_identifier, as_reference};
 ghost use Rattle.mo_eval.specs.steps.Measuring.{GoesOn};
 ghost use Rattle.mo_eval.specs.steps.Naming.{AreNames, IsReferred, counted_in, named_behind, named_on, referred_seen, names_seen};
 
-use crate::operations::broken;
 use crate::resolve::Site;
 use crate::sizes::count_of_dims;
 use mo_names::{Found, find_behind, find_first};
 use mo_scope::{Member, Scopes};
 use mo_syntax::{List, NoMemory, Part, Place, Reference, Stop};
+use mo_values::broken;
 use std::alloc::Global;
 
 /// A component that a reference names, with its identifier.

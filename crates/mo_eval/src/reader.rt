@@ -12,18 +12,16 @@ ghost use Rattle.mo_eval.specs.Sites.{elements_in};
 ghost use Rattle.mo_eval.specs.steps.Asking.{value_in};
 
 use crate::alone::alone;
-use crate::context::Context;
 use crate::ends::{Ended, end_named};
-use crate::layers::{answer, fitting};
-use crate::operations::{if_it_has, value_with};
 use crate::resolve::{Site, two};
-use crate::value::{Scalar, Value};
 use crate::variables::known_in;
 use crate::virtuals::{Element, Resolved, Sides};
-use crate::{components, dimensions, layers};
+use crate::{components, dimensions};
 use mo_scope::{Member, ScopeAt, Scopes};
 use mo_syntax::{Expr, List, Place, Reference, Stop};
 use mo_typing::kind_of;
+use mo_values::layers::{self, answer, fitting};
+use mo_values::{Context, Scalar, Value, if_it_has, value_with};
 use std::alloc::Global;
 use std::collections::HashMap;
 

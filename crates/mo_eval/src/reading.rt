@@ -2,21 +2,17 @@
 ghost use Rattle.std.specs.Prelude.{◌≡◌, ◌-◌, [], ℕ, List, MatchOption, IfOk, Some, length, slice_get, set};
 ghost use Rattle.mo_scope.specs.Frames.{Frame};
 ghost use Rattle.mo_typing.specs.Outcome.{Outcome, and_then};
-ghost use Rattle.mo_eval.specs.Scalars.{Known, division};
-ghost use Rattle.mo_eval.specs.Virtuals.{Element};
-ghost use Rattle.mo_eval.specs.Walk.{known_by, numbered, known_of_virtual, known_of_virtuals};
-ghost use Rattle.mo_eval.specs.Told.{Reads, AreRead, IsUnread, Tells};
+ghost use Rattle.mo_values.specs.Scalars.{Known, division};
+ghost use Rattle.mo_eval.specs.Virtuals.{Element, numbered, known_of_virtual, known_of_virtuals};
+ghost use Rattle.mo_values.specs.Walk.{known_by};
+ghost use Rattle.mo_values.specs.Told.{Reads, AreRead, IsUnread, Tells};
 ghost use Rattle.mo_eval.specs.Seen.{virtual_seen, virtuals_seen};
 ghost use Rattle.mo_eval.specs.Sequence.{IsComponent, IsStep};
 
-use crate::answers::{Answer, answer};
-use crate::halt::{Halt, Told};
-use crate::operations::division;
-use crate::value::Scalar;
 use crate::virtuals::Virtual;
-use crate::walk::known;
 use mo_flat::ArrayExpr;
 use mo_syntax::{Broken, NoMemory, Place, Stop};
+use mo_values::{Answer, Halt, Scalar, Told, answer, division, known};
 use std::alloc::Global;
 
 /// What comes next of a walk.

@@ -14,7 +14,8 @@ ghost use Rattle.mo_typing.specs.Outcome.{Gives};
 ghost use Rattle.mo_typing.specs.Subscripts.{subscripts};
 ghost use Rattle.mo_eval.specs.Keeping.{IsKept};
 ghost use Rattle.mo_eval.specs.Contexts.{Part as PartOf};
-ghost use Rattle.mo_eval.specs.References.{Components, elements_selected, emptied, every, handed_in, is_inside, kept_dims, kind_accepted, kind_among, kind_of_class, leaf_kind};
+ghost use Rattle.mo_eval.specs.References.{Components, elements_selected, every, handed_in, is_inside, kept_dims, kind_accepted, kind_among, kind_of_class, leaf_kind};
+ghost use Rattle.mo_values.specs.Selected.{emptied};
 ghost use Rattle.mo_eval.specs.Resolving.{made_name, made_named, made_found};
 ghost use Rattle.mo_eval.specs.Seen.{AreThere, virtuals_seen};
 ghost use Rattle.mo_eval.specs.Sites.{IsMade, ask_of, part_in, scope_of};
@@ -26,14 +27,10 @@ ghost use Rattle.mo_eval.specs.steps.Selecting.{elements_as, elements_seen, kind
 
 use crate::absent::{Absent, or_broken};
 use crate::below::{At, below};
-use crate::context::Context;
-use crate::layers::answer;
 use crate::literals::literal_text;
 use crate::names::{Name, Referred, named};
-use crate::operations::broken;
 use crate::reader::Reader;
 use crate::resolve::Site;
-use crate::selecting::{are_inside, emptied};
 use crate::selections::{Selection, selections};
 use crate::virtuals::{Element, Virtual};
 use mo_flat::{ArrayNode, Subscript};
@@ -41,6 +38,9 @@ use mo_names::{Found, enter_component, walk_of};
 use mo_scope::{Declares, Member, Scopes, Sort, copied};
 use mo_syntax::{Broken, ClassId, Kind, List, NoMemory, Place, Reference, Stop, Vary};
 use mo_typing::subscripted;
+use mo_values::layers::answer;
+use mo_values::selecting::{are_inside, emptied};
+use mo_values::{Context, broken};
 use std::alloc::Global;
 
 /// What a reference hands in: dimensions and subscripts.

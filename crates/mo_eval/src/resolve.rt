@@ -8,17 +8,14 @@ ghost use Rattle.mo_typing.specs.Outcome.{Outcome, and_then, Gives};
 ghost use Rattle.mo_eval.specs.Keeping.{IsKept};
 ghost use Rattle.mo_eval.specs.declared.virtuals.Virtual.{Virtual as VirtualAt};
 ghost use Rattle.mo_eval.specs.Virtuals.{Virtual as VirtualSeen, make_each};
-ghost use Rattle.mo_eval.specs.Resolving.{Choice, chosen, make_part, make_parts, power_of, sum_of};
+ghost use Rattle.mo_values.specs.Made.{Choice, chosen, power_of, sum_of};
+ghost use Rattle.mo_eval.specs.Resolving.{make_part, make_parts};
 ghost use Rattle.mo_eval.specs.Seen.{AreThere, virtuals_seen};
 ghost use Rattle.mo_eval.specs.Sites.{scope_of, ask_of, part_in, IsMade};
 ghost use Rattle.mo_eval.specs.steps.Parts.{made_below, made_two, as_term, as_factor, made_term, made_factor};
 
 use crate::calls::call;
 use crate::choice::{choice, range};
-use crate::context::Context;
-use crate::layers::answer;
-use crate::making::{chosen, made_end, placed, power_of, sum_of};
-use crate::operations::broken;
 use crate::reader::Reader;
 use crate::references::name;
 use crate::virtuals::Virtual;
@@ -26,6 +23,9 @@ use mo_flat::{ArrayExpr, ArrayNode};
 use mo_scope::{ScopeAt, Scopes};
 use mo_syntax::{Expr, Factor, List, Node, Place, RelOp, Stop, Term, Text};
 use mo_typing::shapes::Signed;
+use mo_values::layers::answer;
+use mo_values::making::{chosen, made_end, placed, power_of, sum_of};
+use mo_values::{Context, broken};
 use std::alloc::Global;
 
 /// Where an expression is resolved.

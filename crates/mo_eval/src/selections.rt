@@ -19,18 +19,18 @@ ghost use Rattle.mo_eval.specs.steps.Selecting.{component_in, component_standing
 use crate::absent::Absent;
 use crate::components::is_there;
 use crate::dimensions::dims;
-use crate::layers::answer;
 use crate::names::Name;
-use crate::operations::broken;
 use crate::reader::Reader;
 use crate::resolve::Site;
-use crate::selecting::{selected, within};
 use crate::sizes::count_of_dims;
 use crate::subscripts::read_subscripts;
 use mo_flat::Subscript;
 use mo_names::{Found, Reached, enter_component, find_element, stands_for};
 use mo_scope::{Member, Scopes};
 use mo_syntax::{FrameId, List, NoMemory, Part, Place, Stop, Text};
+use mo_values::broken;
+use mo_values::layers::answer;
+use mo_values::selecting::{selected, within};
 use std::alloc::Global;
 
 /// An identifier with the dimensions of its component and the subscripts.

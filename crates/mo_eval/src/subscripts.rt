@@ -5,25 +5,24 @@ ghost use Rattle.std.specs.Option.{option_map};
 ghost use Rattle.mo_scope.specs.Worlds.{Grows, IsFrame, frames_of};
 ghost use Rattle.mo_typing.specs.Outcome.{and_then, Gives};
 ghost use Rattle.mo_eval.specs.Keeping.{IsKept};
-ghost use Rattle.mo_eval.specs.Contexts.{must_be_whole};
+ghost use Rattle.mo_values.specs.Asked.{must_be_whole};
 ghost use Rattle.mo_eval.specs.References.{numbers_of, read_subscript, read_subscripts};
-ghost use Rattle.mo_eval.specs.Walk.{known_at};
+ghost use Rattle.mo_eval.specs.Virtuals.{known_at};
 ghost use Rattle.mo_eval.specs.Seen.{AreThere, resolved_seen};
 ghost use Rattle.mo_eval.specs.Sites.{part_in, elements_in};
 ghost use Rattle.mo_eval.specs.steps.Subscripting.{subscript_at, subscript_in};
 
 use crate::alone::alone;
-use crate::context::Context;
-use crate::layers::{answer, must_be_whole, whole_vector};
 use crate::reader::Reader;
 use crate::reading::unread;
 use crate::resolve::Site;
-use crate::value::Scalar;
 use crate::variables::{known_in, known_with};
 use crate::virtuals::Resolved;
 use mo_flat::Subscript;
 use mo_scope::Scopes;
 use mo_syntax::{Broken, Expr, List, Place, Stop};
+use mo_values::layers::{answer, must_be_whole, whole_vector};
+use mo_values::{Context, Scalar};
 
 /// The numbers of a vector of that size.
 #[cycle(resolving)]

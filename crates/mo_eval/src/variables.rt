@@ -4,26 +4,25 @@ ghost use Rattle.mo_scope.specs.Worlds.{Grows, frames_of};
 ghost use Rattle.mo_names.specs.Sights.{IsMember};
 ghost use Rattle.mo_typing.specs.Outcome.{Outcome, Gives};
 ghost use Rattle.mo_eval.specs.Keeping.{IsKept};
-ghost use Rattle.mo_eval.specs.Scalars.{has_values};
+ghost use Rattle.mo_values.specs.Scalars.{has_values};
 ghost use Rattle.mo_eval.specs.References.{is_replaced};
-ghost use Rattle.mo_eval.specs.Walk.{known_by, known_of_virtuals};
-ghost use Rattle.mo_eval.specs.Told.{AreRead};
+ghost use Rattle.mo_values.specs.Walk.{known_by};
+ghost use Rattle.mo_eval.specs.Virtuals.{known_of_virtuals};
+ghost use Rattle.mo_values.specs.Told.{AreRead};
 ghost use Rattle.mo_eval.specs.Seen.{AreThere, element_seen, virtuals_seen};
 ghost use Rattle.mo_eval.specs.Sequence.{IsElement};
 ghost use Rattle.mo_eval.specs.Sites.{elements_in, variables_in};
 
 use crate::ahead::{Ahead, next_step};
 use crate::components::element_value;
-use crate::halt::Told;
 use crate::kept::{heed, keep_value, value_kept};
-use crate::operations::{broken, has_values};
 use crate::reader::Reader;
 use crate::reading::{Step, mark, unread};
-use crate::value::Scalar;
 use crate::virtuals::{Element, Virtual};
 use mo_flat::ArrayExpr;
 use mo_scope::Scopes;
 use mo_syntax::{Broken, NoMemory, Stop};
+use mo_values::{Scalar, Told, broken, has_values};
 
 /// Whether an element is a constant that is replaced: it has no instance.
 pub(crate) fn is_replaced<'t>(s: &Scopes<'t>, element: &Element<'t>) -> bool

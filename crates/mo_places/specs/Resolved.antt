@@ -9,9 +9,9 @@ use Rattle.mo_scope.specs.Frames.{Member}
 use Rattle.mo_typing.specs.Outcome.{Outcome}
 use Rattle.mo_eval.specs.Contexts.{Part}
 use Rattle.mo_eval.specs.Ends.{Ended, Is_other, Is_removed, Selects}
-use Rattle.mo_eval.specs.Scalars.{Known}
+use Rattle.mo_values.specs.Scalars.{Known}
 use Rattle.mo_eval.specs.Virtuals.{Ask, Component_element, Division, Element, Making, Reading, Resolved, Virtual}
-use Rattle.mo_eval.specs.declared.context.Context.{Context}
+use Rattle.mo_values.specs.declared.context.Context.{Context}
 use Rattle.mo_places.specs.Stands.{Answers, Anything, Every, MemberStands}
 use Rattle.mo_places.specs.Written.{Written, At, Valued}
 

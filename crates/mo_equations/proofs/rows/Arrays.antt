@@ -21,7 +21,7 @@ use Rattle.mo_scope.specs.Lookup.{walked}
 use Rattle.mo_scope.specs.Sizes.{sizes_from}
 use Rattle.mo_eval.specs.Virtuals.{Making, Virtual, Component_element}
 use Rattle.mo_eval.specs.Components.{reading_by}
-use Rattle.mo_eval.specs.Contexts.{for_flat, for_value, only_scalar, only_whole, scalar_or_vector, subscript_of}
+use Rattle.mo_values.specs.Asked.{for_flat, for_value, only_scalar, only_whole, scalar_or_vector, subscript_of}
 use Rattle.mo_eval.specs.Resolving.{made, made_node}
 use Rattle.mo_eval.specs.Values.{component_dims, reading}
 use Rattle.mo_equations.specs.Leaves.{Tree}

@@ -11,7 +11,7 @@ use Rattle.mo_scope.specs.Outcome.{breach, breaks}
 use Rattle.mo_scope.specs.Frames.{Top, In, No_source}
 use Rattle.mo_scope.specs.Instances.{Instance, Leaf}
 use Rattle.mo_typing.specs.Kinds.{accepts}
-use Rattle.mo_eval.specs.Contexts.{for_flat, for_value}
+use Rattle.mo_values.specs.Asked.{for_flat, for_value}
 use Rattle.mo_equations.specs.Leaves.{Tree}
 use Rattle.mo_equations.specs.Replacing.{of_variable}
 use Rattle.mo_equations.specs.Variables.{declared, fits_sizes, replacing}

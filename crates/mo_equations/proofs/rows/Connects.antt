@@ -21,7 +21,7 @@ use Rattle.mo_scope.specs.Frames.{Frame, Top, In, No_source, Indexed}
 use Rattle.mo_scope.specs.Lookup.{walked}
 use Rattle.mo_scope.specs.Sizes.{sizes_from}
 use Rattle.mo_scope.specs.Instances.{Instance, Leaf}
-use Rattle.mo_eval.specs.Contexts.{for_value, only_scalar, only_truth}
+use Rattle.mo_values.specs.Asked.{for_value, only_scalar, only_truth}
 use Rattle.mo_eval.specs.Values.{reading}
 use Rattle.mo_equations.specs.Leaves.{Tree}
 use Rattle.mo_equations.specs.Connectors.{all_flows}

@@ -17,9 +17,8 @@ use Rattle.mo_scope.specs.Frames.{Scope, Top, looked_up}
 use Rattle.mo_scope.specs.Lookup.{walked}
 use Rattle.mo_scope.specs.Sizes.{sizes_from}
 use Rattle.mo_typing.specs.Kinds.{accepts}
-use Rattle.mo_eval.specs.Components.{fitted}
+use Rattle.mo_values.specs.Asked.{fitted, for_flat}
 use Rattle.mo_eval.specs.Virtuals.{Making, Virtual}
-use Rattle.mo_eval.specs.Contexts.{for_flat}
 use Rattle.mo_eval.specs.Resolving.{made_node}
 use Rattle.mo_eval.specs.Values.{reading}
 use Rattle.mo_equations.specs.Leaves.{Tree}

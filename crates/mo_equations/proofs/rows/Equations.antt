@@ -21,12 +21,13 @@ use Rattle.mo_scope.specs.Rows.{no_flags}
 use Rattle.mo_scope.specs.Frames.{Scope}
 use Rattle.mo_scope.specs.Lookup.{walked}
 use Rattle.mo_scope.specs.Sizes.{sizes_from}
-use Rattle.mo_eval.specs.declared.value.Scalar.TheVariants as scalar
-use Rattle.mo_eval.specs.Scalars.{Known}
+use Rattle.mo_values.specs.declared.value.Scalar.TheVariants as scalar
+use Rattle.mo_values.specs.Scalars.{Known}
 use Rattle.mo_eval.specs.Virtuals.{Element, Making, Virtual, resolved_by}
 use Rattle.mo_eval.specs.Components.{reader}
-use Rattle.mo_eval.specs.declared.context.Context.{Context}
-use Rattle.mo_eval.specs.Contexts.{for_flat, for_value, layered, only_scalar, only_truth, only_whole, read_in, truth_of}
+use Rattle.mo_values.specs.declared.context.Context.{Context}
+use Rattle.mo_values.specs.Asked.{for_flat, for_value, layered, only_scalar, only_truth, only_whole, read_in}
+use Rattle.mo_eval.specs.Contexts.{truth_of}
 use Rattle.mo_eval.specs.Resolving.{made, read_end}
 use Rattle.mo_eval.specs.Values.{reading}
 use Rattle.mo_equations.specs.Leaves.{Tree}

@@ -19,8 +19,8 @@ use Rattle.mo_scope.specs.Instances.{Instance}
 use Rattle.mo_typing.specs.Subscripts.{fine}
 use Rattle.mo_arrays.specs.Equations.{sides}
 use Rattle.mo_eval.specs.Virtuals.{Ask, Making, Virtual}
-use Rattle.mo_eval.specs.declared.context.Context.{Context}
-use Rattle.mo_eval.specs.Contexts.{for_flat}
+use Rattle.mo_values.specs.declared.context.Context.{Context}
+use Rattle.mo_values.specs.Asked.{for_flat}
 use Rattle.mo_eval.specs.Resolving.{made, made_node}
 use Rattle.mo_eval.specs.Values.{most_references, reading}
 use Rattle.mo_equations.specs.Leaves.{Tree}

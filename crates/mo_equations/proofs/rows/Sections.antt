@@ -15,7 +15,7 @@ use Rattle.mo_scope.specs.Rows.{Part, Row, Long_class}
 use Rattle.mo_scope.specs.Lookup.{walked}
 use Rattle.mo_scope.specs.Sizes.{sizes_from}
 use Rattle.mo_eval.specs.Virtuals.{Virtual}
-use Rattle.mo_eval.specs.Contexts.{for_flat}
+use Rattle.mo_values.specs.Asked.{for_flat}
 use Rattle.mo_eval.specs.Values.{reading}
 use Rattle.mo_equations.specs.Leaves.{Tree}
 use Rattle.mo_equations.specs.Replacing.{constant, of_variable}

@@ -17,7 +17,7 @@ use Rattle.mo_scope.specs.Frames.{Frame}
 use Rattle.mo_scope.specs.Instances.{Chosen}
 use Rattle.mo_scope.specs.Trees.{IsInstance, IsLeaf, attribute_in, chosen_in, instance_in, leaf_in}
 use Rattle.mo_scope.specs.Worlds.{World}
-use Rattle.mo_eval.specs.Scalars.{Known, has_values}
+use Rattle.mo_values.specs.Scalars.{Known, has_values}
 use Rattle.mo_equations.specs.declared.variables.Attributes.{Attributes}
 use Rattle.mo_equations.specs.declared.variables.Declared.{Declared as DeclaredAt}
 use Rattle.mo_equations.specs.declared.variables.Variable.{Variable as VariableAt}

@@ -5,8 +5,7 @@ use Rattle.mo_syntax.specs.declared.place.Place.{Place}
 use Rattle.mo_typing.specs.Dims.{Dims}
 use Rattle.mo_typing.specs.Kinds.{accepts}
 use Rattle.mo_typing.specs.Subscripts.{Checked}
-use Rattle.mo_eval.specs.Contexts.{only_scalar, only_truth}
-use Rattle.mo_eval.specs.Components.{fitted}
+use Rattle.mo_values.specs.Asked.{only_scalar, only_truth, fitted}
 use Rattle.mo_equations.specs.declared.layers.Fit.{Fit}
 use Rattle.mo_equations.specs.declared.layers.Fit.TheVariants.{Scalar, Sizes, Pending}
 use Rattle.mo_equations.specs.declared.layers.Want.{Want}

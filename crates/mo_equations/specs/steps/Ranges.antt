@@ -9,8 +9,8 @@ use Rattle.mo_scope.specs.Frames.{Scope}
 use Rattle.mo_typing.specs.Dims.{Dims}
 use Rattle.mo_typing.specs.Indices.{Index, numbers_to, range_element}
 use Rattle.mo_typing.specs.Subscripts.{Checked}
-use Rattle.mo_eval.specs.Scalars.{Known}
-use Rattle.mo_eval.specs.Contexts.{layered}
+use Rattle.mo_values.specs.Scalars.{Known}
+use Rattle.mo_values.specs.Asked.{layered}
 use Rattle.mo_eval.specs.Values.{known_of, most_references, resolved_for_value}
 use Rattle.mo_equations.specs.declared.values.Numbers.{Numbers}
 use Rattle.mo_equations.specs.declared.values.Numbers.TheVariants.{Listed, Range}

@@ -9,9 +9,10 @@ use Rattle.mo_scope.specs.Worlds.{World}
 use Rattle.mo_names.specs.Sights.{IsMember}
 use Rattle.mo_eval.specs.declared.virtuals.Virtual.{Virtual as VirtualAt}
 use Rattle.mo_eval.specs.declared.virtuals.Virtual.TheVariants.{Component, Division as division_at}
-use Rattle.mo_eval.specs.Scalars.{Known, has_values}
+use Rattle.mo_values.specs.Scalars.{Known, has_values}
 use Rattle.mo_eval.specs.Virtuals.{Element}
-use Rattle.mo_eval.specs.Components.{binding_of, fitted, place_of}
+use Rattle.mo_eval.specs.Components.{binding_of, place_of}
+use Rattle.mo_values.specs.Asked.{fitted}
 use Rattle.mo_eval.specs.Values.{value_of_element}
 use Rattle.mo_equations.specs.declared.flat.Flat.{Flat}
 use Rattle.mo_equations.specs.Replacing.{Replacing, flat_chosen}

@@ -18,21 +18,24 @@ use Rattle.mo_eval.proofs.Reference.{made_halts}
 use Rattle.mo_eval.proofs.Referring.{all_made, elements_earlier, kind_earlier, made_as_put, named_components, named_member, named_other, no_choice, no_elements, no_kind, none_left_of}
 use Rattle.mo_eval.proofs.Removing.{breaks_nothing, dims_for, if_told, is_there_for, removed_for, there_stops, told_broken}
 use Rattle.mo_eval.proofs.Sizing.{same_plain, size_by}
-use Rattle.mo_eval.proofs.Splitting.{got}
+use Rattle.mo_values.proofs.Splitting.{got}
 use Rattle.mo_eval.proofs.Subscripting.{behind_nothing, by_none, by_some, get_same, number_halts as number_halts_of_subscripting, number_more as number_more_of_subscripting, numbers_end, subscript_by, subscript_halts, subscript_more, subscripts_end}
 use Rattle.mo_eval.proofs.Telling.{if_ok, step_halts}
-use Rattle.mo_eval.specs.Calls.{checked_operands, derivative_of, function_named, known_number, known_of_operands, made_function, make_arguments, read_size, read_sizes, takes, value_of_division}
+use Rattle.mo_values.specs.Asked.{checked_operands, argument_of_size, layered, must_be_truth, must_be_whole, only_whole, operand, read_in, scalar_or_vector, subscript_of}
+use Rattle.mo_values.specs.Made.{derivative_of, known_number, takes, power_of, range_of}
+use Rattle.mo_eval.specs.Calls.{function_named, known_of_operands, made_function, make_arguments, read_size, read_sizes, value_of_division}
 use Rattle.mo_eval.specs.Components.{binding_dims, each_dim, place_of, value_in}
-use Rattle.mo_eval.specs.Contexts.{alone, argument_of_size, layered, must_be_truth, must_be_whole, only_whole, operand, place_of as place_of_of_contexts, read_in, scalar_or_vector, subscript_of, truth_of, whole_of}
-use Rattle.mo_eval.specs.References.{dims_at, numbers_of, read_subscripts, selected, there}
-use Rattle.mo_eval.specs.Resolving.{made_choice, made_range, make_part, make_parts, power_of, range_of, read_end, read_step}
-use Rattle.mo_eval.specs.Scalars.{Known, division, if_it_has}
+use Rattle.mo_eval.specs.Contexts.{alone, place_of as place_of_of_contexts, truth_of, whole_of}
+use Rattle.mo_eval.specs.References.{dims_at, numbers_of, read_subscripts, there}
+use Rattle.mo_values.specs.Selected.{selected}
+use Rattle.mo_eval.specs.Resolving.{made_choice, made_range, make_part, make_parts, read_end, read_step}
+use Rattle.mo_values.specs.Scalars.{Known, division, if_it_has}
 use Rattle.mo_eval.specs.Seen.{element_seen, resolved_seen, virtual_seen, virtuals_seen}
 use Rattle.mo_eval.specs.Sites.{ask_of, elements_in, part_in, scope_of, variables_in}
-use Rattle.mo_eval.specs.Told.{AreRead, IsUnread}
+use Rattle.mo_values.specs.Told.{AreRead, IsUnread}
 use Rattle.mo_eval.specs.Values.{component_dims, reading, there_of}
-use Rattle.mo_eval.specs.Virtuals.{Virtual, make, make_each, make_from}
-use Rattle.mo_eval.specs.Walk.{known_at, known_by, known_of_virtuals, numbered}
+use Rattle.mo_eval.specs.Virtuals.{Virtual, make, make_each, make_from, known_at, known_of_virtuals, numbered}
+use Rattle.mo_values.specs.Walk.{known_by}
 use Rattle.mo_eval.specs.declared.choice.BranchMade.TheVariants.{Dropped}
 use Rattle.mo_eval.specs.declared.dimensions.Measured.{Measured}
 use Rattle.mo_eval.specs.declared.virtuals.Virtual.TheVariants.{Component}

@@ -2,16 +2,16 @@ use Rattle.mo_eval.proofs.Growing.{behind_made}
 use Rattle.mo_eval.proofs.Prefixes.{unread_among}
 use Rattle.mo_eval.specs.Calls.{make_arguments, read_sizes}
 use Rattle.mo_eval.specs.Components.{each_dim}
-use Rattle.mo_eval.specs.Contexts.{Part, must_be_whole}
+use Rattle.mo_eval.specs.Contexts.{Part}
+use Rattle.mo_values.specs.Asked.{must_be_whole}
 use Rattle.mo_eval.specs.Keeping.{IsKept}
 use Rattle.mo_eval.specs.References.{read_subscripts, selections}
 use Rattle.mo_eval.specs.Resolving.{made_choice, make_parts}
 use Rattle.mo_eval.specs.Seen.{AreThere, resolved_seen, virtuals_seen}
 use Rattle.mo_eval.specs.Sites.{elements_in, part_in, plain_in, variables_in}
-use Rattle.mo_eval.specs.Told.{AreRead}
+use Rattle.mo_values.specs.Told.{AreRead}
 use Rattle.mo_eval.specs.Values.{reading}
-use Rattle.mo_eval.specs.Virtuals.{make_each}
-use Rattle.mo_eval.specs.Walk.{known_at}
+use Rattle.mo_eval.specs.Virtuals.{make_each, known_at}
 use Rattle.mo_eval.specs.steps.Absence.{Removal}
 use Rattle.mo_eval.specs.steps.Measuring.{bound_in, dims_more, scoped}
 use Rattle.mo_eval.specs.steps.Naming.{names_seen}

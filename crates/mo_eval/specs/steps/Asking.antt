@@ -5,13 +5,11 @@ use Rattle.mo_syntax.specs.declared.place.Place.{Place}
 use Rattle.mo_typing.specs.Kinds.{accepts, kind_of}
 use Rattle.mo_typing.specs.Indices.{Index}
 use Rattle.mo_typing.specs.Outcome.{Outcome, and_then, breaks}
-use Rattle.mo_eval.specs.declared.value.Value.{Value}
-use Rattle.mo_eval.specs.Scalars.{Known, if_it_has, value_with}
-use Rattle.mo_eval.specs.Virtuals.{Element, Resolved}
-use Rattle.mo_eval.specs.Walk.{known_at}
-use Rattle.mo_eval.specs.Contexts.{any_kind, layered, only_whole, only_scalar}
+use Rattle.mo_values.specs.declared.value.Value.{Value}
+use Rattle.mo_values.specs.Scalars.{Known, if_it_has, value_with}
+use Rattle.mo_eval.specs.Virtuals.{Element, Resolved, known_at}
+use Rattle.mo_values.specs.Asked.{any_kind, layered, only_whole, only_scalar, fitted}
 use Rattle.mo_eval.specs.References.{is_replaced}
-use Rattle.mo_eval.specs.Components.{fitted}
 
 -- what a scalar Integer has, decided or not
 abbrev pub end_in : (Element → Outcome Known) → Place → Resolved → Outcome Known

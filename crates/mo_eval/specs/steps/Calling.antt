@@ -11,11 +11,12 @@ use Rattle.mo_scope.specs.Rows.{Table}
 use Rattle.mo_scope.specs.Frames.{Scope}
 use Rattle.mo_scope.specs.Sizes.{is_nothing}
 use Rattle.mo_typing.specs.Outcome.{Outcome, breaks}
-use Rattle.mo_eval.specs.declared.context.Context.{Context}
-use Rattle.mo_eval.specs.Scalars.{Known}
+use Rattle.mo_values.specs.declared.context.Context.{Context}
+use Rattle.mo_values.specs.Scalars.{Known}
 use Rattle.mo_eval.specs.Virtuals.{Ask, Element, Making, make, make_then, make_from}
 use Rattle.mo_eval.specs.Contexts.{Part}
-use Rattle.mo_eval.specs.Calls.{make_arguments, read_size, derivative_of}
+use Rattle.mo_eval.specs.Calls.{make_arguments, read_size}
+use Rattle.mo_values.specs.Made.{derivative_of}
 use Rattle.mo_eval.specs.Resolving.{all_arguments}
 use Rattle.mo_eval.specs.steps.Parts.{as_part, made_argument}
 

@@ -3,13 +3,14 @@ use Rattle.std.specs.Prelude.{Bool, true, false, List, [], ◌∷◌, Option, So
 use Rattle.mo_syntax.specs.declared.expr.BranchOf.{BranchOf}
 use Rattle.mo_flat.specs.declared.array.ArrayExpr.{ArrayExpr}
 use Rattle.mo_typing.specs.Outcome.{Outcome, and_then}
-use Rattle.mo_eval.specs.declared.context.Context.{Context}
+use Rattle.mo_values.specs.declared.context.Context.{Context}
 use Rattle.mo_eval.specs.declared.choice.BranchMade.{BranchMade}
 use Rattle.mo_eval.specs.declared.choice.BranchMade.TheVariants.{Dropped, Kept, Last}
-use Rattle.mo_eval.specs.declared.value.Scalar.TheVariants.{Truth}
-use Rattle.mo_eval.specs.Scalars.{Known}
+use Rattle.mo_values.specs.declared.value.Scalar.TheVariants.{Truth}
+use Rattle.mo_values.specs.Scalars.{Known}
 use Rattle.mo_eval.specs.Virtuals.{Element, Making, make, make_then, make_from}
-use Rattle.mo_eval.specs.Contexts.{Part, alone, read_in, place_of, truth_of}
+use Rattle.mo_eval.specs.Contexts.{Part, alone, place_of, truth_of}
+use Rattle.mo_values.specs.Asked.{read_in}
 use Rattle.mo_eval.specs.Resolving.{make_part}
 use Rattle.mo_eval.specs.steps.Parts.{made_two}
 

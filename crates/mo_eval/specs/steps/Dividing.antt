@@ -1,24 +1,10 @@
 -- Two operands: words of the contracts inside this crate alone.
-use Rattle.std.specs.Prelude.{ℕ, Bool, true, false, List, [], ◌∷◌, Ok}
+use Rattle.std.specs.Prelude.{ℕ, List, [], ◌∷◌, Ok}
 use Rattle.mo_syntax.specs.declared.place.Place.{Place}
 use Rattle.mo_flat.specs.declared.array.ArrayExpr.{ArrayExpr}
-use Rattle.mo_typing.specs.Outcome.{Outcome, and_then, breaks}
-use Rattle.mo_typing.specs.Dims.{dims_of, scalars}
+use Rattle.mo_typing.specs.Outcome.{Outcome, breaks}
 use Rattle.mo_eval.specs.declared.virtuals.Virtual.{Virtual as VirtualAt}
 use Rattle.mo_eval.specs.declared.virtuals.Virtual.TheVariants.{Division as division_at}
-use Rattle.mo_typing.specs.Subscripts.{Checked, subscripts_of}
-
-abbrev pub are_two : List ArrayExpr → Bool
-are_two (a ∷ b ∷ []) = true
-are_two operands = false
-
--- their dimensions and their subscripts, where both are scalars
-abbrev pub checked_two : Place → ArrayExpr → ArrayExpr → Checked
-checked_two place a b =
-    and_then (dims_of a) (λ m.
-    and_then (dims_of b) (λ n.
-    and_then (scalars place (m ∷ n ∷ [])) (λ _.
-    and_then (subscripts_of a) (λ _. subscripts_of b))))
 
 -- the variable of a call of two operands
 abbrev pub variable_of : Place → (function : ℕ) → List ArrayExpr → Outcome VirtualAt

@@ -13,7 +13,7 @@ use Rattle.mo_typing.specs.Dims.{Dims}
 use Rattle.mo_typing.specs.Outcome.{Outcome, and_then}
 use Rattle.mo_eval.specs.declared.dimensions.Measured.{Measured}
 use Rattle.mo_eval.specs.Virtuals.{Ask}
-use Rattle.mo_eval.specs.Contexts.{any_kind, for_value, layered}
+use Rattle.mo_values.specs.Asked.{any_kind, for_value, layered}
 use Rattle.mo_eval.specs.Resolving.{resolved_in}
 use Rattle.mo_eval.specs.Components.{binding_dims, dims_behind, dims_from, each_dim, place_of}
 use Rattle.mo_eval.specs.Values.{reading}

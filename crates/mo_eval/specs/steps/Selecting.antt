@@ -14,12 +14,13 @@ use Rattle.mo_typing.specs.Indices.{Index}
 use Rattle.mo_typing.specs.Outcome.{Outcome, and_then, each, breaks}
 use Rattle.mo_typing.specs.Subscripts.{subscripts}
 use Rattle.mo_syntax.specs.declared.meaning.Kind.{Kind}
-use Rattle.mo_eval.specs.declared.context.Context.{Context}
+use Rattle.mo_values.specs.declared.context.Context.{Context}
 use Rattle.mo_eval.specs.declared.references.Common.{Common}
 use Rattle.mo_eval.specs.declared.selections.Selection.{Selection as SelectionAt}
 use Rattle.mo_eval.specs.Virtuals.{Reading, Virtual}
 use Rattle.mo_eval.specs.Contexts.{Part}
-use Rattle.mo_eval.specs.References.{Selection, component_behind, elements_below, joined, kind_accepted, kind_among, selected, there, virtual_elements}
+use Rattle.mo_eval.specs.References.{Selection, component_behind, elements_below, joined, kind_accepted, kind_among, there, virtual_elements}
+use Rattle.mo_values.specs.Selected.{selected}
 use Rattle.mo_eval.specs.Components.{reading_by}
 use Rattle.mo_eval.specs.Values.{reading}
 use Rattle.mo_eval.specs.steps.Absence.{Removal, reading_for}

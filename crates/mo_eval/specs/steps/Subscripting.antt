@@ -6,10 +6,10 @@ use Rattle.mo_flat.specs.declared.array.Subscript.TheVariants.{All, One, Many}
 use Rattle.mo_typing.specs.Dims.{Dims}
 use Rattle.mo_typing.specs.Indices.{Index}
 use Rattle.mo_typing.specs.Outcome.{Outcome, and_then}
-use Rattle.mo_eval.specs.Scalars.{Known}
-use Rattle.mo_eval.specs.Virtuals.{Element, Resolved}
-use Rattle.mo_eval.specs.Walk.{known_at}
-use Rattle.mo_eval.specs.Contexts.{Part, layered, must_be_whole, only_whole, scalar_or_vector}
+use Rattle.mo_values.specs.Scalars.{Known}
+use Rattle.mo_eval.specs.Virtuals.{Element, Resolved, known_at}
+use Rattle.mo_eval.specs.Contexts.{Part}
+use Rattle.mo_values.specs.Asked.{layered, must_be_whole, only_whole, scalar_or_vector}
 use Rattle.mo_eval.specs.References.{numbers_of, read_subscript}
 
 -- a subscript by the dimensions of its expression

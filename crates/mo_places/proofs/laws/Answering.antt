@@ -6,8 +6,8 @@ use Rattle.mo_scope.specs.Frames.{Scope, Member}
 use Rattle.mo_scope.specs.Rows.{Table}
 use Rattle.mo_typing.specs.Indices.{Index}
 use Rattle.mo_typing.specs.Kinds.{kind_of}
-use Rattle.mo_eval.specs.Components.{fitted, place_of, reader}
-use Rattle.mo_eval.specs.Contexts.{any_kind, for_flat, for_value, layered}
+use Rattle.mo_values.specs.Asked.{fitted, any_kind, for_flat, for_value, layered}
+use Rattle.mo_eval.specs.Components.{place_of, reader}
 use Rattle.mo_eval.specs.Values.{component_dims, known_of, reading, resolved, resolved_for_value, sizes_of, there_of, value_of, value_of_element}
 use Rattle.mo_eval.specs.Virtuals.{Ask, Element, Resolved}
 use Rattle.mo_places.specs.InFiles.{Descends}

@@ -21,14 +21,15 @@ use Rattle.mo_typing.specs.Dims.{Dims, dims_of, is_scalar, scalars, with_scalar}
 use Rattle.mo_typing.specs.Kinds.{is_among, kind_of}
 use Rattle.mo_typing.specs.Outcome.{Outcome, each}
 use Rattle.mo_typing.specs.Subscripts.{Checked, fine, subscripts_of}
-use Rattle.mo_eval.specs.Calls.{checked_operands, derivative_of, division_variable, function_found, function_named, has_subscripts, is_whole, known_number, known_of_operands, last_identifier, made_call, made_division, made_fill, made_function, made_ndims, made_size, made_sized, make_arguments, plain_arguments, read_size, read_sizes, takes, value_of_division}
-use Rattle.mo_eval.specs.Contexts.{Part, alone, argument_of_size, operand, place_of, read_in, whole_of}
+use Rattle.mo_values.specs.Asked.{checked_operands, is_whole, argument_of_size, operand, read_in}
+use Rattle.mo_values.specs.Made.{derivative_of, known_number, takes}
+use Rattle.mo_eval.specs.Calls.{division_variable, function_found, function_named, has_subscripts, known_of_operands, last_identifier, made_call, made_division, made_fill, made_function, made_ndims, made_size, made_sized, make_arguments, plain_arguments, read_size, read_sizes, value_of_division}
+use Rattle.mo_eval.specs.Contexts.{Part, alone, place_of, whole_of}
 use Rattle.mo_eval.specs.References.{identifier}
-use Rattle.mo_eval.specs.Scalars.{Known}
-use Rattle.mo_eval.specs.Virtuals.{Division, Element, Virtual, make_from, make_variables}
-use Rattle.mo_eval.specs.Walk.{known_at}
-use Rattle.mo_eval.specs.declared.context.Context.{Context}
-use Rattle.mo_eval.specs.declared.value.Scalar.TheVariants.{Whole as whole_scalar, Truth as truth_scalar, Literal as literal_scalar}
+use Rattle.mo_values.specs.Scalars.{Known}
+use Rattle.mo_eval.specs.Virtuals.{Division, Element, Virtual, make_from, make_variables, known_at}
+use Rattle.mo_values.specs.declared.context.Context.{Context}
+use Rattle.mo_values.specs.declared.value.Scalar.TheVariants.{Whole as whole_scalar, Truth as truth_scalar, Literal as literal_scalar}
 use Rattle.mo_places.specs.InFiles.{Descends}
 use Rattle.mo_places.specs.Resolved.{ArrayNodeStands, ArrayStands, Makes, PartStands, ReadStands, ResolvedStands, VirtualsStand}
 use Rattle.mo_places.specs.Stands.{Answers, Anything, Every, FoundStands, FrameStands, IfAny, TableStands}

@@ -15,10 +15,10 @@ use Rattle.mo_typing.specs.Dims.{Dims}
 use Rattle.mo_typing.specs.Indices.{Index}
 use Rattle.mo_typing.specs.Kinds.{accepts}
 use Rattle.mo_typing.specs.Subscripts.{Checked}
-use Rattle.mo_eval.specs.Components.{binding_of, fitted, place_of}
-use Rattle.mo_eval.specs.Contexts.{for_flat}
+use Rattle.mo_eval.specs.Components.{binding_of, place_of}
+use Rattle.mo_values.specs.Asked.{fitted, for_flat}
 use Rattle.mo_eval.specs.Resolving.{made}
-use Rattle.mo_eval.specs.Scalars.{Known, has_values}
+use Rattle.mo_values.specs.Scalars.{Known, has_values}
 use Rattle.mo_eval.specs.Values.{component_dims, known_of, most_references, reading, resolved, resolved_for_value, there_of, value_of_element}
 use Rattle.mo_eval.specs.Virtuals.{Element, Virtual, Component_element, Division, Resolved}
 use Rattle.mo_equations.specs.Replacing.{Replacing, constant, constant_by, flat_at, flat_chosen, flat_value, flat_variable, of_variable, of_virtual, standing, value_or}

@@ -13,8 +13,8 @@ use Rattle.mo_typing.specs.Kinds.{accepts}
 use Rattle.mo_typing.specs.Outcome.{each}
 use Rattle.mo_typing.specs.Subscripts.{fine}
 use Rattle.mo_eval.specs.Components.{place_of}
-use Rattle.mo_eval.specs.Contexts.{layered}
-use Rattle.mo_eval.specs.Scalars.{Known, has_values, if_it_has}
+use Rattle.mo_values.specs.Asked.{layered}
+use Rattle.mo_values.specs.Scalars.{Known, has_values, if_it_has}
 use Rattle.mo_eval.specs.Values.{known_of, most_references, resolved_for_value}
 use Rattle.mo_equations.specs.Leaves.{Tree, Variable, number_of, variables_of}
 use Rattle.mo_equations.specs.Variables.{Declared, all_declared, attribute_kind, binding_equation, declared, declared_with, fits_leaf, fits_sizes, flat_attribute, flat_binding, flat_of_leaf, flat_option, is_parameter, known_of_leaf, pending_sizes, replacing, variable_with}

@@ -21,9 +21,10 @@ use Rattle.mo_typing.specs.Outcome.{each}
 use Rattle.mo_typing.specs.Subscripts.{both, subscripts_of}
 use Rattle.mo_arrays.specs.Equations.{are_one, checked_sides, dims_of_sides, equation, equations_of, kinds_of_sides, sides}
 use Rattle.mo_eval.specs.Components.{place_of, reader}
-use Rattle.mo_eval.specs.Contexts.{layered, must_be_whole, only_scalar, only_truth, only_whole, truth_of}
+use Rattle.mo_values.specs.Asked.{layered, must_be_whole, only_scalar, only_truth, only_whole}
+use Rattle.mo_eval.specs.Contexts.{truth_of}
 use Rattle.mo_eval.specs.References.{numbers_of}
-use Rattle.mo_eval.specs.Scalars.{Known}
+use Rattle.mo_values.specs.Scalars.{Known}
 use Rattle.mo_eval.specs.Values.{known_of, most_references, reading, resolved_for_value}
 use Rattle.mo_eval.specs.Virtuals.{Resolved, Virtual}
 use Rattle.mo_equations.specs.Leaves.{Tree}

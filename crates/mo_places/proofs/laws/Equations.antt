@@ -10,8 +10,8 @@ use Rattle.mo_syntax.specs.declared.expr.ReferenceOf.{ReferenceOf}
 use Rattle.mo_syntax.specs.declared.place.Place.{Place}
 use Rattle.mo_scope.specs.Outcome.{Outcome, and_then, breaks}
 use Rattle.mo_scope.specs.Frames.{Scope}
-use Rattle.mo_eval.specs.declared.value.Scalar.TheVariants.{Literal, Truth, Whole}
-use Rattle.mo_eval.specs.Scalars.{Known}
+use Rattle.mo_values.specs.declared.value.Scalar.TheVariants.{Literal, Truth, Whole}
+use Rattle.mo_values.specs.Scalars.{Known}
 use Rattle.mo_equations.specs.Leaves.{Tree, place_of_root}
 use Rattle.mo_equations.specs.Gathering.{Made, Turning, all_beside, gathered, made_assert, made_connects, made_equations, most_turns, one_turn, turn_each, turn_none, turn_then}
 use Rattle.mo_equations.specs.Ends.{connect_of}

@@ -10,11 +10,11 @@ use Rattle.mo_typing.specs.Indices.{Index}
 use Rattle.mo_typing.specs.Kinds.{kind_of}
 use Rattle.mo_typing.specs.Outcome.{Outcome}
 use Rattle.mo_typing.specs.Subscripts.{Checked, subscripts_of}
-use Rattle.mo_eval.specs.Contexts.{any_kind, layered, must_be_truth, must_be_whole, only_scalar, only_truth, only_whole, scalar_or_vector, truth_of, whole_of}
-use Rattle.mo_eval.specs.Scalars.{Known, division}
-use Rattle.mo_eval.specs.Virtuals.{Element, Resolved}
-use Rattle.mo_eval.specs.Walk.{known_at}
-use Rattle.mo_eval.specs.declared.value.Scalar.TheVariants.{Whole, Truth, Literal}
+use Rattle.mo_values.specs.Asked.{any_kind, layered, must_be_truth, must_be_whole, only_scalar, only_truth, only_whole, scalar_or_vector}
+use Rattle.mo_eval.specs.Contexts.{truth_of, whole_of}
+use Rattle.mo_values.specs.Scalars.{Known, division}
+use Rattle.mo_eval.specs.Virtuals.{Element, Resolved, known_at}
+use Rattle.mo_values.specs.declared.value.Scalar.TheVariants.{Whole, Truth, Literal}
 use Rattle.mo_places.specs.Resolved.{ArrayStands, ReadStands, ResolvedStands}
 use Rattle.mo_places.specs.Stands.{Answers, Anything}
 use Rattle.mo_places.specs.Written.{Written, At}

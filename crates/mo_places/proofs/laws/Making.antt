@@ -4,7 +4,7 @@ use Rattle.std.specs.Prelude.{fold}
 use Rattle.mo_typing.specs.Outcome.{Outcome, and_then, each, breaks}
 use Rattle.mo_eval.specs.Contexts.{Part, alone}
 use Rattle.mo_eval.specs.Virtuals.{Making, Virtual, make, make_each, make_from, make_then, make_variables}
-use Rattle.mo_eval.specs.declared.context.Context.{Context}
+use Rattle.mo_values.specs.declared.context.Context.{Context}
 use Rattle.mo_syntax.specs.declared.place.Place.{Place}
 use Rattle.mo_places.specs.Resolved.{ArrayStands, Makes, PartStands, ResolvedStands, VirtualStands, VirtualsStand}
 use Rattle.mo_places.specs.Stands.{Answers, Anything, Every}

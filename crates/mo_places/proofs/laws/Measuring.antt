@@ -14,7 +14,8 @@ use Rattle.mo_typing.specs.Dims.{Dims}
 use Rattle.mo_typing.specs.Indices.{Index, is_index}
 use Rattle.mo_typing.specs.Outcome.{Outcome}
 use Rattle.mo_eval.specs.Components.{binding_dims, binding_of, dim_at, dims_behind, dims_from, dims_of_component, each_dim, is_there, place_of, reader, written_dim}
-use Rattle.mo_eval.specs.Contexts.{any_kind, for_value, whole_of}
+use Rattle.mo_values.specs.Asked.{any_kind, for_value}
+use Rattle.mo_eval.specs.Contexts.{whole_of}
 use Rattle.mo_eval.specs.Resolving.{resolved_in}
 use Rattle.mo_eval.specs.Virtuals.{Ask}
 use Rattle.mo_places.specs.InFiles.{Descends}

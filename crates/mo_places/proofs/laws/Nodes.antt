@@ -13,9 +13,10 @@ use Rattle.mo_scope.specs.Frames.{Scope}
 use Rattle.mo_scope.specs.Rows.{Table}
 use Rattle.mo_eval.specs.Contexts.{Part, read_element}
 use Rattle.mo_eval.specs.References.{is_replaced}
-use Rattle.mo_eval.specs.Resolving.{chosen, made_choice, made_node, make_part, make_parts}
+use Rattle.mo_values.specs.Made.{chosen}
+use Rattle.mo_eval.specs.Resolving.{made_choice, made_node, make_part, make_parts}
 use Rattle.mo_eval.specs.Virtuals.{Ask, Making, make}
-use Rattle.mo_eval.specs.declared.context.Context.{Context}
+use Rattle.mo_values.specs.declared.context.Context.{Context}
 use Rattle.mo_places.specs.InFiles.{Descends}
 use Rattle.mo_places.specs.Resolved.{ArrayNodeStands, ArrayStands, AskStands, Makes, PartStands}
 use Rattle.mo_places.specs.Stands.{Every, FrameStands, IfAny, TableStands}

@@ -12,14 +12,14 @@ use Rattle.mo_scope.specs.Rows.{Table}
 use Rattle.mo_typing.specs.Dims.{Dims}
 use Rattle.mo_typing.specs.Indices.{Index, is_index}
 use Rattle.mo_typing.specs.Kinds.{accepts, is_accepted}
-use Rattle.mo_eval.specs.Components.{binding_of, condition_in, element_value, fitted, place_of, reader, reading_by, value_in}
-use Rattle.mo_eval.specs.Contexts.{for_value, layered, truth_of}
+use Rattle.mo_eval.specs.Components.{binding_of, condition_in, element_value, place_of, reader, reading_by, value_in}
+use Rattle.mo_values.specs.Asked.{fitted, for_value, layered}
+use Rattle.mo_eval.specs.Contexts.{truth_of}
 use Rattle.mo_eval.specs.References.{is_replaced}
 use Rattle.mo_eval.specs.Resolving.{resolved_in}
 use Rattle.mo_eval.specs.Values.{reading}
-use Rattle.mo_eval.specs.Virtuals.{Ask, Element}
-use Rattle.mo_eval.specs.Walk.{known_at}
-use Rattle.mo_eval.specs.declared.context.Context.{Context}
+use Rattle.mo_eval.specs.Virtuals.{Ask, Element, known_at}
+use Rattle.mo_values.specs.declared.context.Context.{Context}
 use Rattle.mo_places.specs.InFiles.{Descends}
 use Rattle.mo_places.specs.Resolved.{AskStands, ElementStands, ReadingStands, ResolvedStands}
 use Rattle.mo_places.specs.Stands.{ChildStands, Answers, Anything, FrameStands, IfAny, MemberStands, PickedStands, TableStands}

@@ -16,11 +16,12 @@ use Rattle.mo_typing.specs.Dims.{Dims}
 use Rattle.mo_typing.specs.Indices.{Index, numbers_to}
 use Rattle.mo_typing.specs.Outcome.{Outcome, and_then, each}
 use Rattle.mo_typing.specs.Subscripts.{is_within, subscript, subscripts}
-use Rattle.mo_eval.specs.Contexts.{Part, alone, layered, must_be_whole, only_whole, place_of, scalar_or_vector, subscript_of}
-use Rattle.mo_eval.specs.References.{Named, Components, Found_at, Selection, component_behind, counted_subscripts, dims_at, identifier, named, named_before, named_from, named_last, next_member, number_of_dims, numbers_of, read_subscript, read_subscripts, selected, selection_at, selections, there}
-use Rattle.mo_eval.specs.Scalars.{Known}
-use Rattle.mo_eval.specs.Virtuals.{Element, Reading, Resolved}
-use Rattle.mo_eval.specs.Walk.{known_at}
+use Rattle.mo_eval.specs.Contexts.{Part, alone, place_of}
+use Rattle.mo_values.specs.Asked.{layered, must_be_whole, only_whole, scalar_or_vector, subscript_of}
+use Rattle.mo_eval.specs.References.{Named, Components, Found_at, Selection, component_behind, counted_subscripts, dims_at, identifier, named, named_before, named_from, named_last, next_member, number_of_dims, numbers_of, read_subscript, read_subscripts, selection_at, selections, there}
+use Rattle.mo_values.specs.Selected.{selected}
+use Rattle.mo_values.specs.Scalars.{Known}
+use Rattle.mo_eval.specs.Virtuals.{Element, Reading, Resolved, known_at}
 use Rattle.mo_places.specs.InFiles.{Descends}
 use Rattle.mo_places.specs.Resolved.{PartStands, PlaceStands, ReadStands, ReadingStands, ResolvedStands, in_subscript}
 use Rattle.mo_places.specs.Stands.{ChildStands, Answers, Anything, Every, FoundStands, FrameStands, IfAny, MemberStands, ReachedStands, TableStands}

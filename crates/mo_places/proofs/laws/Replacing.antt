@@ -15,7 +15,7 @@ use Rattle.mo_typing.specs.Subscripts.{Checked}
 use Rattle.mo_typing.specs.Indices.{Index}
 use Rattle.mo_arrays.specs.Elements.{element_of}
 use Rattle.mo_eval.specs.Virtuals.{Resolved}
-use Rattle.mo_eval.specs.Contexts.{layered}
+use Rattle.mo_values.specs.Asked.{layered}
 use Rattle.mo_eval.specs.Values.{resolved}
 use Rattle.mo_equations.specs.Replacing.{Replacing, branch_of, flat_at, flat_element, in_list, marked, of_variable, on_two, replaced_node, with_variables}
 use Rattle.mo_places.specs.Written.{Written, At, Valued}

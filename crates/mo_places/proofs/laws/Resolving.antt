@@ -14,13 +14,15 @@ use Rattle.mo_scope.specs.Lookup.{Literal as found_literal, Time as found_time}
 use Rattle.mo_scope.specs.Rows.{Table}
 use Rattle.mo_typing.specs.Dims.{dims_of}
 use Rattle.mo_typing.specs.Outcome.{Outcome, and_then}
-use Rattle.mo_eval.specs.Contexts.{Part, alone, layered, only_scalar, only_whole, operand, place_of, read_element, read_in, truth_of}
+use Rattle.mo_eval.specs.Contexts.{Part, alone, place_of, read_element, truth_of}
+use Rattle.mo_values.specs.Asked.{layered, only_scalar, only_whole, operand, read_in}
 use Rattle.mo_eval.specs.References.{Named, Components, Found_at, is_replaced, named}
-use Rattle.mo_eval.specs.Resolving.{Choice, at_place, chosen, is_matrix, is_string_sum, literal_text, made_choice, made_end, made_found, made_name, made_named, made_power, made_product, made_range, made_sum, make_part, make_parts, power_of, range_of, read_end, read_step, sum_of}
-use Rattle.mo_eval.specs.Scalars.{Known, has_values}
+use Rattle.mo_values.specs.Made.{Choice, chosen, is_matrix, is_string_sum, made_end, power_of, range_of, sum_of}
+use Rattle.mo_eval.specs.Resolving.{at_place, literal_text, made_choice, made_found, made_name, made_named, made_power, made_product, made_range, made_sum, make_part, make_parts, read_end, read_step}
+use Rattle.mo_values.specs.Scalars.{Known, has_values}
 use Rattle.mo_eval.specs.Virtuals.{Ask, Element, Making, make, make_each, make_from, make_then}
-use Rattle.mo_eval.specs.declared.context.Context.{Context}
-use Rattle.mo_eval.specs.declared.value.Scalar.{Scalar}
+use Rattle.mo_values.specs.declared.context.Context.{Context}
+use Rattle.mo_values.specs.declared.value.Scalar.{Scalar}
 use Rattle.mo_places.specs.InFiles.{Descends}
 use Rattle.mo_places.specs.Resolved.{ArrayNodeStands, ArrayStands, AskStands, Makes, PartStands, ReadStands, ReadingStands, ResolvedStands}
 use Rattle.mo_places.specs.Stands.{Answers, Anything, Every, FrameStands, IfAny, TableStands}

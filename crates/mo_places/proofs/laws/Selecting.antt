@@ -14,9 +14,10 @@ use Rattle.mo_typing.specs.Indices.{Index}
 use Rattle.mo_typing.specs.Outcome.{and_then, each}
 use Rattle.mo_typing.specs.Subscripts.{subscripts}
 use Rattle.mo_eval.specs.Contexts.{Part, read_element}
-use Rattle.mo_eval.specs.References.{Selection, agrees, component_behind, elements_below, elements_selected, every, handed_in, is_inside, is_replaced, joined, kind_accepted, kind_among, last_of, leaf_kind, made_reference, selected, selections, there, virtual_elements}
+use Rattle.mo_eval.specs.References.{Selection, agrees, component_behind, elements_below, elements_selected, every, handed_in, is_inside, is_replaced, joined, kind_accepted, kind_among, last_of, leaf_kind, made_reference, selections, there, virtual_elements}
+use Rattle.mo_values.specs.Selected.{selected}
 use Rattle.mo_eval.specs.Virtuals.{Ask, Reading, make_from, make_variables}
-use Rattle.mo_eval.specs.declared.context.Context.{Context}
+use Rattle.mo_values.specs.declared.context.Context.{Context}
 use Rattle.mo_places.specs.InFiles.{Descends}
 use Rattle.mo_places.specs.Resolved.{ArrayNodeStands, AskStands, Makes, PlaceStands, ReadStands, ReadingStands, VirtualsStand, in_subscript, in_subscripts}
 use Rattle.mo_places.specs.Stands.{ChildStands, Answers, Anything, Every, MemberStands, TableStands, WalkedStands}

@@ -7,11 +7,11 @@ use Rattle.mo_tables.specs.declared.functions.TheConstants.{ABS, CROSS, MAX, MIN
 use Rattle.mo_typing.specs.Indices.{Index, first_number, indices, numbers_to, own}
 use Rattle.mo_typing.specs.Outcome.{Outcome, and_then}
 use Rattle.mo_typing.specs.Shape.{is_matrix_factor, multiplied, or_scalar, shape_of}
-use Rattle.mo_eval.specs.Scalars.{Known, chained, division, divided_by, has_values, known_from, of_known, of_number, product_with, read_all, settled, sum_with, truth_eq}
-use Rattle.mo_eval.specs.Walk.{Chain, Factor, Part, all_results, at, both, branch_reads, call, crossed_at, extended, inner_product, number, on_both, operand_of, read_as, result_at, sum_at, undecided_behind}
-use Rattle.mo_eval.specs.declared.value.Reckoned.{Reckoned}
-use Rattle.mo_eval.specs.declared.value.Reckoned.TheVariants.{Unknown, Outside, Is}
-use Rattle.mo_eval.specs.declared.value.Scalar.TheVariants.{Whole, Truth, Literal}
+use Rattle.mo_values.specs.Scalars.{Known, chained, division, divided_by, has_values, known_from, of_known, of_number, product_with, read_all, settled, sum_with, truth_eq}
+use Rattle.mo_values.specs.Walk.{Chain, Factor, Part, all_results, at, both, branch_reads, call, crossed_at, extended, inner_product, number, on_both, operand_of, read_as, result_at, sum_at, undecided_behind}
+use Rattle.mo_values.specs.declared.value.Reckoned.{Reckoned}
+use Rattle.mo_values.specs.declared.value.Reckoned.TheVariants.{Unknown, Outside, Is}
+use Rattle.mo_values.specs.declared.value.Scalar.TheVariants.{Whole, Truth, Literal}
 use Rattle.mo_places.specs.Stands.{Answers, Anything, Every}
 use Rattle.mo_places.specs.Written.{Written, At}
 use Rattle.mo_places.proofs.laws.Standing.{if_answers, then_answers}

@@ -5,7 +5,7 @@ use Rattle.mo_flat.specs.declared.connect.Expanded.{Expanded}
 use Rattle.mo_flat.specs.declared.model.FlatModel.{FlatModel}
 use Rattle.mo_scope.specs.Outcome.{Outcome, and_then}
 use Rattle.mo_scope.specs.Rows.{Row, Table, table_of}
-use Rattle.mo_eval.specs.Contexts.{for_flat}
+use Rattle.mo_values.specs.Asked.{for_flat}
 use Rattle.mo_eval.specs.Values.{most_references}
 use Rattle.mo_equations.specs.Expansion.{expansion_of}
 use Rattle.mo_equations.specs.Leaves.{Tree, place_of_root}

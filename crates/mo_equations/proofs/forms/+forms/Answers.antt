@@ -9,10 +9,10 @@ use Rattle.mo_syntax.specs.declared.expr.Expr.{Expr}
 use Rattle.mo_syntax.specs.declared.place.Stop.{Stop}
 use Rattle.mo_scope.specs.Outcome.{Outcome, breaks}
 use Rattle.mo_typing.specs.Outcome as told
-use Rattle.mo_eval.specs.Scalars.{Known}
+use Rattle.mo_values.specs.Scalars.{Known}
 use Rattle.mo_scope.specs.Worlds.{frames_of, scope_in}
 use Rattle.mo_names.proofs.Later.{is_frame_later}
-use Rattle.mo_eval.specs.declared.value.Scalar.TheVariants.{Truth}
+use Rattle.mo_values.specs.declared.value.Scalar.TheVariants.{Truth}
 use Rattle.mo_equations.specs.declared.desk.Desk.{Desk}
 use Rattle.mo_equations.specs.declared.made.Made.{Made as MadeAt}
 use Rattle.mo_equations.specs.Equations.{Former, Site, condition_known, flat_condition, in_branch, made_kind, made_loop, numbers_of_index, with_iteration}

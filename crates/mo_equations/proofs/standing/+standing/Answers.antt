@@ -13,7 +13,8 @@ use Rattle.mo_scope.specs.Worlds.{frames_of, scope_in, table_in}
 use Rattle.mo_names.specs.Children.{child_seen}
 use Rattle.mo_names.proofs.Later.{is_member_later, table_later}
 use Rattle.mo_typing.specs.Indices.{Index}
-use Rattle.mo_eval.specs.Components.{fitted, place_of}
+use Rattle.mo_values.specs.Asked.{fitted}
+use Rattle.mo_eval.specs.Components.{place_of}
 use Rattle.mo_eval.specs.Seen.{element_seen, resolved_seen, virtual_seen, virtuals_seen}
 use Rattle.mo_eval.specs.Virtuals.{Resolved}
 use Rattle.mo_eval.proofs.Bindings.{picked_exists}

@@ -7,8 +7,8 @@ use Rattle.mo_scope.specs.Outcome.{Outcome}
 use Rattle.mo_scope.specs.Worlds.{World, frames_of, table_in}
 use Rattle.mo_typing.specs.Indices.{Index, numbers_to}
 use Rattle.mo_typing.specs.Outcome.{Gives, each}
-use Rattle.mo_eval.specs.Contexts.{must_be_whole}
-use Rattle.mo_eval.specs.Scalars.{Known}
+use Rattle.mo_values.specs.Asked.{must_be_whole}
+use Rattle.mo_values.specs.Scalars.{Known}
 use Rattle.mo_eval.specs.Seen.{resolved_seen}
 use Rattle.mo_eval.specs.Values.{known_of, most_references}
 use Rattle.mo_eval.proofs.Grown.{there_still}

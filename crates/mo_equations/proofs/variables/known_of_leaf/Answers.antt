@@ -3,7 +3,7 @@ use Rattle.std.proofs.Common.{◌≡◌, refl, subst}
 use Rattle.mo_scope.specs.Outcome.{Outcome}
 use Rattle.mo_scope.specs.Worlds.{frames_of}
 use Rattle.mo_typing.specs.Outcome.{Gives}
-use Rattle.mo_eval.specs.Scalars.{Known}
+use Rattle.mo_values.specs.Scalars.{Known}
 use Rattle.mo_equations.specs.steps.Declaring.{variable_in}
 use Rattle.mo_equations.proofs.Declares.{known_asked}
 use Rattle.mo_equations.proofs.variables.known_of_leaf.Goals as goal

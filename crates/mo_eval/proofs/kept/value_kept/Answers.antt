@@ -3,7 +3,7 @@ use Rattle.std.specs.Prelude.{slice_get}
 use Rattle.mo_scope.specs.Worlds.{frames_of, table_in}
 use Rattle.mo_eval.specs.Seen.{element_seen}
 use Rattle.mo_eval.specs.Values.{value_of_element}
-use Rattle.mo_eval.proofs.Splitting.{got}
+use Rattle.mo_values.proofs.Splitting.{got}
 use Rattle.mo_eval.proofs.kept.value_kept.Goals as goal
 
 pub returns-then-is_same_element : goal.returns-then-is_same_element

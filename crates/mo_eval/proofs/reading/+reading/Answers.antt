@@ -2,10 +2,10 @@ use Rattle.std.proofs.Common.{◌≡◌, ◌-◌, ◌<◌, [], map, take, Some, 
 use Rattle.std.specs.Prelude.{slice_get}
 use Rattle.std.specs.Option.{option_map}
 use Rattle.std.proofs.lemmas.Option.{slice_get-map}
-use Rattle.mo_eval.specs.Walk.{known_of_virtuals}
-use Rattle.mo_eval.specs.Told.{IsUnread}
+use Rattle.mo_eval.specs.Virtuals.{known_of_virtuals}
+use Rattle.mo_values.specs.Told.{IsUnread}
 use Rattle.mo_eval.specs.Seen.{virtual_seen, virtuals_seen}
-use Rattle.mo_eval.proofs.Splitting.{got}
+use Rattle.mo_values.proofs.Splitting.{got}
 use Rattle.mo_eval.proofs.Prefixes.{before_read, some_read, read_or_undecided, unread_before, told_at}
 use Rattle.mo_eval.proofs.reading.+reading.Goals as goal
 

@@ -1,5 +1,5 @@
 use Rattle.std.proofs.Common.{map}
-use Rattle.mo_eval.specs.Walk.{numbered}
+use Rattle.mo_eval.specs.Virtuals.{numbered}
 use Rattle.mo_eval.proofs.Prefixes.{some_read, read_or_undecided}
 use Rattle.mo_eval.proofs.reading.next.Goals as goal
 

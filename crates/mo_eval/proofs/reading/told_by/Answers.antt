@@ -1,4 +1,4 @@
-use Rattle.mo_eval.specs.Walk.{numbered}
+use Rattle.mo_eval.specs.Virtuals.{numbered}
 use Rattle.mo_eval.proofs.reading.told_by.Goals as goal
 
 pub returns-in-Division : goal.returns-in-Division

@@ -2,7 +2,8 @@ use Rattle.std.proofs.Common.{◌≡◌, ◌∷◌, ◌∙◌, [], drop, Err, Ok
 use Rattle.std.specs.Prelude.{option_map}
 use Rattle.mo_scope.specs.Worlds.{frames_of, table_in}
 use Rattle.mo_names.specs.Sights.{member_of}
-use Rattle.mo_eval.specs.References.{component_behind, selected}
+use Rattle.mo_eval.specs.References.{component_behind}
+use Rattle.mo_values.specs.Selected.{selected}
 use Rattle.mo_eval.specs.steps.Parts.{as_identifier}
 use Rattle.mo_eval.specs.steps.Selecting.{next_among}
 use Rattle.mo_eval.proofs.Chosen.{no_first, some_first}

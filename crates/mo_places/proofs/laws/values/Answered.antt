@@ -7,7 +7,7 @@ use Rattle.mo_scope.specs.Frames.{Member, Scope}
 use Rattle.mo_scope.specs.Rows.{Table}
 use Rattle.mo_typing.specs.Indices.{Index}
 use Rattle.mo_eval.specs.Resolving.{made}
-use Rattle.mo_eval.specs.Contexts.{for_flat}
+use Rattle.mo_values.specs.Asked.{for_flat}
 use Rattle.mo_eval.specs.Values.{component_dims, known_of, most_references, reading, resolved, resolved_for_value, sides_of, sizes_of, there_of, value_of, value_of_element}
 use Rattle.mo_eval.specs.Virtuals.{Ask, Element, Resolved, Virtual}
 use Rattle.mo_places.specs.InFiles.{Descends}

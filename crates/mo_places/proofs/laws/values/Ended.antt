@@ -18,9 +18,10 @@ use Rattle.mo_typing.specs.Subscripts.{fine, subscripts}
 use Rattle.mo_eval.specs.Components.{reader}
 use Rattle.mo_eval.specs.Contexts.{Part}
 use Rattle.mo_eval.specs.Ends.{Selected, ended_by, ended_in, ended_of, first_identifier, or_removed, reading_of_end, removed, selected_from, unless_removed, with_parts}
-use Rattle.mo_eval.specs.References.{Components, Found_at, Named, Selection, agrees, component_behind, dims_at, elements_below, elements_selected, handed_in, is_inside, named, next_member, selected, selection_at, selections, there}
+use Rattle.mo_eval.specs.References.{Components, Found_at, Named, Selection, agrees, component_behind, dims_at, elements_below, elements_selected, handed_in, is_inside, named, next_member, selection_at, selections, there}
+use Rattle.mo_values.specs.Selected.{selected}
 use Rattle.mo_eval.specs.Resolving.{made}
-use Rattle.mo_eval.specs.Scalars.{Known}
+use Rattle.mo_values.specs.Scalars.{Known}
 use Rattle.mo_eval.specs.Values.{most_references, reading}
 use Rattle.mo_eval.specs.Virtuals.{Ask, Element, Reading}
 use Rattle.mo_places.specs.InFiles.{Descends}

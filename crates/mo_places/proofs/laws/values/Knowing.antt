@@ -7,10 +7,10 @@ use Rattle.mo_flat.specs.declared.array.ArrayNode.{ArrayNode, ArrayNode-F, fold-
 use Rattle.mo_typing.specs.Indices.{Index, or_else}
 use Rattle.mo_typing.specs.Kinds.{kind_of_node}
 use Rattle.mo_typing.specs.Outcome.{Outcome}
-use Rattle.mo_eval.specs.Scalars.{Known, chained, negated, of_known, related}
-use Rattle.mo_eval.specs.Virtuals.{Component_element, Division, Element, Resolved, Virtual}
-use Rattle.mo_eval.specs.Walk.{Factor, Part, at, branch_of, element_among, kind_or_real, known_at, known_by, known_of_virtual, known_of_virtuals, known_part, number, numbered, part_of, result_node, result_of_node, signed_of, unbegun}
-use Rattle.mo_eval.specs.declared.value.Reckoned.{Reckoned}
+use Rattle.mo_values.specs.Scalars.{Known, chained, negated, of_known, related}
+use Rattle.mo_eval.specs.Virtuals.{Component_element, Division, Element, Resolved, Virtual, known_at, known_of_virtual, known_of_virtuals, numbered}
+use Rattle.mo_values.specs.Walk.{Factor, Part, at, branch_of, element_among, kind_or_real, known_by, known_part, number, part_of, result_node, result_of_node, signed_of, unbegun}
+use Rattle.mo_values.specs.declared.value.Reckoned.{Reckoned}
 use Rattle.mo_places.specs.Resolved.{ArrayNodeStands, ArrayStands, PlaceStands, ReadStands, ResolvedStands, VirtualStands, VirtualsStand, in_array, in_array_node, in_branches, in_parts, in_signed, places_in_array, places_in_array_node}
 use Rattle.mo_places.specs.Stands.{Answers, Anything, Every, IfAny}
 use Rattle.mo_places.specs.Written.{Written}

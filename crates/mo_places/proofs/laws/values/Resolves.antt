@@ -23,7 +23,7 @@ use Rattle.mo_typing.specs.Outcome.{breaks}
 use Rattle.mo_eval.specs.Contexts.{Part}
 use Rattle.mo_eval.specs.Resolving.{all_arguments, is_empty, made, made_node, resolved_in, with_argument}
 use Rattle.mo_eval.specs.Virtuals.{Ask, Making, make_from}
-use Rattle.mo_eval.specs.declared.context.Context.{Context}
+use Rattle.mo_values.specs.declared.context.Context.{Context}
 use Rattle.mo_eval.specs.steps.Parts.{Former, as_branch, as_callee, as_factor, as_identifier, as_part, as_reference, as_term, made_argument, made_arguments, made_below}
 use Rattle.mo_eval.proofs.Forms.{at_All, at_Any, at_Args, at_Array, at_ArrayFor, at_Call, at_Decimal, at_EndMark, at_If, at_Matrix, at_Not, at_Partial, at_Power, at_Product, at_Range, at_Ref, at_Relation, at_Str, at_Sum, at_Truth, at_Tuple, at_Value, at_Whole, at_expr}
 use Rattle.mo_places.specs.InFiles.{Descends}

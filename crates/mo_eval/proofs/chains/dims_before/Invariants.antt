@@ -1,5 +1,0 @@
-use Rattle.mo_eval.proofs.Splitting.{AreDims}
-use Rattle.mo_eval.proofs.chains.dims_before.Given as goal
-
-abbrev pub invariant-loop-factor : goal.invariant-loop-factor
-invariant-loop-factor l = AreDims l.factors l.factor-index l.dims

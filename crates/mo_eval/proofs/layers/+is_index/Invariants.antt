@@ -1,5 +1,0 @@
-use Rattle.std.proofs.Common.{length}
-use Rattle.mo_eval.proofs.layers.+is_index.Given as goal
-
-abbrev pub decreases-is_index : goal.decreases-is_index
-decreases-is_index l = length l.dims.now

@@ -1,8 +1,0 @@
-use Rattle.std.proofs.Common.{◌≡◌, drop, true}
-use Rattle.mo_typing.specs.Outcome.{and_then, each}
-use Rattle.mo_typing.specs.Kinds.{kind_of}
-use Rattle.mo_eval.proofs.Dividing.{all_whole}
-use Rattle.mo_eval.proofs.operands.are_whole.Given as goal
-
-abbrev pub invariant-loop-operand : goal.invariant-loop-operand
-invariant-loop-operand l = and_then (each kind_of (drop l.operand-index l.operands)) (all_whole l.whole) ≡ and_then (each kind_of l.operands) (all_whole true)
