@@ -16,13 +16,16 @@ use Rattle.mo_eval.specs.declared.virtuals.Element.{Element as ElementAt}
 use Rattle.mo_eval.specs.declared.virtuals.Virtual.{Virtual as VirtualAt}
 use Rattle.mo_eval.specs.declared.virtuals.Virtual.TheVariants.{Component, Division as division_at}
 use Rattle.mo_eval.specs.Virtuals.{Component_element, Division}
+use Rattle.mo_eval.specs.Components.{binding_of}
+use Rattle.mo_eval.specs.declared.reader.Bound.{Bound}
+use Rattle.mo_eval.specs.declared.reader.KeptBinding.{KeptBinding}
 use Rattle.mo_eval.specs.declared.reader.KeptDims.{KeptDims}
 use Rattle.mo_eval.specs.declared.reader.KeptThere.{KeptThere}
 use Rattle.mo_eval.specs.declared.reader.KeptValue.{KeptValue}
 use Rattle.mo_eval.specs.declared.reader.Reader.{Reader}
-use Rattle.mo_eval.specs.Values.{component_dims, there_of, value_of_element}
+use Rattle.mo_eval.specs.Values.{component_dims, resolved_for_value, there_of, value_of_element}
 use Rattle.mo_eval.specs.Seen.{AreThere, element_seen, virtuals_seen}
-use Rattle.mo_eval.specs.Keeping.{AreDimsKept, IsKept, IsThereKept, IsValueKept}
+use Rattle.mo_eval.specs.Keeping.{AreDimsKept, IsBinding, IsBindingKept, IsKept, IsThereKept, IsValueKept}
 
 pub grows_still : (world : World) → Grows world world
 grows_still world = record { files = refl; more = []; entries = sym (append-nil world.entries) }
@@ -97,12 +100,24 @@ dims_still old new grows left member is dims told =
     ap (λ member. component_dims (table_in new) left member) (member_later old new member grows is)
     ∙ (ap (λ table. component_dims table left (member_of (frames_of old) member)) (same_table old new grows) ∙ told)
 
+pub binding_still : (old new : World) → Grows old new → (left : ℕ) (member : MemberAt) → IsMember old member → (bound : Bound) → IsBinding old left member bound → IsBinding new left member bound
+binding_still old new grows left member is bound one = record {
+  there = there_still old new grows bound.resolved.virtuals one.there;
+  layers = one.layers;
+  is = λ index picked at.
+      ap (λ table. resolved_for_value table left picked.scope picked.value) (same_table old new grows)
+      ∙ (one.is index picked
+      (sym (ap (λ one. binding_of (table_in new) one index) (member_later old new member grows is) ∙ ap (λ table. binding_of table (member_of (frames_of old) member) index) (same_table old new grows)) ∙ at)
+      ∙ ap (λ virtuals. Ok (record { expression = bound.resolved.expression; virtuals = virtuals })) (sym (same_virtuals old new grows bound.resolved.virtuals one.there)));
+}
+
 -- what a reader keeps
 pub kept_still : (old new : World) → Grows old new → (reader : Reader) → IsKept old reader → IsKept new reader
 kept_still old new grows reader is = record {
   values = λ k kept at. value_kept_still kept (is.values k kept at);
   conditions = λ k kept at. there_kept_still kept (is.conditions k kept at);
   dims = λ k kept at. dims_kept_still kept (is.dims k kept at);
+  bindings = λ k kept at. binding_kept_still kept (is.bindings k kept at);
 }
   where
     value_kept_still : (kept : KeptValue) → IsValueKept old kept → IsValueKept new kept
@@ -121,4 +136,10 @@ kept_still old new grows reader is = record {
     dims_kept_still kept one = record {
       member = member_still old new grows kept.member one.member;
       are = dims_still old new grows kept.left kept.member one.member kept.dims one.are;
+    }
+
+    binding_kept_still : (kept : KeptBinding) → IsBindingKept old kept → IsBindingKept new kept
+    binding_kept_still kept one = record {
+      member = member_still old new grows kept.member one.member;
+      is = λ resolved e. binding_still old new grows kept.left kept.member one.member resolved (one.is resolved e);
     }

@@ -1,13 +1,16 @@
 pub mod Arguing
 pub mod Bindings
+mod Bound
 pub mod Calling
 pub mod Choosing
 pub mod Dividing
 pub mod Forms
 pub mod Growing
 pub mod Grown
+pub mod Layering
 pub mod OneDeeper
 pub mod Prefixes
+mod SamePicks
 pub mod Telling
 pub mod Sizing
 pub mod TypeSizes

@@ -1,6 +1,7 @@
 -- What a reader keeps of components.
 use Rattle.std.proofs.Common.{◌≡◌, ℕ, zero, suc, Bool, true, false, List, [], ◌∷◌, ◌++◌, Option, Some, None, Ok, Err, refl, ap, sym, subst, ◌∙◌}
-use Rattle.std.specs.Prelude.{slice_get}
+use Rattle.std.specs.Prelude.{IfSome, slice_get}
+use Rattle.std.proofs.Math.ListN.{set}
 use Rattle.mo_syntax.specs.declared.meaning.Kind.{Kind}
 use Rattle.mo_syntax.specs.declared.place.Place.{Place}
 use Rattle.mo_scope.specs.Frames.{Frame, Member}
@@ -14,10 +15,14 @@ use Rattle.mo_scope.specs.declared.row.Member.{Member as MemberAt}
 use Rattle.mo_names.specs.Sights.{IsMember, member_of}
 use Rattle.mo_typing.specs.Indices.{Index}
 use Rattle.mo_typing.specs.Outcome.{Outcome, breaks}
+use Rattle.mo_eval.specs.Components.{binding_of}
+use Rattle.mo_eval.specs.Keeping.{IsBinding, IsBindingKept, bound_seen}
 use Rattle.mo_eval.specs.References.{is_replaced}
 use Rattle.mo_values.specs.Scalars.{Known}
-use Rattle.mo_eval.specs.Values.{reading, value_of_element}
+use Rattle.mo_eval.specs.Values.{reading, resolved_for_value, value_of_element}
 use Rattle.mo_eval.specs.Virtuals.{Element}
+use Rattle.mo_eval.specs.declared.reader.KeptBinding.{KeptBinding}
+use Rattle.mo_eval.specs.declared.reader.Bound.{Bound}
 use Rattle.mo_eval.specs.steps.Asking.{unbound}
 use Rattle.mo_eval.proofs.Bindings.{bound_is, unbound_is}
 
@@ -32,6 +37,15 @@ each_pushed P [] y each is zero x at = subst P (ap (or_this y) at) is
 each_pushed {A = A} P [] y each is (suc k) x at = absurd (let clash : ◌≡◌ {A = Option A} None (Some x) = at in cc)
 each_pushed P (z ∷ xs) y each is zero x at = each zero x at
 each_pushed P (z ∷ xs) y each is (suc k) x at = each_pushed P xs y (λ j w h. each (suc j) w h) is k x at
+
+-- and of all but one, in whose place another one stands
+pub each_set : {A : Type 0} (P : A → Type 0) (xs : List A) (i : ℕ) (y : A) → ((k : ℕ) (x : A) → slice_get xs k ≡ Some x → P x) → P y →
+    (k : ℕ) (x : A) → slice_get (set xs i y) k ≡ Some x → P x
+each_set P [] i y each is k x at = each k x at
+each_set P (z ∷ xs) zero y each is zero x at = subst P (ap (or_this y) at) is
+each_set P (z ∷ xs) zero y each is (suc k) x at = each (suc k) x at
+each_set P (z ∷ xs) (suc i) y each is zero x at = each zero x at
+each_set P (z ∷ xs) (suc i) y each is (suc k) x at = each_set P xs i y (λ j w h. each (suc j) w h) is k x at
 
 -- ---- one component
 
@@ -85,3 +99,18 @@ value_same table left m n i j k l b c p q known members indices kinds constants 
     ∙ (ap (λ x. value_of_element table left (element_with n x k b q)) indices
     ∙ (ap (λ x. value_of_element table left (element_with n j x b q)) kinds ∙ ap (λ x. value_of_element table left (element_with n j l x q)) constants)))
     ∙ value_anywhere table left m i k b p q known h
+
+-- ---- one binding
+
+-- the binding that is kept in a row of a component
+pub taken : (world : World) (left : ℕ) (member : MemberAt) (row : KeptBinding) (result : Option Bound) → IsBindingKept world row → row.left ≡ left →
+    member_of (frames_of world) row.member ≡ member_of (frames_of world) member → result ≡ row.bound → IfSome result (IsBinding world left member)
+taken world left member row None kept same members is = tt
+taken world left member row (Some bound) kept same members is =
+    let one : IsBinding world row.left row.member bound = kept.is bound (sym is) in
+    record {
+      there = one.there;
+      layers = one.layers;
+      is = λ index picked at. subst (λ (n : ℕ). resolved_for_value (table_in world) n picked.scope picked.value ≡ Ok (bound_seen (frames_of world) bound)) same
+          (one.is index picked (ap (λ m. binding_of (table_in world) m index) members ∙ at));
+    }

@@ -1,27 +1,29 @@
 //! What is read of components: their conditions, their dimensions and the values of their bindings (Modelica Language Specification
 //! 3.5, sections 4.4.2, 4.4.4, 4.8, 7.2.5 and 10.1).
-ghost use Rattle.std.specs.Prelude.{◌≡◌, []};
+ghost use Rattle.std.specs.Prelude.{◌≡◌, [], IfOk, Ok, Some};
+ghost use Rattle.mo_scope.specs.Outcome.{Gives as GivesSeen};
 ghost use Rattle.mo_scope.specs.Sights.{picked_in};
 ghost use Rattle.mo_scope.specs.Worlds.{Grows, IsFrame, frames_of, table_in, scope_in};
 ghost use Rattle.mo_names.specs.Sights.{IsMember, member_of};
 ghost use Rattle.mo_typing.specs.Outcome.{Gives};
-ghost use Rattle.mo_eval.specs.Keeping.{IsKept};
-ghost use Rattle.mo_eval.specs.Components.{condition_in, value_in};
-ghost use Rattle.mo_eval.specs.Values.{reading, there_of, value_of_element};
-ghost use Rattle.mo_eval.specs.Seen.{AreThere, element_seen, resolved_seen};
+ghost use Rattle.mo_eval.specs.Keeping.{AreLayers, IsBinding, IsKept, bound_seen};
+ghost use Rattle.mo_eval.specs.Components.{binding_of, condition_in, value_in};
+ghost use Rattle.mo_eval.specs.Values.{reading, resolved_for_value, there_of, value_of_element};
+ghost use Rattle.mo_eval.specs.Seen.{AreThere, element_seen};
 ghost use Rattle.mo_eval.specs.Sites.{elements_in};
 ghost use Rattle.mo_eval.specs.steps.Asking.{bound_in, unbound};
 
 use crate::alone::{alone, truth_of};
-use crate::kept::{keep_there, there_kept};
-use crate::reader::Reader;
+use crate::kept::{keep_binding, keep_there, take_binding, there_kept};
+use crate::layers::{fits, part_of_bound, with_layers};
+use crate::reader::{Bound, Reader};
 use crate::resolve::Site;
 use crate::variables::{is_replaced, known_in};
-use crate::virtuals::{Element, Resolved};
+use crate::virtuals::Element;
 use mo_names::child_of_member;
 use mo_scope::{Member, Picked, ScopeAt, Scopes, Sort, pick_here};
 use mo_syntax::{Broken, Expr, FrameId, Kind, List, Place, Stop};
-use mo_values::layers::{answer, binding, must_be_truth};
+use mo_values::layers::{answer, must_be_truth};
 use mo_values::{Context, Scalar, broken, if_it_has};
 
 /// Whether a condition holds that stands in a class with this frame, where so many references may still be read.
@@ -93,49 +95,78 @@ fn bound_value<'t>(
     want: Kind,
     place: Place,
     pending: &[u32],
-    resolved: &Resolved<'t>,
+    bound: &Bound<'t>,
 ) -> Result<Option<Scalar>, Stop>
-    requires there { AreThere s.old resolved.now.virtuals }
+    requires there { AreThere s.old bound.now.resolved.virtuals }
+    requires layers { AreLayers bound.now }
     requires kept { IsKept s.old reader.old }
     ensures grows { Grows s.old s.new }
     ensures kept { IsKept s.new reader.new }
-    ensures exact { Gives result (bound_in (elements_in s.old left) want place pending.now (resolved_seen (frames_of s.old) resolved.now)) }
+    ensures exact { Gives result (bound_in (elements_in s.old left) want place pending.now (bound_seen (frames_of s.old) bound.now)) }
 {
-    binding(reader.alloc, want, place, pending, &resolved.expression)?;
-    known_in(
-        reader,
-        s,
-        left,
-        &resolved.expression,
-        pending,
-        resolved.virtuals.as_slice(),
-    )
+    fits(reader.alloc, want, place, pending, bound)?;
+    let (e, index) = part_of_bound(&*bound, &*pending);
+    let virtuals = bound.resolved.virtuals.as_slice();
+    known_in(reader, s, left, e, index, virtuals)
 }
 
-/// The value of a binding.
+/// The binding of an element, resolved.
 #[cycle(resolving)]
-fn value_in<'t>(
+fn resolved_binding<'t>(
     reader: &mut Reader<'t>,
     s: &mut Scopes<'t>,
     left: u64,
-    kind: Kind,
+    element: &Element<'t>,
     picked: &Picked,
-) -> Result<Option<Scalar>, Stop>
+) -> Result<Bound<'t>, Stop>
     requires frame { IsFrame s.old picked.now.scope.now.frame.0 }
+    requires member { IsMember s.old element.now.member }
+    requires picked { binding_of (table_in s.old) (member_of (frames_of s.old) element.now.member) element.now.index ≡ Ok (Some (picked_in (frames_of s.old) picked.now)) }
     requires kept { IsKept s.old reader.old }
     ensures grows { Grows s.old s.new }
     ensures kept { IsKept s.new reader.new }
-    ensures exact { Gives result (value_in (table_in s.old) (reading (table_in s.old) left) kind (picked_in (frames_of s.old) picked.now)) }
+    ensures binding { IfOk result (IsBinding s.new left element.now.member) }
+    ensures exact { GivesSeen (bound_seen (frames_of s.new)) result (resolved_for_value (table_in s.old) left (picked_in (frames_of s.old) picked.now).scope picked.now.value.now) }
 {
-    let e = picked.value;
+    if let Some(bound) = take_binding(reader, left, &element.member) {
+        return Ok(bound);
+    }
     let site = Site {
         at: picked.scope,
         left,
         room: u64::MAX,
         context: Context::for_value(),
     };
-    let resolved = alone(reader, s, &site, e)?;
-    let known = bound_value(reader, s, left, kind, e.place, picked.pending, &resolved)?;
+    let resolved = alone(reader, s, &site, picked.value)?;
+    Ok(Bound {
+        resolved,
+        layers: None,
+    })
+}
+
+/// The value of the binding of an element.
+#[cycle(resolving)]
+fn value_in<'t>(
+    reader: &mut Reader<'t>,
+    s: &mut Scopes<'t>,
+    left: u64,
+    element: &Element<'t>,
+    picked: &Picked,
+) -> Result<Option<Scalar>, Stop>
+    requires frame { IsFrame s.old picked.now.scope.now.frame.0 }
+    requires member { IsMember s.old element.now.member }
+    requires picked { binding_of (table_in s.old) (member_of (frames_of s.old) element.now.member) element.now.index ≡ Ok (Some (picked_in (frames_of s.old) picked.now)) }
+    requires kept { IsKept s.old reader.old }
+    ensures grows { Grows s.old s.new }
+    ensures kept { IsKept s.new reader.new }
+    ensures exact { Gives result (value_in (table_in s.old) (reading (table_in s.old) left) element.now.kind (picked_in (frames_of s.old) picked.now)) }
+{
+    let found = resolved_binding(reader, s, left, element, picked)?;
+    let bound = with_layers(reader.alloc, found)?;
+    let kind = element.kind;
+    let place = picked.value.place;
+    let known = bound_value(reader, s, left, kind, place, picked.pending, &bound)?;
+    keep_binding(reader, left, element, bound)?;
     Ok(if_it_has(kind, known))
 }
 
@@ -169,6 +200,6 @@ pub(crate) fn element_value<'t>(
     let child = child_of_member(reader.alloc, s, &element.member, element.index.as_slice())?;
     match pick_here(child.sources.as_slice()) {
         None => answer(unbound(s, element)),
-        Some(picked) => value_in(reader, s, left, element.kind, &picked),
+        Some(picked) => value_in(reader, s, left, element, &picked),
     }
 }

@@ -3,12 +3,12 @@
 ghost use Rattle.std.specs.Prelude.{◌≡◌, ℕ, IfOk, IfSome, IsTrue, Ok};
 ghost use Rattle.mo_scope.specs.Worlds.{World, frames_of, table_in};
 ghost use Rattle.mo_names.specs.Sights.{IsMember, member_of};
-ghost use Rattle.mo_eval.specs.Keeping.{IsKept};
+ghost use Rattle.mo_eval.specs.Keeping.{IsBinding, IsKept};
 ghost use Rattle.mo_values.specs.Scalars.{Known};
 ghost use Rattle.mo_eval.specs.Seen.{element_seen};
 ghost use Rattle.mo_eval.specs.Values.{component_dims, there_of, value_of_element};
 
-use crate::reader::{KeptDims, KeptThere, KeptValue, Key, Reader};
+use crate::reader::{Bound, KeptBinding, KeptDims, KeptThere, KeptValue, Key, Reader};
 use crate::virtuals::Element;
 use mo_scope::{Member, copied};
 use mo_syntax::{Broken, List, NoMemory};
@@ -182,4 +182,48 @@ pub(crate) fn heed<'t>(reader: &mut Reader<'t>, outcome: &Result<Option<Scalar>,
     ensures { (world : World) → IsKept world reader.old → IsKept world reader.new }
 {
     reader.reads_ahead = reader.reads_ahead && outcome.is_ok();
+}
+
+/// Takes out the resolved binding of a component, where one is kept.
+pub(crate) fn take_binding<'t>(
+    reader: &mut Reader<'t>,
+    left: u64,
+    member: &Member<'t>,
+) -> Option<Bound<'t>>
+    ensures kept { (world : World) → IsKept world reader.old → IsKept world reader.new }
+    ensures is { (world : World) → IsKept world reader.old → IsMember world member.now → IfSome result (IsBinding world left member.now) }
+{
+    let Some(place) = reader.binding_places.get(&key_of(left, member, &[])) else {
+        return None;
+    };
+    let place = *place;
+    let Some(kept) = reader.bindings.get(place) else {
+        return None;
+    };
+    if kept.left == left && is_same(&kept.member, member) {
+        return reader.bindings[place].bound.take();
+    }
+    None
+}
+
+/// Keeps the resolved binding of an array.
+pub(crate) fn keep_binding<'t>(
+    reader: &mut Reader<'t>,
+    left: u64,
+    element: &Element<'t>,
+    bound: Bound<'t>,
+) -> Result<(), NoMemory>
+    ensures { (world : World) → IsKept world reader.old → IsMember world element.now.member → IsBinding world left element.now.member bound.entry → IsKept world reader.new }
+{
+    if element.index.is_empty() {
+        return Ok(());
+    }
+    let key = key_of(left, &element.member, &[]);
+    reader.binding_places.insert(key, reader.bindings.len())?;
+    reader.bindings.push(KeptBinding {
+        member: element.member,
+        left,
+        bound: Some(bound),
+    })?;
+    Ok(())
 }

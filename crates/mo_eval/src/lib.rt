@@ -32,6 +32,7 @@ mod dimensions;
 mod division;
 mod ends;
 mod kept;
+mod layers;
 mod literals;
 mod names;
 mod reader;

@@ -18,7 +18,7 @@ use crate::variables::known_in;
 use crate::virtuals::{Element, Resolved, Sides};
 use crate::{components, dimensions};
 use mo_scope::{Member, ScopeAt, Scopes};
-use mo_syntax::{Expr, List, Place, Reference, Stop};
+use mo_syntax::{Expr, Kind, List, Place, Reference, Stop};
 use mo_typing::kind_of;
 use mo_values::layers::{self, answer, fitting};
 use mo_values::{Context, Scalar, Value, if_it_has, value_with};
@@ -50,6 +50,30 @@ pub struct KeptDims<'t> {
     pub(crate) member: Member<'t>,
     pub(crate) left: u64,
     pub(crate) dims: List<u32>,
+}
+
+/// The kind and the dimensions of a resolved expression that breaks no rule of kinds, dimensions and subscripts.
+#[derive(Drop)]
+pub struct Layers {
+    pub(crate) kind: Kind,
+    pub(crate) dims: List<u32>,
+}
+
+/// What binds the elements of a component, resolved, with its layers once these were asked.
+#[derive(Drop)]
+pub struct Bound<'t> {
+    pub(crate) resolved: Resolved<'t>,
+    /// None where they were not asked yet, or break a rule.
+    pub(crate) layers: Option<Layers>,
+}
+
+/// The binding of a component, resolved with so many references left. It is the same for all its elements.
+#[derive(Drop)]
+pub struct KeptBinding<'t> {
+    pub(crate) member: Member<'t>,
+    pub(crate) left: u64,
+    /// None while an element is read by it.
+    pub(crate) bound: Option<Bound<'t>>,
 }
 
 /// The value of a resolved expression of that place at its pending indices.
@@ -101,6 +125,8 @@ pub struct Reader<'t> {
     pub(crate) value_places: HashMap<Key, usize>,
     pub(crate) condition_places: HashMap<Key, usize>,
     pub(crate) dims_places: HashMap<Key, usize>,
+    pub(crate) bindings: Vec<KeptBinding<'t>>,
+    pub(crate) binding_places: HashMap<Key, usize>,
     /// Whether variables are read ahead of a walk, as long as none broke a rule.
     pub(crate) reads_ahead: bool,
 }
@@ -118,6 +144,8 @@ impl<'t> Reader<'t> {
             value_places: HashMap::new(alloc),
             condition_places: HashMap::new(alloc),
             dims_places: HashMap::new(alloc),
+            bindings: Vec::new(alloc),
+            binding_places: HashMap::new(alloc),
             reads_ahead: true,
         }
     }

@@ -1,5 +1,6 @@
 use crate::asking::check;
 use mo_syntax::NoMemory;
+use std::alloc::Global;
 
 // Literals and operators.
 const NUMBERS: [&str; 1] = [
@@ -240,6 +241,37 @@ sum(x) < 0 or y > 0||30 before 64
 sum(x) + y + sum(x)||30 before 64",
 ];
 
+// The resolved binding of an array serves all its elements, those too that it names itself.
+const BINDINGS: [&str; 1] = [
+    "parameter Integer x[5] = {1, x[1] + 1, x[2] + 1, x[3] + 1, x[4] + 1}; parameter Integer y[2] = {y[2], y[1]}; model R parameter Integer a[2]; end R; R r[2](a = {{1, 2}, {3, 4}});
+x[5]||5
+sum(x)||15
+sum(r.a)||10
+r[2].a[1]||3
+x[6]||32 at 2
+y[1]||29 before 104",
+    "parameter Integer m[2, 3] = {{1, 2, 3}, {4, 5, 9223372036854775807 + 1}}; parameter Real r[2] = {1, 2.5}; parameter Boolean b[2] = {r[1] > 0, true}; parameter Integer z[2] = {1, 2.5};
+m[2, 2]||5
+sum(m[1, :])||6
+m[2, 3]||30 before 55
+sum(m)||30 before 55
+r[1]||undecided
+b[1]||undecided
+b[2]||true
+z[1]||33 before 182",
+];
+
+/// An array that is bound to the literal of the numbers from 1 to n, and a question for its sum.
+fn long_literal(alloc: Global, n: u32, sum: &str) -> Result<String, NoMemory> {
+    let mut text = format!(in alloc; "parameter Integer x[{n}] = {{1")?;
+    for k in 1..n {
+        let number = k + 1;
+        text.push_str(format!(in alloc; ", {number}")?.as_str())?;
+    }
+    text.push_str(format!(in alloc; "}};\nsum(x)||{sum}")?.as_str())?;
+    Ok(text)
+}
+
 #[test]
 fn values_of_literals(rt: HostRuntime) -> Result<(), NoMemory> {
     check(&rt, rt.alloc(), &LITERALS)
@@ -293,4 +325,18 @@ fn values_that_are_read_once(rt: HostRuntime) -> Result<(), NoMemory> {
 #[test]
 fn values_that_are_read_ahead(rt: HostRuntime) -> Result<(), NoMemory> {
     check(&rt, rt.alloc(), &AHEAD)
+}
+
+#[test]
+fn values_of_bindings_of_arrays(rt: HostRuntime) -> Result<(), NoMemory> {
+    check(&rt, rt.alloc(), &BINDINGS)
+}
+
+// Kind, dimensions and subscripts of a literal are asked once, not for each of its elements.
+#[test]
+fn values_of_long_literals(rt: HostRuntime) -> Result<(), NoMemory> {
+    let alloc = rt.alloc();
+    let short = long_literal(alloc, 300, "45150")?;
+    let long = long_literal(alloc, 3000, "4501500")?;
+    check(&rt, alloc, &[short.as_str(), long.as_str()])
 }

@@ -1,3 +1,4 @@
+mod Parted
 pub mod Lists
 pub mod Nodes
 mod Rows

@@ -9,6 +9,7 @@
 //! - [`known`]: what is known of a resolved expression at an index, where [`Told`] says what is read of its variables; or why that is
 //!   not known ([`Halt`]).
 //! - [`has_values`], [`if_it_has`] and [`value_with`]: which kinds have values, and what is known of an expression of a kind.
+//! - [`part_at`]: the part of an array literal that has an element.
 //! - [`division`]: `div`, `mod` and `rem` of what is known of their operands.
 //! - [`answer`] and [`broken`]: an outcome as an [`Answer`] of a walk, and a rule that breaks at a place.
 //!
@@ -23,6 +24,7 @@ mod context;
 mod elements;
 mod halt;
 pub mod layers;
+mod literal;
 pub mod making;
 pub mod operands;
 mod operations;
@@ -34,6 +36,7 @@ mod walk;
 pub use answers::{Answer, answer};
 pub use context::Context;
 pub use halt::{Halt, Told};
+pub use literal::part_at;
 pub use operations::{broken, division, has_values, if_it_has, value_with};
 pub use value::{Reckoned, Scalar, Value};
 pub use walk::known;

@@ -1,6 +1,7 @@
 use Rattle.mo_eval.proofs.Along.{all_selected, going_halts, going_on, rest_of, selecting_halts}
 use Rattle.mo_eval.proofs.Arguing.{called_partly, called_plain, derived_partly, derived_plain, fill_by, no_lone, number_alone, number_halts, number_more, number_more_halts, plain_parts, read_halts}
 use Rattle.mo_eval.proofs.Bindings.{bound_is, child_halts, picked_exists, unbound_is, value_by_bound}
+use Rattle.mo_eval.proofs.Bound.{bound_at, is_binding, with_layers_still}
 use Rattle.mo_eval.proofs.Calling.{each_more, from_halts, none_by, plain_at, plain_length, seen_halts}
 use Rattle.mo_eval.proofs.Choosing.{behind_made, branch_ok, none_left, none_left_halts, one_halts, one_last, one_more}
 use Rattle.mo_eval.proofs.Chosen.{agrees_halts, dims_agree, more_of_none}
@@ -9,7 +10,8 @@ use Rattle.mo_eval.proofs.EachBelow.{agreeing_halts, all_below, all_put, below_a
 use Rattle.mo_eval.proofs.Earlier.{are_elements_later, elements_later, halt_seen, halts_seen, of_member, seen_as, seen_halt, every_at}
 use Rattle.mo_eval.proofs.Forms.{at_All, at_Any, at_Array, at_ArrayFor, at_Call, at_Decimal, at_EndMark, at_If, at_Matrix, at_Not, at_Power, at_Product, at_Range, at_Ref, at_Relation, at_Str, at_Sum, at_Truth, at_Tuple, at_Whole, made_expression}
 use Rattle.mo_eval.proofs.Growing.{behind, behind_made as behind_made_of_growing, each_go_on, each_halt, given_made, gives_as, gives_halt, halts_through, made_as, parts_go_on, parts_halt, same_asked, same_elements, same_known, same_made, same_making, same_part, two_halt, two_made, two_then}
-use Rattle.mo_eval.proofs.Grown.{frame_stays, grows_on, grows_still, dims_still, is_there_still, kept_still, member_still, same_element, same_table, same_virtuals, there_still, value_still}
+use Rattle.mo_eval.proofs.Grown.{binding_still, frame_stays, grows_on, grows_still, dims_still, is_there_still, kept_still, member_still, same_element, same_table, same_virtuals, there_still, value_still}
+use Rattle.mo_eval.proofs.Layering.{by_fit}
 use Rattle.mo_eval.proofs.Measuring.{binding_halts, component_by, dim_earlier, dim_more, dim_stops, dims_as, dims_bound, dims_done, no_binding, sizes_done, sizes_more, sizes_stop}
 use Rattle.mo_eval.proofs.Naming.{goes_halt}
 use Rattle.mo_eval.proofs.OneDeeper.{not_read, read_deeper, read_past}
@@ -29,8 +31,9 @@ use Rattle.mo_eval.specs.Contexts.{alone, place_of as place_of_of_contexts, trut
 use Rattle.mo_eval.specs.References.{dims_at, numbers_of, read_subscripts, there}
 use Rattle.mo_values.specs.Selected.{selected}
 use Rattle.mo_eval.specs.Resolving.{made_choice, made_range, make_part, make_parts, read_end, read_step}
+use Rattle.mo_eval.specs.Keeping.{IsBinding, bound_seen}
 use Rattle.mo_values.specs.Scalars.{Known, division, if_it_has}
-use Rattle.mo_eval.specs.Seen.{element_seen, resolved_seen, virtual_seen, virtuals_seen}
+use Rattle.mo_eval.specs.Seen.{AreThere, element_seen, resolved_seen, virtual_seen, virtuals_seen}
 use Rattle.mo_eval.specs.Sites.{ask_of, elements_in, part_in, scope_of, variables_in}
 use Rattle.mo_values.specs.Told.{AreRead, IsUnread}
 use Rattle.mo_eval.specs.Values.{component_dims, reading, there_of}
@@ -74,37 +77,98 @@ use Rattle.std.proofs.lemmas.List.{append-nil, drop-map, drop_all, length-map, m
 use Rattle.std.proofs.lemmas.Option.{slice_get-map}
 use Rattle.std.specs.Option.{option_map}
 use Rattle.std.specs.Prelude.{option_map as mapped, option_map as option_map_of_prelude, slice_get}
+use Rattle.mo_eval.specs.declared.virtuals.Resolved.{Resolved as ResolvedAt}
 use Rattle.mo_eval.specs.declared.sizes.Sizes.{Sizes as SizesAt}
 use Rattle.mo_eval.proofs.+resolving.Goals.{references::elements_selected-then-is_inside+in_ok-below, references::elements_selected-else-is_inside}
 use Rattle.mo_eval.proofs.+resolving.Goals as goal
 
+pub components::resolved_binding-alone-requires : goal.components::resolved_binding-alone-requires
+components::resolved_binding-alone-requires t c = (search rules, (c.requires.frame, c.take_binding.ensures.kept c.args.s.now c.requires.kept))
+
+pub components::resolved_binding-returns-in-Some-clause-binding : goal.components::resolved_binding-returns-in-Some-clause-binding
+components::resolved_binding-returns-in-Some-clause-binding t c = c.in-Some.ensures.is c.args.s.now c.requires.kept c.requires.member
+
+pub components::resolved_binding-returns-in-Some-clause-exact : goal.components::resolved_binding-returns-in-Some-clause-exact
+components::resolved_binding-returns-in-Some-clause-exact t c =
+    let one : IsBinding c.args.s.now c.args.left c.args.element.now.member c.in-Some.bound = c.in-Some.ensures.is c.args.s.now c.requires.kept c.requires.member in
+    one.is c.args.element.now.index (picked_in (frames_of c.args.s.now) c.args.picked.now) c.requires.picked
+
+pub components::resolved_binding-returns-clause-binding : goal.components::resolved_binding-returns-clause-binding
+components::resolved_binding-returns-clause-binding t c =
+    let s = c.args.s.now in
+    is_binding s c.alone.new.s c.alone.ensures.grows c.args.element.now.member c.requires.member c.args.left c.args.element.now.index (picked_in (frames_of s) c.args.picked.now) c.requires.picked
+    c.in_ok-resolved.resolved c.in_ok-resolved.ensures.there (rw c.for_value.ensures at c.in_ok-resolved.ensures.exact)
+
+pub components::resolved_binding-returns-clause-exact : goal.components::resolved_binding-returns-clause-exact
+components::resolved_binding-returns-clause-exact t c = rw c.for_value.ensures at c.in_ok-resolved.ensures.exact
+
+pub components::value_in-with_layers-requires : goal.components::value_in-with_layers-requires
+components::value_in-with_layers-requires t c = c.in_ok-found.ensures.binding.layers
+
+pub components::value_in-bound_value-requires : goal.components::value_in-bound_value-requires
+components::value_in-bound_value-requires t c =
+    let there = subst (λ (r : ResolvedAt). AreThere c.resolved_binding.new.s r.virtuals) (sym c.in_ok-bound.ensures.resolved) c.in_ok-found.ensures.binding.there in
+    (search rules, (there, (c.in_ok-bound.ensures.layers, c.resolved_binding.ensures.kept)))
+
+pub components::bound_value-returns-clause-exact : goal.components::bound_value-returns-clause-exact
+components::bound_value-returns-clause-exact t c =
+    let s = c.args.s.now in
+    let bound = c.args.bound.now in
+    let pending = c.args.pending.now in
+    let read = elements_in s c.args.left in
+    let part = c.part_of_bound.ensures (variables_in s c.args.left bound.resolved.virtuals) in
+    let fits = by_fit read c.args.want c.args.place pending (bound_seen (frames_of s) bound) c.in_ok-fits.ensures in
+    gives_as c.known_in.result _ _ (part ∙ sym fits) (rw c.as_slice-virtuals.ensures at c.known_in.ensures.exact)
+
 pub components::value_in-returns-in_err-known-clause-exact : goal.components::value_in-returns-in_err-known-clause-exact
 components::value_in-returns-in_err-known-clause-exact t c =
-    let mid = c.alone.new.s in
+    let mid = c.resolved_binding.new.s in
     let left = c.args.left in
-    let kind = c.args.kind in
+    let kind = c.args.element.now.kind in
     let pending = c.args.picked.now.pending.now in
     let place = place_of c.args.picked.now.value.now in
-    let asked = resolved_seen (frames_of mid) c.in_ok-resolved.resolved in
-    let same = same_elements c.args.s.now mid left c.alone.ensures.grows in
+    let asked = bound_seen (frames_of mid) c.in_ok-bound.bound in
+    let found : bound_seen (frames_of mid) c.in_ok-found.found ≡ asked = ap (resolved_seen (frames_of mid)) (sym c.in_ok-bound.ensures.resolved) in
+    let same = same_elements c.args.s.now mid left c.resolved_binding.ensures.grows in
     let stop = c.in_err-known.field-0.0 in
     let p : c.from_residual-in_err-known.result ≡ Err stop = search rules in
-    rw (p, rw c.for_value.ensures at c.in_ok-resolved.ensures.exact)
+    rw (p, c.in_ok-found.ensures.exact ∙ ap Ok found)
     (gives_as {A = Known} (Err stop) _ _ (value_by_bound (elements_in c.args.s.now left) kind place pending asked)
     (gives_halt {A = Known} stop (bound_in (elements_in c.args.s.now left) kind place pending asked) (λ known. Ok (if_it_has kind known))
     (gives_as {A = Known} (Err stop) (bound_in (elements_in mid left) kind place pending asked) (bound_in (elements_in c.args.s.now left) kind place pending asked) (ap (λ read. bound_in read kind place pending asked) same) c.in_err-known.ensures.exact)))
 
+pub components::value_in-returns-in_err-keep_binding-clause-kept : goal.components::value_in-returns-in_err-keep_binding-clause-kept
+components::value_in-returns-in_err-keep_binding-clause-kept t c =
+    let s = c.args.s.now in
+    let mid = c.resolved_binding.new.s in
+    let member = c.args.element.now.member in
+    let is = member_still s mid c.resolved_binding.ensures.grows member c.requires.member in
+    let binding = with_layers_still mid c.args.left member c.in_ok-found.found c.in_ok-bound.bound c.in_ok-bound.ensures.resolved c.in_ok-bound.ensures.layers c.in_ok-found.ensures.binding in
+    c.keep_binding.ensures c.bound_value.new.s c.bound_value.ensures.kept (member_still mid c.bound_value.new.s c.bound_value.ensures.grows member is)
+    (binding_still mid c.bound_value.new.s c.bound_value.ensures.grows c.args.left member is c.in_ok-bound.bound binding)
+
+pub components::value_in-returns-clause-kept : goal.components::value_in-returns-clause-kept
+components::value_in-returns-clause-kept t c =
+    let s = c.args.s.now in
+    let mid = c.resolved_binding.new.s in
+    let member = c.args.element.now.member in
+    let is = member_still s mid c.resolved_binding.ensures.grows member c.requires.member in
+    let binding = with_layers_still mid c.args.left member c.in_ok-found.found c.in_ok-bound.bound c.in_ok-bound.ensures.resolved c.in_ok-bound.ensures.layers c.in_ok-found.ensures.binding in
+    c.keep_binding.ensures c.bound_value.new.s c.bound_value.ensures.kept (member_still mid c.bound_value.new.s c.bound_value.ensures.grows member is)
+    (binding_still mid c.bound_value.new.s c.bound_value.ensures.grows c.args.left member is c.in_ok-bound.bound binding)
+
 pub components::value_in-returns-clause-exact : goal.components::value_in-returns-clause-exact
 components::value_in-returns-clause-exact t c =
-    let mid = c.alone.new.s in
+    let mid = c.resolved_binding.new.s in
     let left = c.args.left in
-    let kind = c.args.kind in
+    let kind = c.args.element.now.kind in
     let pending = c.args.picked.now.pending.now in
     let place = place_of c.args.picked.now.value.now in
-    let asked = resolved_seen (frames_of mid) c.in_ok-resolved.resolved in
-    let same = same_elements c.args.s.now mid left c.alone.ensures.grows in
+    let asked = bound_seen (frames_of mid) c.in_ok-bound.bound in
+    let found : bound_seen (frames_of mid) c.in_ok-found.found ≡ asked = ap (resolved_seen (frames_of mid)) (sym c.in_ok-bound.ensures.resolved) in
+    let same = same_elements c.args.s.now mid left c.resolved_binding.ensures.grows in
     let known : bound_in (elements_in c.args.s.now left) kind place pending asked ≡ Ok c.in_ok-known.known = ap (λ read. bound_in read kind place pending asked) (sym same) ∙ c.in_ok-known.ensures.exact in
-    rw (rw c.for_value.ensures at c.in_ok-resolved.ensures.exact)
+    rw (c.in_ok-found.ensures.exact ∙ ap Ok found)
     (sym (value_by_bound (elements_in c.args.s.now left) kind place pending asked)
     ∙ (ap (λ o. and_then o (λ known. Ok (if_it_has kind known))) known ∙ ap Ok (sym c.if_it_has.ensures.exact)))
 
@@ -138,8 +202,25 @@ components::element_value-returns-in-None-clause-kept t c = kept_still _ _ c.chi
 
 pub components::element_value-value_in-requires : goal.components::element_value-value_in-requires
 components::element_value-value_in-requires t c =
+    let s = c.args.s.now in
     let mid = c.child_of_member.new.s in
-    (search rules, (picked_exists mid (map source_seen c.in_ok-child.child.sources) c.in-Some.picked c.in_ok-child.ensures.stand.sources (rw c.as_slice-2.ensures at (c.in-Some.ensures (frames_of mid))), kept_still _ _ c.child_of_member.ensures.grows _ c.requires.kept))
+    let grows = c.child_of_member.ensures.grows in
+    let member = c.args.element.now.member in
+    let child = child_seen (frames_of mid) c.in_ok-child.child in
+    let found = rw c.as_slice.ensures at c.in_ok-child.ensures.value in
+    let picked = rw c.as_slice-2.ensures at (c.in-Some.ensures (frames_of mid)) in (
+      search rules,
+      (
+        picked_exists mid (map source_seen c.in_ok-child.child.sources) c.in-Some.picked c.in_ok-child.ensures.stand.sources picked,
+        (
+          member_still s mid grows member c.requires.member,
+          (
+            bound_at s mid grows member c.requires.member c.args.element.now.index child (picked_in (frames_of mid) c.in-Some.picked) found (sym picked),
+            kept_still s mid grows _ c.requires.kept,
+          ),
+        ),
+      ),
+    )
 
 pub components::element_value-returns-clause-exact : goal.components::element_value-returns-clause-exact
 components::element_value-returns-clause-exact t c =

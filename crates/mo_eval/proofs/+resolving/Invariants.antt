@@ -131,10 +131,13 @@ invariant-below::below_each-loop-index l = record {
 }
 
 abbrev pub decreases-components::value_in : goal.decreases-components::value_in
-decreases-components::value_in l = (l.left + 1) * 18446744073709551616 * 10000 + 0
+decreases-components::value_in l = (l.left + 1) * 18446744073709551616 * 10000 + 1
+
+abbrev pub decreases-components::resolved_binding : goal.decreases-components::resolved_binding
+decreases-components::resolved_binding l = (l.left + 1) * 18446744073709551616 * 10000 + 0
 
 abbrev pub decreases-components::element_value : goal.decreases-components::element_value
-decreases-components::element_value l = (l.left + 1) * 18446744073709551616 * 10000 + 1
+decreases-components::element_value l = (l.left + 1) * 18446744073709551616 * 10000 + 2
 
 abbrev pub decreases-variables::element_known : goal.decreases-variables::element_known
 decreases-variables::element_known l = l.left * 18446744073709551616 * 10000 + 4
