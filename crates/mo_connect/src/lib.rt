@@ -19,6 +19,3 @@ mod refusals;
 pub use equations::set_equations;
 pub use joined::sets;
 pub use refusals::check;
-
-#[cfg(test)]
-mod tests;

@@ -24,6 +24,3 @@ pub use findings::{Blocks, Deficit, Dummies, Offsets, Reason};
 pub use model::incidence;
 pub use needing::needs;
 pub use table::Incidence;
-
-#[cfg(test)]
-mod tests;

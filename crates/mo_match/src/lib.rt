@@ -24,6 +24,3 @@ pub use largest::{assign, clear};
 pub use lists::put;
 pub use spread::{note_owners, undetermined};
 pub use work::{Assigned, Work};
-
-#[cfg(test)]
-mod tests;

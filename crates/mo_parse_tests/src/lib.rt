@@ -7,6 +7,8 @@
 #[cfg(test)]
 mod bodies;
 #[cfg(test)]
+mod codes;
+#[cfg(test)]
 mod expressions;
 #[cfg(test)]
 mod words;

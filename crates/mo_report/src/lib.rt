@@ -22,6 +22,3 @@ pub use pushing::{number_at, push_numbered};
 pub use report::Report;
 pub use size::report_fits;
 pub use square::{write_derivative, write_numbers, write_states};
-
-#[cfg(test)]
-mod tests;

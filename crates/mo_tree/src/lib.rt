@@ -13,6 +13,3 @@ mod walk;
 
 pub use building::build;
 pub use question::asked;
-
-#[cfg(test)]
-mod tests;

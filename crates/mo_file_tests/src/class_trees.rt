@@ -1,8 +1,8 @@
-use super::{asked, build};
 use mo_syntax::{
     Body, Broken, ClassDef, ClassFlags, ClassKind, ClassTree, FileTree, List, NoMemory, Path,
     Place, Rule, Stop, Text, class_count,
 };
+use mo_tree::{asked, build};
 use std::alloc::Global;
 use std::test::Fail;
 

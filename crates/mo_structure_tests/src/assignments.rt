@@ -1,5 +1,5 @@
-use crate::{Assigned, Work, assign, undetermined};
 use mo_incidence::{Counted, Incidence};
+use mo_match::{Assigned, Work, assign, undetermined};
 use mo_ports::Steps;
 use std::test::Fail;
 

@@ -1,6 +1,6 @@
-use crate::{Report, report_fits, report_text};
 use mo_flat::{FlatModel, FlatVar};
 use mo_incidence::{Blocks, Deficit, Dummies, Offsets, Reason};
+use mo_report::{Report, report_fits, report_text};
 use mo_syntax::{Kind, List, Place, Role, Text};
 use std::alloc::Global;
 use std::test::Fail;

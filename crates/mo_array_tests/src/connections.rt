@@ -1,4 +1,4 @@
-use crate::{check, set_equations, sets};
+use mo_connect::{check, set_equations, sets};
 use mo_flat::{Connect, Connects, End, EndLeaf, FlatModel, FlatVar, Side, flat_text};
 use mo_syntax::{InstancePath, Kind, List, NoMemory, Place, Role, Stop, Text};
 use std::alloc::Global;

@@ -1,5 +1,5 @@
-use crate::{Incidence, RowsError, incidence};
 use mo_flat::{FlatEquation, FlatExpr, FlatModel, FlatVar};
+use mo_incidence::{Incidence, RowsError, incidence};
 use mo_syntax::{Boxed, Broken, Kind, List, NoMemory, Place, RelOp, Role, Rule, Stop, Text};
 use std::alloc::Global;
 use std::test::Fail;
