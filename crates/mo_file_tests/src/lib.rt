@@ -9,6 +9,8 @@ mod circuit;
 #[cfg(test)]
 mod class_trees;
 #[cfg(test)]
+mod depths;
+#[cfg(test)]
 mod files;
 #[cfg(test)]
 mod pieces;

@@ -1,7 +1,9 @@
-//! Tests of the lexer: texts with their tokens, and texts that are refused.
+//! Tests of the tables of words and of the lexer: words with their codes, texts with their tokens, and texts that are refused.
 //!
-//! They stand apart from the lexer, so that it is proved without them.
+//! They stand apart from the tables and the lexer, so that these are proved without them.
 #![tactic(auto)]
 
 #[cfg(test)]
 mod lexing;
+#[cfg(test)]
+mod tables;

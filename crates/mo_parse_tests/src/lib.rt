@@ -9,6 +9,8 @@ mod bodies;
 #[cfg(test)]
 mod codes;
 #[cfg(test)]
+mod counts;
+#[cfg(test)]
 mod expressions;
 #[cfg(test)]
 mod words;
