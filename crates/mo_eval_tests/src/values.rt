@@ -242,7 +242,7 @@ sum(x) + y + sum(x)||30 before 64",
 ];
 
 // The resolved binding of an array serves all its elements, those too that it names itself.
-const BINDINGS: [&str; 1] = [
+const BINDINGS: [&str; 2] = [
     "parameter Integer x[5] = {1, x[1] + 1, x[2] + 1, x[3] + 1, x[4] + 1}; parameter Integer y[2] = {y[2], y[1]}; model R parameter Integer a[2]; end R; R r[2](a = {{1, 2}, {3, 4}});
 x[5]||5
 sum(x)||15
