@@ -5,7 +5,7 @@
   of that name in some crates/*/src. A clause without a name is cited as `call: ensures`;
 - each path below crates/, docs/, examples/ or bench/ that is cited in backticks, or as a link, is there, apart from those
   with NAME and those that a build makes;
-- each block of text behind a line `<!-- examples/NAME -->` is that file;
+- each block of text behind a line `<!-- examples/NAME -->` is that file, and the stored run of mofront is README.md's example;
 - the numbers and texts of the rules in docs/RULES.md are those of the definition, all of them, in order;
 - the definitions that the program's contract stands on are those that the table of docs/PROVED.md lists.
 
@@ -57,6 +57,16 @@ def faults_of(page, known):
             yield f"the block is not {name}"
 
 
+def faults_of_run():
+    """The stored run is compared with what the program writes by the gate, so README.md's example is too."""
+    stored = TOP / "crates/mofront"
+    for here, there in ("args", None), ("data/lift.mo", "examples/lift.mo"), ("stdout", "examples/lift.report"):
+        text = (stored / here).read_text() if (stored / here).is_file() else None
+        wanted = (TOP / there).read_text() if there else "--class\nLift\n--emit\nreport\nlift.mo\n"
+        if text != wanted:
+            yield f"crates/mofront/{here}: this is not the example of README.md"
+
+
 def faults_of_rules():
     definition = (TOP / "crates/mo_front/specs/Refusal.antt").read_text()
     texts = re.findall(r'codes "([^"]*)"', re.search(r"^rule_texts =\n(.*?)\[\]", definition, re.M | re.S)[1])
@@ -90,9 +100,9 @@ def main():
             print(f"crates/{crate}/specs/{name}.antt")
         return 0
     known = clauses()
-    pages = [TOP / "README.md", *sorted(TOP.glob("docs/*.md")), *sorted(TOP.glob("bench/*.md"))]
+    pages = [TOP / "README.md", *(page for part in ("docs", "bench", "examples") for page in sorted(TOP.glob(part + "/*.md")))]
     faults = [f"{page.relative_to(TOP)}: {fault}" for page in pages for fault in faults_of(page, known)]
-    faults += [*faults_of_rules(), *faults_of_reading()]
+    faults += [*faults_of_run(), *faults_of_rules(), *faults_of_reading()]
     for fault in faults:
         print(fault, file=sys.stderr)
     return 1 if faults else 0
