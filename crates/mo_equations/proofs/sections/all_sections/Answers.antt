@@ -21,6 +21,9 @@ loop-frame-init c = record {
 pub put_frame-requires-clause-frame : goal.put_frame-requires-clause-frame
 put_frame-requires-clause-frame c = item_later c.args.s.now c.loop-frame.s c.args.frames.now c.loop-frame.frame-index _ c.loop-frame.invariant.goes.grows c.requires.frames c.loop-frame-test.true
 
+pub returns-in_err-put_frame-clause-goes : goal.returns-in_err-put_frame-clause-goes
+returns-in_err-put_frame-clause-goes c = goes_on c.args.s.now c.loop-frame.s c.put_frame.new.s c.args.desk.now c.loop-frame.desk c.put_frame.new.desk c.loop-frame.invariant.goes c.in_err-put_frame.ensures.goes
+
 pub returns-in_err-put_frame-clause-exact : goal.returns-in_err-put_frame-clause-exact
 returns-in_err-put_frame-clause-exact c =
     let inv = c.loop-frame.invariant in

@@ -27,6 +27,9 @@ flat_of_leaf-requires c =
       desk = before.goes.desk;
     }
 
+pub returns-in_err-flat-clause-stays : goal.returns-in_err-flat-clause-stays
+returns-in_err-flat-clause-stays c = stays_on c.args.s.now c.loop-attribute.s c.flat_of_leaf.new.s c.args.desk.now c.loop-attribute.desk c.flat_of_leaf.new.desk c.loop-attribute.invariant.0 c.in_err-flat.ensures.stays
+
 pub returns-in_err-flat-clause-exact : goal.returns-in_err-flat-clause-exact
 returns-in_err-flat-clause-exact c =
     let u = c.args.s.now in
