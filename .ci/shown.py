@@ -16,7 +16,7 @@ import tempfile
 from pathlib import Path
 
 TOP = Path(__file__).resolve().parent.parent
-SECONDS = 120
+SECONDS = 600
 COMMAND = re.compile(r"```\n(mofront [^\n]*)\n```\n\nIt ends with status (\d) and writes:\n\n```\n(.*?)^```$", re.M | re.S)
 LINE = re.compile(r"`(mofront [^`\n]*)`\s+writes, with status (\d):\n\n(?:<!-- \S+ -->\n)?```\n(.*?)^```$", re.M | re.S)
 TEXT = re.compile(r"`([^`\n]*)`\s+in `m\.mo`(?:\s+with `--emit (\w+)`)?,?\s+ends\s+with\s+status (\d) and writes\s*:?\n\n```\n(.*?)^```$", re.M | re.S)
