@@ -74,8 +74,8 @@ const DIAMOND: &str =
 const DIAMONDS: [(&str, &str, &str, &str); 5] = [
     (DIAMOND, "C32", "elements", "x "),
     (DIAMOND, "C0 C32", "elements", "x "),
-    (DIAMOND, "C32", "find x", "x of C0"),
-    (DIAMOND, "C0 C32", "find x", "x of C0"),
+    (DIAMOND, "C32", "find x", "x of C32"),
+    (DIAMOND, "C0 C32", "find x", "x of C32"),
     (DIAMOND, "C32", "find y", "rule 12 at nowhere"),
 ];
 
