@@ -58,10 +58,10 @@ numbered m names (suc j) some within =
     let next : j + 1 ≡ suc j = omega arith in
     rw (name_is (unknown_names m.vars) j) (numbered_name (unknown_names m.vars) j (omega arith) names.apart ∙ ap Some next)
 
-some_is : (a b : ℕ) → Some a ≡ Some b → a ≡ b
+pub some_is : (a b : ℕ) → Some a ≡ Some b → a ≡ b
 some_is a b e = cc
 
-same_printed : (p q : Printed) → p.c ≡ q.c → p.d ≡ q.d → p.pairs ≡ q.pairs → p.orders ≡ q.orders → p ≡ q
+pub same_printed : (p q : Printed) → p.c ≡ q.c → p.d ≡ q.d → p.pairs ≡ q.pairs → p.orders ≡ q.orders → p ≡ q
 same_printed p q c d pairs orders = go p.c p.d p.pairs p.orders c d pairs orders
   where
     go : (a b x y : List ℕ) → a ≡ q.c → b ≡ q.d → x ≡ q.pairs → y ≡ q.orders → record { c = a; d = b; pairs = x; orders = y } ≡ q
@@ -77,7 +77,7 @@ chain_of g p by reason (suc n) i below e = elim (eqb_tells (get_or p.c i 0) 0) [
 ]
 
 -- an unknown stands in an equation at one order
-sigma_once : (m : FlatModel) (i j x : ℕ) (o : Option ℕ) → IsSigma (incidence_of m) i j (Some x) → IsSigma (incidence_of m) i j o → o ≡ Some x
+pub sigma_once : (m : FlatModel) (i j x : ℕ) (o : Option ℕ) → IsSigma (incidence_of m) i j (Some x) → IsSigma (incidence_of m) i j o → o ≡ Some x
 sigma_once m i j x None s none = absurd (none s.0 s.1 s.2)
 sigma_once m i j x (Some y) s t =
     let same : t.0 ≡ s.0 = one-entry m i s.0 t.0 s.1 t.1 (s.2 ∙ sym t.2) in
@@ -133,7 +133,7 @@ module _ (g : Signature) (o p : Offsets) (c_is : o.c.items ≡ p.c.items) (d_is 
   unfolding square_list
   both_lists names = rw (names, both_reasons, both_blocks, both_dummies, both_states, both_index, both_freedom) refl
 
-same_text : (m : FlatModel) (p : Printed) (r s : Report) → IsSquareReport m p r → IsSquareReport m p s → report_lines r ≡ report_lines s
+pub same_text : (m : FlatModel) (p : Printed) (r s : Report) → IsSquareReport m p r → IsSquareReport m p s → report_lines r ≡ report_lines s
 same_text m p r s a b =
     let lists = both_lists (incidence_of m) a.offsets b.offsets (a.has.c ∙ sym b.has.c) (a.has.d ∙ sym b.has.d) (a.has.pairs ∙ sym b.has.pairs) r s a.parts b.parts (a.has.unknowns ∙ sym b.has.unknowns) in
     square_text m p r a ∙ (ap (λ (rest : List (List ℕ)). together (head_two m ++ body m p rest)) lists ∙ sym (square_text m p s b))

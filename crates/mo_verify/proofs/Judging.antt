@@ -136,7 +136,7 @@ module _ (m : FlatModel) (report : List ℕ) where
       rw u.is (verdict.not_least p u.place right square u.before (rw equations_of at u.within) u.none refl refl u.offset n.less)
 
   -- ---- what a yes says
-  no_fault : (p : Printed) → AreAdmissible m report p → HasNoFault (incidence_of m) p
+  pub no_fault : (p : Printed) → AreAdmissible m report p → HasNoFault (incidence_of m) p
   no_fault p right = record {
     orders = rw equations_of right.orders;
     fit = rw equations_of right.fit;

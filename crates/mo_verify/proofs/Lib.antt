@@ -17,3 +17,4 @@ pub mod Covering
 pub mod Goods
 pub mod Completing
 pub mod Deficits
+pub mod Deciding

@@ -159,6 +159,22 @@ module _ (m : FlatModel) (p : Printed) (offsets : Offsets) (r : Report) (has : H
       let test : nat_lt r.equations (length r.unknowns) ≡ false = rw (has.equations, has.unknowns) none in
       rw test refl
 
+-- the text of a report with what is printed, by what stands behind the lines of unknowns
+pub below_text : (m : FlatModel) (p : Printed) (offsets : Offsets) (r : Report) → HasPrinted m p offsets r → report_lines r ≡
+    head_text m ++
+    ((together (listed (λ i. equation_text (unknown_names m.vars) p i ++ 10 ∷ []) (length m.equations)) ++ together (listed (λ j. unknown_text (unknown_names m.vars) p j ++ 10 ∷ []) (length (unknown_names m.vars)))) ++
+    rest_lines r)
+below_text m p offsets r has =
+    let parts : report_lines r ≡ head_lines r ++ (offset_lines r offsets ++ rest_lines r) = rw (has.no_deficit, has.given) refl in
+    parts ∙ (ap (λ (t : List ℕ). t ++ (offset_lines r offsets ++ rest_lines r)) (head_same m p offsets r has) ∙ ap (λ (t : List ℕ). head_text m ++ (t ++ rest_lines r)) (offsets_together m p offsets r has))
+
+pub same_rest : (m : FlatModel) (p : Printed) (a b : List ℕ) → a ≡ b →
+    head_text m ++
+    ((together (listed (λ i. equation_text (unknown_names m.vars) p i ++ 10 ∷ []) (length m.equations)) ++ together (listed (λ j. unknown_text (unknown_names m.vars) p j ++ 10 ∷ []) (length (unknown_names m.vars)))) ++ a) ≡
+    head_text m ++
+    ((together (listed (λ i. equation_text (unknown_names m.vars) p i ++ 10 ∷ []) (length m.equations)) ++ together (listed (λ j. unknown_text (unknown_names m.vars) p j ++ 10 ∷ []) (length (unknown_names m.vars)))) ++ b)
+same_rest m p a b e = rw e refl
+
 -- all lines of a report on a square model
 pub square_text : (m : FlatModel) (p : Printed) (r : Report) → IsSquareReport m p r → report_lines r ≡ together (head_two m ++ body m p (square_list r))
 square_text m p r s =

@@ -197,6 +197,7 @@ pub fn verify(alloc: Global, m: &FlatModel, report: &[u8]) -> Result<Verdict, No
     requires carried { refusal_of m.now ≡ None }
     requires few { length report.now ≤ 67108864 }
     ensures exact { IfOk result (IsVerdict m.now report.now) }
+    ensures only { IfOk result (λ verdict. (other : Verdict) → IsVerdict m.now report.now other → other ≡ verdict) }
     ensures yes { IfOk result (λ verdict. verdict ≡ Verdict.Yes → IsRightText m.now report.now) }
     ensures complete { IfOk result (λ verdict. HasNames m.now → IsRightText m.now report.now → verdict ≡ Verdict.Yes) }
     ensures admissible { IfOk result (λ verdict. verdict ≡ Verdict.Admissible → IsAdmissibleText m.now report.now) }

@@ -1,4 +1,5 @@
 use Rattle.mo_verify.proofs.Judging.{ok_through, yes_is_right, admissible_is_shown, less_is_shown}
+use Rattle.mo_verify.proofs.Deciding.{one_verdict}
 use Rattle.mo_verify.proofs.Deficits.{complete}
 use Rattle.mo_verify.proofs.whole.verify.Goals as goal
 
@@ -17,3 +18,6 @@ pub returns-in-Ok-clause-complete : goal.returns-in-Ok-clause-complete
 returns-in-Ok-clause-complete c =
     let sound = rw (c.in-Ok.ensures.ok c.requires.sound) at c.equations-equations.ensures.sound in
     ok_through c.text_verdict.result _ _ (λ v is. λ names right. complete c.args.m.now names sound c.args.report.now c.requires.few right v is) c.text_verdict.ensures
+
+pub returns-in-Ok-clause-only : goal.returns-in-Ok-clause-only
+returns-in-Ok-clause-only c = ok_through c.text_verdict.result _ _ (λ v is. λ other that. one_verdict c.args.m.now c.args.report.now other v that is) c.text_verdict.ensures
