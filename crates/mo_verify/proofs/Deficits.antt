@@ -1,9 +1,9 @@
 -- The text of a right report on a model in which some equation can't be assigned gets the verdict Yes.
-use Rattle.std.proofs.Common.{◌≡◌, ℕ, ◌+◌, ◌<◌, ◌≤◌, List, [], ◌∷◌, ◌++◌, map, length, get_or, codes, Some, refl, sym, ap, ◌∙◌, arith, append_assoc}
+use Rattle.std.proofs.Common.{◌≡◌, ℕ, ◌<◌, ◌≤◌, List, [], ◌∷◌, ◌++◌, map, length, get_or, codes, Some, refl, sym, ap, ◌∙◌, arith, append_assoc}
 use Rattle.mo_flat.specs.declared.model.FlatModel.{FlatModel}
 use Rattle.mo_graph.proofs.Members.{at-contains}
 use Rattle.mo_incidence.specs.declared.findings.Deficit.{Deficit}
-use Rattle.mo_incidence.specs.Signature.{equations, IsSound}
+use Rattle.mo_incidence.specs.Signature.{IsSound}
 use Rattle.mo_incidence.specs.Assignment.{IsDeficit}
 use Rattle.mo_incidence.specs.Model.{incidence_of}
 use Rattle.mo_report.specs.declared.report.Report.{Report}

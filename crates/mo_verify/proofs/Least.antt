@@ -1,5 +1,5 @@
 -- Chains of reasons show that printed offsets are the least (Pryce 2001).
-use Rattle.std.proofs.Common.{◌≡◌, ℕ, zero, suc, ◌+◌, ◌-◌, ◌<◌, ◌≤◌, inl, inr, get_or, sym, arith}
+use Rattle.std.proofs.Common.{◌≡◌, ℕ, zero, suc, ◌+◌, ◌<◌, ◌≤◌, inl, inr, get_or, sym, arith}
 use Rattle.std.proofs.lemmas.Bool.{cases_lt}
 use Rattle.mo_incidence.specs.Signature.{Signature, equations, unknown_at, order_at, IsSound}
 use Rattle.mo_incidence.specs.Assignment.{Assigns, CoversAll}
