@@ -77,13 +77,13 @@ pub step : (vars : List FlatVar) (e : FlatExpr) (all : Bool) (tree : FlatExpr) �
 step vars e all tree s d given giventree g gt still result h k = (h ∙ g ∙ sym s, k ∙ ap (λ b. unless b giventree) g ∙ ap (λ t. unless all t) gt ∙ sym d)
 
 -- a term that is not still
-abbrev moving_one : Bool → Bool × FlatExpr → List (Bool × FlatExpr)
+abbrev pub moving_one : Bool → Bool × FlatExpr → List (Bool × FlatExpr)
 moving_one still term = if still then [] else term ∷ []
 
-abbrev moving_more : Bool → Bool × FlatExpr → List (Bool × FlatExpr) → List (Bool × FlatExpr)
+abbrev pub moving_more : Bool → Bool × FlatExpr → List (Bool × FlatExpr) → List (Bool × FlatExpr)
 moving_more still term more = if still then more else term ∷ more
 
-all-push : {A : Type 0} (p : A → Bool) (xs : List A) (x : A) → list_all p (xs ++ x ∷ []) ≡ (list_all p xs && p x)
+pub all-push : {A : Type 0} (p : A → Bool) (xs : List A) (x : A) → list_all p (xs ++ x ∷ []) ≡ (list_all p xs && p x)
 all-push p [] x = and_true (p x) where
   and_true : (b : Bool) → (b && true) ≡ b
   and_true true = refl
@@ -173,7 +173,7 @@ plain vars [] = refl
 plain vars (x ∷ xs) = ap (λ l. x ∷ l) (plain vars xs)
 
 -- the factor at the front of what is left
-product_front : (vars : List FlatVar) (before : List (Bool × FlatExpr)) (x : Bool × FlatExpr) (after : List (Bool × FlatExpr)) →
+pub product_front : (vars : List FlatVar) (before : List (Bool × FlatExpr)) (x : Bool × FlatExpr) (after : List (Bool × FlatExpr)) →
     product_terms vars before (with_slopes vars (x ∷ after)) ≡ (moving_one (is_still vars x.1) (replaced_factor before (x.0, (x.1, derived vars x.1)) after)) ++ product_terms vars (before ++ x ∷ []) (with_slopes vars after)
 product_front vars before x after = by_case (is_still vars x.1) where
   rest : List (Bool × FlatExpr)

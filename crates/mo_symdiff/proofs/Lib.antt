@@ -1,3 +1,5 @@
+pub mod Bounding
+pub mod CarriedWeights
 pub mod Carrying
 pub mod Derived
 pub mod DualAt
@@ -16,3 +18,4 @@ pub mod SigmaRaise
 pub mod SigmaRows
 pub mod Tests
 pub mod Trees
+pub mod Weighing

@@ -71,6 +71,48 @@ short_line vars n first made all line rn rb ln lb is hn hb short =
     let lines = line_first vars n line in
     short_within nodes_at (bytes_at vars) first made lines.0 all line rn rb ln lb (ap (λ ls. made ++ ls) (sym lines.1) ∙ is) hn hb short
 
+-- a line and its derivative that cost more than is left
+over_two : {A : Type 0} (cost : A → ℕ) (first made more all : List A) (x y : A) (room left : ℕ) →
+    made ++ x ∷ y ∷ more ≡ first ++ all → left + sum_by cost made ≡ room + sum_by cost first → left < cost x + cost y → room < sum_by cost all
+over_two cost first made more all x y room left is h l =
+    let halves : sum_by cost made + sum_by cost (x ∷ y ∷ more) ≡ sum_by cost first + sum_by cost all = sym (sum_by-append cost made (x ∷ y ∷ more)) ∙ ap (sum_by cost) is ∙ sum_by-append cost first all in
+    let front : sum_by cost (x ∷ y ∷ more) ≡ cost x + sum_by cost (y ∷ more) = sum_by-cons cost x (y ∷ more) in
+    let second : sum_by cost (y ∷ more) ≡ cost y + sum_by cost more = sum_by-cons cost y more in
+    omega (arith, h, halves, front, second, l)
+
+two_within : (vars : List FlatVar) (first made more all : List FlatEquation) (x y : FlatEquation) (rn rb ln lb : ℕ) →
+    made ++ x ∷ y ∷ more ≡ first ++ all → ln + nodes_of made ≡ rn + nodes_of first → lb + bytes_of vars made ≡ rb + bytes_of vars first → IsShort ln lb (nodes_at x + nodes_at y) (bytes_at vars x + bytes_at vars y) → IsShort rn rb (nodes_of all) (bytes_of vars all)
+two_within vars first made more all x y rn rb ln lb is hn hb (inl l) = inl (over_two nodes_at first made more all x y rn ln is hn l)
+two_within vars first made more all x y rn rb ln lb is hn hb (inr l) = inr (over_two (bytes_at vars) first made more all x y rb lb is hb l)
+
+two_first : (vars : List FlatVar) (n : ℕ) (line : FlatEquation) → 0 < n → (more : List FlatEquation) × (derivatives vars n line ≡ line ∷ derived_equation vars line ∷ more)
+two_first vars zero line l = absurd (omega (arith, l))
+two_first vars (suc n) line l = let lines = line_first vars n (derived_equation vars line) in (lines.0, ap (λ ls. line ∷ ls) lines.1)
+
+pub short_two : (vars : List FlatVar) (n : ℕ) (first made all : List FlatEquation) (line : FlatEquation) (rn rb ln lb : ℕ) → 0 < n →
+    made ++ derivatives vars n line ≡ first ++ all → ln + nodes_of made ≡ rn + nodes_of first → lb + bytes_of vars made ≡ rb + bytes_of vars first →
+    IsShort ln lb (nodes_at line + nodes_at (derived_equation vars line)) (bytes_at vars line + bytes_at vars (derived_equation vars line)) → IsShort rn rb (nodes_of all) (bytes_of vars all)
+short_two vars n first made all line rn rb ln lb l is hn hb short =
+    let lines = two_first vars n line l in
+    two_within vars first made lines.0 all line (derived_equation vars line) rn rb ln lb (ap (λ ls. made ++ ls) (sym lines.1) ∙ is) hn hb short
+
+-- the first line costs more than there is
+pub short_first : (vars : List FlatVar) (n : ℕ) (line : FlatEquation) (rn rb : ℕ) → IsShort rn rb (nodes_at line) (bytes_at vars line) → IsShort rn rb (nodes_of (derivatives vars n line)) (bytes_of vars (derivatives vars n line))
+short_first vars n line rn rb short = short_line vars n [] [] (derivatives vars n line) line rn rb rn rb refl refl refl short
+
+pub short_more : (nodes bytes x y u v : ℕ) → IsShort nodes bytes x y → IsShort nodes bytes (x + u) (y + v)
+short_more nodes bytes x y u v (inl l) = inl (omega (arith, l))
+short_more nodes bytes x y u v (inr l) = inr (omega (arith, l))
+
+pub short_after : (nodes bytes x y n b u v : ℕ) → IsPaid nodes bytes x y n b → IsShort n b u v → IsShort nodes bytes (x + u) (y + v)
+short_after nodes bytes x y n b u v paid (inl l) = let e = paid.nodes_paid in inl (omega (arith, e, l))
+short_after nodes bytes x y n b u v paid (inr l) = let e = paid.bytes_paid in inr (omega (arith, e, l))
+
+-- what was put at the end beside
+pub with_pushed : {A : Type 0} (o : Option A) (P R : Type 0) (Q : A → Type 0) → MatchOption o P Q → R → MatchOption o P (λ x. Q x × R)
+with_pushed None P R Q h k = h
+with_pushed (Some x) P R Q h k = (h, k)
+
 -- what all parts cost, once the last is paid
 pub all_paid : {A : Type 0} (cost : A → ℕ) (first made all : List A) (x : A) (room left rest : ℕ) →
     made ++ x ∷ [] ≡ first ++ all → left + sum_by cost made ≡ room + sum_by cost first → rest + cost x ≡ left → rest + sum_by cost all ≡ room

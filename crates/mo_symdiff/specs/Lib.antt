@@ -7,3 +7,4 @@ pub mod Refusal
 pub mod Room
 pub mod Sigma
 pub mod Still
+pub mod Weights

@@ -1,14 +1,31 @@
 //! Expressions with their derivatives carried out.
-ghost use Rattle.std.specs.Prelude.{◌≡◌, IfOk, map};
+ghost use Rattle.std.specs.Prelude.{◌≡◌, ◌≤◌, ◌↔◌, true, IfOk, map};
 ghost use Rattle.mo_flat.specs.declared.expr.FlatExpr.TheVariants.{Der, If, Power, Relation};
 ghost use Rattle.mo_symdiff.specs.Carried.{carried};
+ghost use Rattle.mo_symdiff.specs.declared.weights.Measure.TheVariants.{Literals, Nodes};
 ghost use Rattle.mo_symdiff.specs.Derivative.{derived};
+ghost use Rattle.mo_symdiff.specs.Weights.{weigh};
 
 use crate::derive::derived;
-use crate::room::fits;
+use crate::sizes::size_of;
+use crate::weights::Measure;
 use mo_flat::{FlatExpr, FlatVar};
 use mo_syntax::{Boxed, List, NoMemory, RelOp, both, in_box, pushed};
 use std::alloc::Global;
+
+/// More nodes than the derivatives of a reduced model within its limits have.
+const MOST_NODES: u64 = 14_000_000;
+
+/// More bytes of literals than the lines of a reduced model within its limits have.
+const MOST_BYTES: u64 = 896_000_000;
+
+/// Whether the derivative of an expression is small enough to be built.
+fn fits(vars: &[FlatVar], e: &FlatExpr) -> bool
+    ensures { (result ≡ true) ↔ ((weigh vars.now Nodes (derived vars.now e.now) ≤ 14000000) × (weigh vars.now Literals (derived vars.now e.now) ≤ 896000000)) }
+{
+    size_of(vars, Measure::Nodes, e).slope <= MOST_NODES
+        && size_of(vars, Measure::Literals, e).slope <= MOST_BYTES
+}
 
 /// The derivative of an expression, where it is not too large to be built.
 pub(crate) fn slope_within(

@@ -7,13 +7,14 @@
 //!
 //! Their definitions stand in specs/: `Derivative` (the derivative of an expression), `Carried` (an expression with its
 //! derivatives carried out, and whether that meets a given variable), `Still` (what it depends on), `Sigma` (the highest
-//! order of an unknown in it) and `Reduced` (the lines, sizes and text of the reduced model). The laws above them are
+//! order of an unknown in it), `Weights` (how large it is) and `Reduced` (the lines, sizes and text of the reduced model). The laws above them are
 //! contracts of functions that do nothing: [`derivative_is_first_order_part`] (by `Dual`, the table of dual numbers),
 //! [`derivative_raises_orders`], [`orders_without_carrying_out`], [`given_variables_stay`] and
 //! [`carried_out_without_given`].
 #![tactic(auto)]
 
 mod build;
+mod carried_weight;
 mod carries;
 mod carry;
 mod derive;
@@ -24,8 +25,9 @@ mod powers;
 mod reduce;
 mod reduce_text;
 mod reduced_model;
-mod room;
+mod sizes;
 mod still;
+mod weights;
 
 pub use differentiate::{derivative, expand_der};
 pub use laws::{

@@ -120,7 +120,7 @@ fn slope_by_both(
 }
 
 /// The Integer literal above the least 64-bit number that an expression is, if it is one.
-fn literal(e: &FlatExpr) -> Option<i64>
+pub(crate) fn literal(e: &FlatExpr) -> Option<i64>
     ensures literal { result ≡ literal_at (out-FlatExpr e.now) }
     ensures above { IfSome result (λ n. int_lt least n ≡ true) }
 {

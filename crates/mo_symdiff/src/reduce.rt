@@ -1,15 +1,21 @@
 //! The reduced model.
-ghost use Rattle.std.specs.Prelude.{◌≡◌, ◌+◌, ◌-◌, ◌++◌, ◌^◌, ◌<◌, ◌≤◌, [], ◌∷◌, Some, None, length, min, sum_by, IfOk, MatchOption};
+ghost use Rattle.std.specs.Prelude.{◌≡◌, ◌+◌, ◌-◌, ◌++◌, ◌^◌, ◌<◌, ◌≤◌, [], ◌∷◌, Some, None, length, min, sum_by, true, IfOk, MatchOption};
+ghost use Rattle.mo_symdiff.specs.Carried.{carried};
+ghost use Rattle.mo_symdiff.specs.Derivative.{derived};
+ghost use Rattle.mo_symdiff.specs.Weights.{weigh};
 ghost use Rattle.mo_symdiff.specs.Reduced.{IsWithin, bytes_at, bytes_of, carried_equation, derivatives, derived_equation, differentiates_given, first_given, nodes_at, nodes_of, reduced_lines, reduced_text, too_large};
 ghost use Rattle.mo_symdiff.specs.Room.{IsPaid, IsShort};
 ghost use Rattle.mo_symdiff.specs.Refusal.{IfBroken, of_given};
 
+use crate::carried_weight::carried_weight;
 use crate::carries::carries;
-use crate::carry::{carried, slope_within};
+use crate::carry::carried;
+use crate::derive::derived;
 use crate::differentiate::broken;
 use crate::reduced_model::Reduced;
-use crate::room::text_fits;
+use crate::sizes::size_of;
 use crate::still::holds_given;
+use crate::weights::Measure;
 use mo_flat::{FlatEquation, FlatModel, FlatVar, flat_nodes, write_equation_line};
 use mo_syntax::{Broken, List, NoMemory, Place, Rule, Stop, both};
 use std::alloc::Global;
@@ -72,8 +78,10 @@ fn derived_equation(
 ) -> Result<FlatEquation, NoMemory>
     ensures { IfOk result (λ made. made ≡ derived_equation vars.now q.now) }
 {
-    let left = slope_within(alloc, vars, &q.left);
-    let (left, right) = both(left, slope_within(alloc, vars, &q.right))?;
+    let (left, right) = both(
+        derived(alloc, vars, &q.left),
+        derived(alloc, vars, &q.right),
+    )?;
     Ok(FlatEquation {
         left,
         right,
@@ -86,12 +94,78 @@ fn derived_equation(
 fn line_bytes(alloc: Global, vars: &[FlatVar], q: &FlatEquation) -> Result<u64, NoMemory>
     ensures { IfOk result (λ bytes. bytes ≡ bytes_at vars.now q.now) }
 {
-    if !text_fits(vars, &q.left) || !text_fits(vars, &q.right) {
-        return Err(NoMemory);
-    }
     let mut line = String::new(alloc);
     write_equation_line(&mut line, vars, q)?;
     Ok(line.len() as u64)
+}
+
+/// What an equation weighs at least.
+fn line_weight(vars: &[FlatVar], measure: Measure, q: &FlatEquation) -> u64
+    ensures { result ≤ weigh vars.now measure q.now.left + weigh vars.now measure q.now.right }
+{
+    let left = size_of(vars, measure, &q.left);
+    let right = size_of(vars, measure, &q.right);
+    left.whole.saturating_add(right.whole)
+}
+
+/// What the derivative of an equation weighs at least.
+fn derived_weight(vars: &[FlatVar], measure: Measure, q: &FlatEquation) -> u64
+    ensures { result ≤ weigh vars.now measure (derived vars.now q.now.left) + weigh vars.now measure (derived vars.now q.now.right) }
+{
+    let left = size_of(vars, measure, &q.left);
+    let right = size_of(vars, measure, &q.right);
+    left.slope.saturating_add(right.slope)
+}
+
+/// What an equation weighs at least once its derivatives are carried out.
+fn carried_line_weight(
+    alloc: Global,
+    vars: &[FlatVar],
+    measure: Measure,
+    q: &FlatEquation,
+) -> Result<u64, NoMemory>
+    ensures { IfOk result (λ weight. weight ≤ weigh vars.now measure (carried vars.now q.now.left) + weigh vars.now measure (carried vars.now q.now.right)) }
+{
+    let left = carried_weight(alloc, vars, measure, &q.left)?;
+    let right = carried_weight(alloc, vars, measure, &q.right)?;
+    Ok(left.saturating_add(right))
+}
+
+/// How many bytes an equation's line has at least: those of its literals and names.
+fn least_bytes(vars: &[FlatVar], q: &FlatEquation) -> u64
+    ensures { result ≤ bytes_at vars.now q.now }
+{
+    line_weight(vars, Measure::Names, q)
+}
+
+/// The nodes that the derivative of an equation has, and the bytes that its line has at least.
+fn least_of_derived(vars: &[FlatVar], q: &FlatEquation) -> Room
+    ensures nodes { result.nodes ≤ nodes_at (derived_equation vars.now q.now) }
+    ensures bytes { result.bytes ≤ bytes_at vars.now (derived_equation vars.now q.now) }
+{
+    Room {
+        nodes: derived_weight(vars, Measure::Nodes, q),
+        bytes: derived_weight(vars, Measure::Names, q),
+    }
+}
+
+/// The nodes that an equation has once its derivatives are carried out, and the bytes that its line has at least.
+fn least_of_carried(alloc: Global, vars: &[FlatVar], q: &FlatEquation) -> Result<Room, NoMemory>
+    ensures { IfOk result (λ least. (least.nodes ≤ nodes_at (carried_equation vars.now q.now)) × (least.bytes ≤ bytes_at vars.now (carried_equation vars.now q.now))) }
+{
+    let nodes = carried_line_weight(alloc, vars, Measure::Nodes, q)?;
+    let bytes = carried_line_weight(alloc, vars, Measure::Names, q)?;
+    Ok(Room { nodes, bytes })
+}
+
+/// Whether less is left than what is wanted at least.
+fn is_short(room: Room, least: Room) -> bool
+    ensures { result ≡ true → IsShort room.nodes room.bytes least.nodes least.bytes }
+{
+    if room.nodes < least.nodes {
+        return true;
+    }
+    room.bytes < least.bytes
 }
 
 /// What is left, where there is as much.
@@ -112,6 +186,23 @@ fn node_cost(q: &FlatEquation) -> u64
     flat_nodes(&q.left).saturating_add(flat_nodes(&q.right))
 }
 
+/// The bytes that are left behind an equation's line, none where there are not as many.
+fn pay_bytes(
+    alloc: Global,
+    vars: &[FlatVar],
+    q: &FlatEquation,
+    bytes: u64,
+) -> Result<Option<u64>, NoMemory>
+    ensures { IfOk result (λ found. MatchOption found (bytes < bytes_at vars.now q.now) (λ rest. rest + bytes_at vars.now q.now ≡ bytes)) }
+{
+    let least = least_bytes(vars, q);
+    if bytes < least {
+        return Ok(None);
+    }
+    let cost = line_bytes(alloc, vars, q)?;
+    Ok(spend(bytes, cost))
+}
+
 /// The room that is left behind an equation's line, none where it does not fit.
 fn pay(
     alloc: Global,
@@ -124,23 +215,40 @@ fn pay(
 {
     match spend(room.nodes, node_cost(q)) {
         None => Ok(None),
-        Some(nodes) => match spend(room.bytes, line_bytes(alloc, vars, q)?) {
+        Some(nodes) => match pay_bytes(alloc, vars, q, room.bytes)? {
             None => Ok(None),
             Some(bytes) => Ok(Some(Room { nodes, bytes })),
         },
     }
 }
 
-/// Puts a line at the end, and gives its derivative.
+/// The derivative of a line, none where it does not fit into the room.
+fn next_line(
+    alloc: Global,
+    vars: &[FlatVar],
+    line: &FlatEquation,
+    room: Room,
+) -> Result<Option<FlatEquation>, NoMemory>
+    ensures { IfOk result (λ found. MatchOption found (IsShort room.nodes room.bytes (nodes_at (derived_equation vars.now line.now)) (bytes_at vars.now (derived_equation vars.now line.now))) (λ next. next ≡ derived_equation vars.now line.now)) }
+{
+    let short = is_short(room, least_of_derived(vars, line));
+    if short {
+        return Ok(None);
+    }
+    Ok(Some(derived_equation(alloc, vars, line)?))
+}
+
+/// Puts a line at the end, and gives its derivative, none where it does not fit into the room.
 fn advance(
     alloc: Global,
     vars: &[FlatVar],
     made: &mut List<FlatEquation>,
     line: FlatEquation,
-) -> Result<FlatEquation, NoMemory>
-    ensures { IfOk result (λ next. (next ≡ derived_equation vars.now line) × (made.new ≡ made.old ++ line ∷ [])) }
+    room: Room,
+) -> Result<Option<FlatEquation>, NoMemory>
+    ensures { IfOk result (λ found. MatchOption found (IsShort room.nodes room.bytes (nodes_at (derived_equation vars.now line)) (bytes_at vars.now (derived_equation vars.now line))) (λ next. (next ≡ derived_equation vars.now line) × (made.new ≡ made.old ++ line ∷ []))) }
 {
-    let next = derived_equation(alloc, vars, &line);
+    let next = next_line(alloc, vars, &line, room);
     let (next, ()) = both(next, made.push(line))?;
     Ok(next)
 }
@@ -178,7 +286,7 @@ fn finish(
     push_paid(made, last, paid)
 }
 
-/// Puts a line at the end. Gives the room that is left behind it and its derivative, none where it does not fit.
+/// Puts a line at the end. Gives the room that is left behind it and its derivative, none where the two do not fit.
 fn step(
     alloc: Global,
     vars: &[FlatVar],
@@ -187,13 +295,16 @@ fn step(
     room: Room,
 ) -> Result<Option<(Room, FlatEquation)>, NoMemory>
     requires { room.nodes ≤ 4000000 }
-    ensures { IfOk result (λ found. MatchOption found (IsShort room.nodes room.bytes (nodes_at line) (bytes_at vars.now line)) (λ next. (made.new ≡ made.old ++ line ∷ []) × (next.1 ≡ derived_equation vars.now line) × IsPaid room.nodes room.bytes (nodes_at line) (bytes_at vars.now line) next.0.nodes next.0.bytes)) }
+    ensures { IfOk result (λ found. let next = derived_equation vars.now line in MatchOption found (IsShort room.nodes room.bytes (nodes_at line + nodes_at next) (bytes_at vars.now line + bytes_at vars.now next)) (λ both. (made.new ≡ made.old ++ line ∷ []) × (both.1 ≡ next) × IsPaid room.nodes room.bytes (nodes_at line) (bytes_at vars.now line) both.0.nodes both.0.bytes)) }
 {
     let paid = pay(alloc, vars, &line, room);
     let (paid, line) = both(paid, Ok(line))?;
-    match paid {
+    let Some(rest) = paid else {
+        return Ok(None);
+    };
+    match advance(alloc, vars, made, line, rest)? {
         None => Ok(None),
-        Some(rest) => Ok(Some((rest, advance(alloc, vars, made, line)?))),
+        Some(next) => Ok(Some((rest, next))),
     }
 }
 
@@ -234,6 +345,11 @@ fn equation_lines(
     requires { room.nodes ≤ 4000000 }
     ensures { IfOk result (λ found. let lines = derivatives vars.now count (carried_equation vars.now q.now) in MatchOption found (IsShort room.nodes room.bytes (nodes_of lines) (bytes_of vars.now lines)) (λ made. (made.0 ≡ lines) × IsPaid room.nodes room.bytes (nodes_of lines) (bytes_of vars.now lines) made.1.nodes made.1.bytes)) }
 {
+    let least = least_of_carried(alloc, vars, q)?;
+    let short = is_short(room, least);
+    if short {
+        return Ok(None);
+    }
     let line = carried_equation(alloc, vars, q)?;
     let mut made = List::new(alloc);
     let Some(rest) = push_lines(alloc, vars, &mut made, line, count, room)? else {
@@ -307,8 +423,9 @@ fn too_large(m: &FlatModel) -> Broken
 /// The reduced model: each equation with its derivatives carried out, followed by as many of its derivatives as `c` says, where
 /// `c` has one number for each equation. Rule 43 at the first equation in which a given variable stands in what is
 /// differentiated, conditions of if-expressions left aside; where there is none, rule 44 at the model's place exactly where
-/// all lines have more than 4,000,000 nodes or the text has more than 67,108,864 bytes. `NoMemory` is the only other answer;
-/// it comes too where a derivative on the way, or a line's text, is larger than any reduced model may be.
+/// all lines have more than 4,000,000 nodes or the text has more than 67,108,864 bytes: a line is weighed before it is made, so
+/// a large one costs no memory. `NoMemory` is the only other answer; it comes too where what stands under two derivatives has a
+/// derivative of more than 14,000,000 nodes or of more than 896,000,000 bytes of literals.
 pub fn reduced(alloc: Global, m: &FlatModel, c: &[u32]) -> Result<Reduced, Stop>
     requires { length c.now ≡ length m.now.equations }
     ensures lines { IfOk result (λ r. r.lines ≡ reduced_lines m.now.vars m.now.equations c.now) }

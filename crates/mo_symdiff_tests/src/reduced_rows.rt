@@ -2,7 +2,8 @@
 use crate::postfix::{PLACE, model, read};
 use mo_flat::{FlatEquation, FlatExpr, FlatModel};
 use mo_symdiff::{reduced, reduced_text};
-use mo_syntax::{List, NoMemory, Place, Stop, Text, both};
+use mo_syntax::{Boxed, List, NoMemory, Place, Stop, Text, both, single};
+use mo_tables::functions::NO_EVENT;
 use std::alloc::Global;
 use std::process::Abort;
 use std::test::Fail;
@@ -111,10 +112,9 @@ fn long_product(alloc: Global, count: u32) -> Result<FlatExpr, NoMemory> {
     Ok(FlatExpr::Product(factors))
 }
 
-/// A derivative of more than 14,000,000 nodes is given up before it is built.
-fn large_derivative(alloc: Global) -> Result<Text, NoMemory> {
+/// The model of one equation between an expression and the time, reduced with its first derivative.
+fn derived_once(alloc: Global, left: FlatExpr) -> Result<Text, NoMemory> {
     let mut m = model(alloc)?;
-    let left = long_product(alloc, 3_800)?;
     m.equations.push(FlatEquation {
         left,
         right: FlatExpr::Time,
@@ -124,8 +124,47 @@ fn large_derivative(alloc: Global) -> Result<Text, NoMemory> {
 }
 
 #[test]
-fn gives_up_a_large_derivative(rt: HostRuntime) -> Result<(), Fail> {
-    let text = large_derivative(rt.alloc())?;
-    assert!(rt; text.as_str() == "44" || text.as_str() == "out of memory");
+fn refuses_a_large_derivative(rt: HostRuntime) -> Result<(), Fail> {
+    let left = long_product(rt.alloc(), 3_800)?;
+    assert_eq!(rt; derived_once(rt.alloc(), left)?.as_str(), "44");
+    Ok(())
+}
+
+/// The derivative of a product of an unknown with itself, so often.
+fn large_carried(alloc: Global, count: u32) -> Result<Text, NoMemory> {
+    let mut m = model(alloc)?;
+    let inner = long_product(alloc, count)?;
+    m.equations.push(FlatEquation {
+        left: FlatExpr::Der(Boxed::new(alloc, inner)?),
+        right: FlatExpr::Time,
+        place: PLACE,
+    })?;
+    shown(alloc, &m, &[0], PLACE)
+}
+
+#[test]
+fn refuses_a_large_derivative_that_is_carried_out(rt: HostRuntime) -> Result<(), Fail> {
+    assert_eq!(rt; large_carried(rt.alloc(), 3_800)?.as_str(), "44");
+    Ok(())
+}
+
+/// An unknown in so many calls of `noEvent`.
+fn nested(alloc: Global, count: u32) -> Result<FlatExpr, NoMemory> {
+    let mut e = FlatExpr::Var(1, 0);
+    for _ in 0..count {
+        e = FlatExpr::Call(NO_EVENT, single(alloc, e)?);
+    }
+    Ok(e)
+}
+
+/// Each nest counts once in the derivative.
+#[test]
+fn reduces_many_nests(rt: HostRuntime) -> Result<(), Fail> {
+    let mut all = List::new(rt.alloc());
+    for _ in 0..900 {
+        all.push((false, nested(rt.alloc(), 128)?))?;
+    }
+    let text = derived_once(rt.alloc(), FlatExpr::Sum(all))?;
+    assert!(rt; text.as_str().len() > 1_000_000);
     Ok(())
 }

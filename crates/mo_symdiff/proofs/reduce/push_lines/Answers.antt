@@ -2,7 +2,7 @@
 use Rattle.std.proofs.Common.{◌≡◌, ◌-◌, ◌++◌, ap, refl, arith}
 use Rattle.mo_symdiff.specs.Reduced.{bytes_at, derivatives, nodes_at}
 use Rattle.mo_symdiff.specs.declared.reduce.Room.{Room}
-use Rattle.mo_symdiff.proofs.Reducing.{cost_turn, finished, line_turn, short_line}
+use Rattle.mo_symdiff.proofs.Reducing.{cost_turn, finished, line_turn, short_two}
 use Rattle.mo_symdiff.proofs.reduce.push_lines.Goals as goal
 
 pub loop-derivative-init : goal.loop-derivative-init
@@ -17,7 +17,7 @@ pub returns-in_default : goal.returns-in_default
 returns-in_default c =
     let invariant = c.loop-derivative.invariant in
     let short = rw c.in_default.is at c.in_ok-rest.ensures in
-    short_line _ _ c.args.made.now _ (derivatives c.args.vars.now c.args.count c.args.line) _ _ _ _ _ invariant.lines invariant.nodes invariant.bytes short
+    short_two _ (c.args.count - c.loop-derivative._derivative) c.args.made.now _ (derivatives c.args.vars.now c.args.count c.args.line) _ _ _ _ _ (omega (arith, c.loop-derivative-test.true)) invariant.lines invariant.nodes invariant.bytes short
 
 pub loop-derivative-preserved : goal.loop-derivative-preserved
 loop-derivative-preserved c =
