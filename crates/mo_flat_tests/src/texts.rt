@@ -2,6 +2,7 @@ use mo_flat::{
     FlatAssert, FlatEquation, FlatExpr, FlatModel, FlatVar, flat_expr_text, flat_nodes, flat_text,
 };
 use mo_syntax::{Boxed, Kind, List, NoMemory, Place, RelOp, Role, Text};
+use mo_text_size::text_bytes;
 use std::alloc::Global;
 use std::process::Abort;
 use std::test::Fail;
@@ -245,6 +246,7 @@ fn every_line(alloc: Global, m: &mut FlatModel) -> Result<(), NoMemory> {
 fn check_model(rt: &impl Abort, alloc: Global, m: &FlatModel, text: &str) -> Result<(), NoMemory> {
     let printed = flat_text(alloc, m)?;
     assert_eq!(rt; printed.as_str(), text);
+    assert_eq!(rt; text_bytes(m), text.len() as u64);
     Ok(())
 }
 
