@@ -92,7 +92,7 @@ fn joined(alloc: Global, parts: Expanded, found: &[FaceSet]) -> Result<FlatModel
     }
     let equations = set_equations(alloc, found)?;
     let model = with_equations(parts, equations)?;
-    within_size(alloc, model)
+    within_size(model)
 }
 
 /// The flat model with these equations behind all others.

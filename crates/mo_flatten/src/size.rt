@@ -7,9 +7,9 @@ ghost use Rattle.mo_scope.specs.Outcome.{Gives, breach};
 ghost use Rattle.mo_equations.specs.Size.{has_too_many as has_more, nodes_of, nodes_of_assert, nodes_of_binding, nodes_of_equation, nodes_of_option, nodes_of_variable};
 ghost use Rattle.mo_flatten.specs.Flat.{within_size as sized};
 
-use mo_flat::{FlatAssert, FlatEquation, FlatExpr, FlatModel, FlatVar, flat_nodes, flat_text};
+use mo_flat::{FlatAssert, FlatEquation, FlatExpr, FlatModel, FlatVar, flat_nodes};
 use mo_syntax::{Broken, Place, Role, Rule, Stop};
-use std::alloc::Global;
+use mo_text_size::text_bytes;
 
 /// The most unknowns of a flat model.
 const MOST_UNKNOWNS: usize = 50_000;
@@ -21,17 +21,16 @@ const MOST_EQUATIONS: usize = 50_000;
 const MOST_NODES: u64 = 2_000_000;
 
 /// The most bytes of the text of a flat model.
-const MOST_BYTES: usize = 67_108_864;
+const MOST_BYTES: u64 = 67_108_864;
 
 /// The flat model, unless it is too large.
-pub(crate) fn within_size(alloc: Global, m: FlatModel) -> Result<FlatModel, Stop>
+pub(crate) fn within_size(m: FlatModel) -> Result<FlatModel, Stop>
     ensures { Gives (λ m. m) result (sized m) }
 {
     if has_too_many(&m) {
         return Err(too_large(m.place));
     }
-    let text = flat_text(alloc, &m)?;
-    if text.as_str().len() > MOST_BYTES {
+    if text_bytes(&m) > MOST_BYTES {
         return Err(too_large(m.place));
     }
     Ok(m)

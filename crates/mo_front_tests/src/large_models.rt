@@ -66,6 +66,29 @@ fn push_equations(text: &mut String, count: u32) -> Result<(), NoMemory> {
     Ok(())
 }
 
+/// Puts so many classes at the end, each with a component of the one before under a name of 256 bytes.
+fn push_levels(text: &mut String, count: u32) -> Result<(), NoMemory> {
+    for before in 0..count {
+        push_number(text, " model C", before.saturating_add(1))?;
+        push_number(text, " C", before)?;
+        text.push_str(" ")?;
+        push_all(text, "abcdefgh", 32)?;
+        push_number(text, "; end C", before.saturating_add(1))?;
+        text.push_str(";")?;
+    }
+    Ok(())
+}
+
+/// Puts a class at the end with an assert on so many sums of 100 unknowns.
+fn push_sums(text: &mut String, count: u32) -> Result<(), NoMemory> {
+    text.push_str(
+        "model C0 Real x[100]; equation for i in 1:100 loop x[i] = 1; end for; assert(0 < 1",
+    )?;
+    push_all(text, " + sum(x)", count)?;
+    text.push_str(", \"\"); end C0;")?;
+    Ok(())
+}
+
 /// The report on unknowns each of which but the first is the derivative of the one before.
 fn derivatives(alloc: Global, text: &str) -> Result<Ran, NoMemory> {
     run_class(alloc, "M", &["--emit", "report"], text, None)
@@ -89,6 +112,15 @@ fn nested(alloc: Global, depth: u32) -> Result<Ran, NoMemory> {
 fn equations(alloc: Global, count: u32) -> Result<Ran, NoMemory> {
     let mut text = String::new(alloc);
     push_equations(&mut text, count)?;
+    run_class(alloc, "M", &["--emit", "flat"], text.as_str(), None)
+}
+
+/// The flat text of so many sums of 100 unknowns, each with a name of 8 kB.
+fn long_names(alloc: Global, sums: u32) -> Result<Ran, NoMemory> {
+    let mut text = String::new(alloc);
+    push_sums(&mut text, sums)?;
+    push_levels(&mut text, 31)?;
+    text.push_str("\nmodel M extends C31; end M;")?;
     run_class(alloc, "M", &["--emit", "flat"], text.as_str(), None)
 }
 
@@ -136,6 +168,16 @@ fn limits_the_report(rt: HostRuntime) -> Result<(), Fail> {
 fn limits_the_flat_model(rt: HostRuntime) -> Result<(), Fail> {
     let many = equations(rt.alloc(), 50_001)?;
     is_refused(&rt, &many, "m.mo:1:7: rule 41: flat model too large\n");
+    Ok(())
+}
+
+/// A text of 18 megabytes is made, and then the sink has no room for it; one that would have 800 is refused without being made.
+#[test]
+fn limits_the_flat_text(rt: HostRuntime) -> Result<(), Fail> {
+    let few = long_names(rt.alloc(), 20)?;
+    assert_eq!(rt; few.status, Status::WriteFault);
+    let many = long_names(rt.alloc(), 1000)?;
+    is_refused(&rt, &many, "m.mo:2:7: rule 41: flat model too large\n");
     Ok(())
 }
 
