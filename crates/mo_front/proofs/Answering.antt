@@ -13,7 +13,7 @@ use Rattle.mo_lexer.specs.Lexing.{IfBroken}
 use Rattle.mo_ports.specs.Contents.{Contents}
 use Rattle.mo_front.specs.declared.load.Unread.TheVariants.{Refused}
 use Rattle.mo_front.specs.declared.status.Status.{Status}
-use Rattle.mo_front.specs.declared.status.Status.TheVariants.{Done, Singular, Refused as refused_status}
+use Rattle.mo_front.specs.declared.status.Status.TheVariants.{Differs, Done, Singular, Refused as refused_status}
 use Rattle.mo_front.specs.declared.words.Emit.{Emit}
 use Rattle.mo_front.specs.declared.words.Emit.TheVariants as asks
 use Rattle.mo_front.specs.Emitted.{Refuses, Writes, analysed, without_aliases, flat_text, is_singular}
@@ -101,7 +101,7 @@ broken-before path texts emit r s is was = at s (rw is at was)
     at no_memory was = tt
 
 -- the bytes of files that were read are their texts
-read-bytes : (contents : Contents) (k left : ℕ) (names texts : List (List ℕ)) → Reads contents k left names (Ok texts) → bytes_of_all contents names ≡ texts
+pub read-bytes : (contents : Contents) (k left : ℕ) (names texts : List (List ℕ)) → Reads contents k left names (Ok texts) → bytes_of_all contents names ≡ texts
 read-bytes contents k left [] [] none = refl
 read-bytes contents k left [] (t ∷ texts) r = elim r [ ]
 read-bytes contents k left (name ∷ names) [] r = elim r [ ]
@@ -133,7 +133,7 @@ told-line (Some contents) path emit names line refuses = refused refuses.b (no_m
 
 -- ---- the status
 
-answer-of : (b : Bool) → IsAnswer (if b then Singular else Done)
+pub answer-of : (b : Bool) → IsAnswer (if b then Singular else Done)
 answer-of true = tt
 answer-of false = tt
 
@@ -145,6 +145,20 @@ writes-answer emit m status bytes (analysed r asked also accepted right passed i
 pub answers : (path : List (List ℕ)) (emit : Emit) (names texts : List (List ℕ)) (status : Status) (line : List ℕ) → TellsTexts path emit names texts status line → IsAnswer status
 answers path emit names texts status line (written w) = writes-answer emit w.m status line w.writes
 answers path emit names texts status line (refused b breaks is line_is) = rw is tt
+
+-- a text never differs
+no-difference : (b : Bool) → (if b then Singular else Done) ≡ Differs → ⊥
+no-difference true e = cc
+no-difference false e = cc
+
+writes-never-differs : (emit : Emit) (m : FlatModel) (status : Status) (bytes : List ℕ) → Writes emit m status bytes → status ≡ Differs → ⊥
+writes-never-differs emit m status bytes (flat_text asked is bytes_are) e = cc
+writes-never-differs emit m status bytes (without_aliases r asked accepted right passed is bytes_are) e = cc
+writes-never-differs emit m status bytes (analysed r asked also accepted right passed is bytes_are) e = no-difference (is_singular r) (sym is ∙ e)
+
+pub never-differs : (path : List (List ℕ)) (emit : Emit) (names texts : List (List ℕ)) (status : Status) (line : List ℕ) → TellsTexts path emit names texts status line → status ≡ Differs → ⊥
+never-differs path emit names texts status line (written w) e = writes-never-differs emit w.m status line w.writes e
+never-differs path emit names texts status line (refused b breaks is line_is) e = cc
 
 -- a flat text is never singular, nor is that of aliases
 flat-done : (emit : Emit) (m : FlatModel) (status : Status) (bytes : List ℕ) → Writes emit m status bytes → emit ≡ asks.Flat → status ≡ Singular → ⊥

@@ -14,44 +14,40 @@ use Rattle.clap.proofs.OnLiterals.{clap_on_literals}
 use Rattle.mo_front.specs.declared.words.Emit.{Emit}
 use Rattle.mo_front.specs.declared.words.Words.{Words}
 use Rattle.mo_front.specs.declared.words.Words.TheVariants.{Job, Make}
-use Rattle.mo_front.specs.Words.{Asks, AsksFor, AsksForClass, AsksForLadder, Names, NamesClass, NamesRungs, command}
+use Rattle.mo_front.specs.declared.words.Emit.TheVariants as emits
+use Rattle.mo_front.specs.Words.{Asks, AsksFor, AsksForClass, AsksForLadder, AsksForVerdict, Names, NamesClass, NamesJob, NamesRungs, command}
 
--- ---- options and files that ask for nothing
+-- ---- options and files that name no class, or no files
 
-pub no-class : (f : Found) (read : Option (Bor Text)) (path files : List (List ℕ)) (emit : Emit)
+pub no-class : (f : Found) (read : Option (Bor Text)) (path files : List (List ℕ))
     → option_map (λ s. s.now) read ≡ first_value f (codes "class")
-    → read ≡ None → AsksForClass (rows_of f) path emit files → ⊥
-no-class f read path files emit is none a =
+    → read ≡ None → NamesJob (rows_of f) path files → ⊥
+no-class f read path files is none a =
     clash (sym (ap (option_map (λ (s : Bor Text). s.now)) none) ∙ is ∙ first_value-rows f (codes "class") ∙ a.class_given)
   where
     clash : None ≡ Some a.class → ⊥
     clash eq = cc
 
-pub no-path : (f : Found) (word : Text) (path files : List (List ℕ)) (emit : Emit) → Some word ≡ first_value f (codes "class")
-    → ((path : List (List ℕ)) → NamesClass word path → ⊥) → AsksForClass (rows_of f) path emit files → ⊥
-no-path f word path files emit is none a = none path (subst (λ (x : List ℕ). NamesClass x path) (sym same) a.names_class)
+pub no-path : (f : Found) (word : Text) (path files : List (List ℕ)) → Some word ≡ first_value f (codes "class")
+    → ((path : List (List ℕ)) → NamesClass word path → ⊥) → NamesJob (rows_of f) path files → ⊥
+no-path f word path files is none a = none path (subst (λ (x : List ℕ). NamesClass x path) (sym same) a.names_class)
   where
     same : word ≡ a.class
     same =
         let both : Some word ≡ Some a.class = is ∙ first_value-rows f (codes "class") ∙ a.class_given in
         cc
 
-pub no-emit : (f : Found) (read : Option Text) (path files : List (List ℕ)) (emit : Emit) → read ≡ first_value f (codes "emit")
-    → ((emit : Emit) → AsksFor read emit → ⊥) → AsksForClass (rows_of f) path emit files → ⊥
-no-emit f read path files emit is none a =
-    none emit (subst (λ (x : Option Text). AsksFor x emit) (sym (is ∙ first_value-rows f (codes "emit"))) a.asks_for)
-
-pub no-files : (f : Found) (path files : List (List ℕ)) (emit : Emit)
-    → None ≡ option_map raw_values (matched_of f (codes "file")) → AsksForClass (rows_of f) path emit files → ⊥
-no-files f path files emit is a = clash (is ∙ raw_values-rows f (codes "file") ∙ a.files_given)
+pub no-files : (f : Found) (path files : List (List ℕ))
+    → None ≡ option_map raw_values (matched_of f (codes "file")) → NamesJob (rows_of f) path files → ⊥
+no-files f path files is a = clash (is ∙ raw_values-rows f (codes "file") ∙ a.files_given)
   where
     clash : None ≡ Some files → ⊥
     clash eq = cc
 
-pub other-count : (f : Found) (read : List (Bor Text)) (path files : List (List ℕ)) (emit : Emit)
+pub other-count : (f : Found) (read : List (Bor Text)) (path files : List (List ℕ))
     → Some (map (λ s. s.now) read) ≡ option_map raw_values (matched_of f (codes "file"))
-    → (length read ≡ 0) ⊎ (64 < length read) → AsksForClass (rows_of f) path emit files → ⊥
-other-count f read path files emit is other a = elim other [
+    → (length read ≡ 0) ⊎ (64 < length read) → NamesJob (rows_of f) path files → ⊥
+other-count f read path files is other a = elim other [
   | inl none ↦ absurd (omega (arith, a.some, count, none))
   | inr more ↦ absurd (omega (arith, a.few, count, more))
 ]
@@ -74,21 +70,43 @@ no-ladder f n none a = clash (sym none ∙ first_value-rows f (codes "make") ∙
     clash : None ≡ Some a.word → ⊥
     clash eq = cc
 
-pub only-class : (f : Found) → first_value f (codes "make") ≡ None → ((path files : List (List ℕ)) (emit : Emit) → AsksForClass (rows_of f) path emit files → ⊥)
-    → (asked : Words) → Asks (rows_of f) asked → ⊥
-only-class f none other (Job class emit files) a = other class.0 files emit a
-only-class f none other (Make n) a = no-ladder f n none a
+-- no verdict is asked for where nothing stands behind `--verify`
+no-verdict : (f : Found) (path files : List (List ℕ)) (emit : Emit) (report : List ℕ) → first_value f (codes "verify") ≡ None → AsksForVerdict (rows_of f) path emit files report → ⊥
+no-verdict f path files emit report none a = clash (sym none ∙ first_value-rows f (codes "verify") ∙ a.report_given)
+  where
+    clash : None ≡ Some report → ⊥
+    clash eq = cc
+
+pub only-class : (f : Found) → first_value f (codes "make") ≡ None → first_value f (codes "verify") ≡ None
+    → ((path files : List (List ℕ)) (emit : Emit) → AsksForClass (rows_of f) path emit files → ⊥) → (asked : Words) → Asks (rows_of f) asked → ⊥
+only-class f no_make no_verify other (Job class emit files None) a = other class.0 files emit a
+only-class f no_make no_verify other (Job class emit files (Some report)) a = no-verdict f class.0 files emit report no_verify a
+only-class f no_make no_verify other (Make n) a = no-ladder f n no_make a
+
+-- no text is asked for where a word stands behind `--verify`
+no-text : (f : Found) (word : Text) (path files : List (List ℕ)) (emit : Emit) → Some word ≡ first_value f (codes "verify") → AsksForClass (rows_of f) path emit files → ⊥
+no-text f word path files emit is a = clash (is ∙ first_value-rows f (codes "verify") ∙ a.no_report)
+  where
+    clash : Some word ≡ None → ⊥
+    clash eq = cc
+
+pub only-verdict : (f : Found) (word : Text) → first_value f (codes "make") ≡ None → Some word ≡ first_value f (codes "verify")
+    → ((path files : List (List ℕ)) (emit : Emit) (report : List ℕ) → AsksForVerdict (rows_of f) path emit files report → ⊥) → (asked : Words) → Asks (rows_of f) asked → ⊥
+only-verdict f word no_make is other (Job class emit files None) a = no-text f word class.0 files emit is a
+only-verdict f word no_make is other (Job class emit files (Some report)) a = other class.0 files emit report a
+only-verdict f word no_make is other (Make n) a = no-ladder f n no_make a
 
 -- no class is asked for where a word stands behind `--make`
-no-job : (f : Found) (word : Text) (path files : List (List ℕ)) (emit : Emit) → Some word ≡ first_value f (codes "make") → AsksForClass (rows_of f) path emit files → ⊥
-no-job f word path files emit is a = clash (is ∙ first_value-rows f (codes "make") ∙ a.no_ladder)
+no-job : (f : Found) (word : Text) (path files : List (List ℕ)) → Some word ≡ first_value f (codes "make") → NamesJob (rows_of f) path files → ⊥
+no-job f word path files is a = clash (is ∙ first_value-rows f (codes "make") ∙ a.no_ladder)
   where
     clash : Some word ≡ None → ⊥
     clash eq = cc
 
 pub only-ladder : (f : Found) (word : Text) → Some word ≡ first_value f (codes "make") → ((n : ℕ) → AsksForLadder (rows_of f) n → ⊥)
     → (asked : Words) → Asks (rows_of f) asked → ⊥
-only-ladder f word is other (Job class emit files) a = no-job f word class.0 files emit is a
+only-ladder f word is other (Job class emit files None) a = no-job f word class.0 files is a.job
+only-ladder f word is other (Job class emit files (Some report)) a = no-job f word class.0 files is a.job
 only-ladder f word is other (Make n) a = other n a
 
 pub no-rungs : (f : Found) (word : Text) → Some word ≡ first_value f (codes "make") → ((n : ℕ) → NamesRungs word n → ⊥) → (n : ℕ) → AsksForLadder (rows_of f) n → ⊥
@@ -132,30 +150,27 @@ files-missing f (Some files) is absent = absurd clash
     clash = cc
 
 pub asks-ladder : (f : Found) (word : Text) (n : ℕ) → Some word ≡ first_value f (codes "make") → NamesRungs word n → first_of (codes "class") (rows_of f) ≡ None
-    → first_of (codes "emit") (rows_of f) ≡ None → all_of (codes "file") (rows_of f) ≡ None → AsksForLadder (rows_of f) n
-asks-ladder f word n is names class emit files = record {
+    → first_of (codes "emit") (rows_of f) ≡ None → first_of (codes "verify") (rows_of f) ≡ None → all_of (codes "file") (rows_of f) ≡ None → AsksForLadder (rows_of f) n
+asks-ladder f word n is names class emit verify files = record {
   word = word;
   ladder_given = sym (first_value-rows f (codes "make")) ∙ sym is;
   names_rungs = names;
   no_class = class;
   no_emit = emit;
+  no_report = verify;
   no_files = files;
 }
 
 -- ---- those that ask for something
 
-pub asks : (f : Found) (word : Text) (emit_word : Option Text) (read : List (Bor Text)) (path files : List (List ℕ))
-    (emit : Emit)
-    → Some word ≡ first_value f (codes "class") → NamesClass word path → emit_word ≡ first_value f (codes "emit")
-    → AsksFor emit_word emit
+pub named-job : (f : Found) (word : Text) (read : List (Bor Text)) (path files : List (List ℕ)) → Some word ≡ first_value f (codes "class") → NamesClass word path
     → Some (map (λ s. s.now) read) ≡ option_map raw_values (matched_of f (codes "file")) → files ≡ map (λ s. s.now) read
-    → (length read ≡ 0 → ⊥) → length read ≤ 64 → first_value f (codes "make") ≡ None → AsksForClass (rows_of f) path emit files
-asks f word emit_word read path files emit class_is names emit_is for files_is same some few no_make = record {
+    → (length read ≡ 0 → ⊥) → length read ≤ 64 → first_value f (codes "make") ≡ None → NamesJob (rows_of f) path files
+named-job f word read path files class_is names files_is same some few no_make = record {
   class = word;
   class_given = sym (class_is ∙ first_value-rows f (codes "class"));
   names_class = names;
   no_ladder = sym (first_value-rows f (codes "make")) ∙ no_make;
-  asks_for = subst (λ (x : Option Text). AsksFor x emit) (emit_is ∙ first_value-rows f (codes "emit")) for;
   files_given = sym (files_is ∙ raw_values-rows f (codes "file")) ∙ ap Some (sym same);
   some = at_least (length files) (λ none. some (sym count ∙ none));
   few = rw count few;
@@ -167,6 +182,28 @@ asks f word emit_word read path files emit class_is names emit_is for files_is s
     at_least : (n : ℕ) → (n ≡ 0 → ⊥) → 1 ≤ n
     at_least zero some = absurd (some refl)
     at_least (suc n) some = omega arith
+
+pub asks-class : (f : Found) (emit_word : Option Text) (path files : List (List ℕ)) (emit : Emit) → NamesJob (rows_of f) path files → emit_word ≡ first_value f (codes "emit")
+    → AsksFor emit_word emit → first_value f (codes "verify") ≡ None → AsksForClass (rows_of f) path emit files
+asks-class f emit_word path files emit job emit_is for no_verify = record {
+  job = job;
+  asks_for = subst (λ (x : Option Text). AsksFor x emit) (emit_is ∙ first_value-rows f (codes "emit")) for;
+  no_report = sym (first_value-rows f (codes "verify")) ∙ no_verify;
+}
+
+pub no-emit : (f : Found) (read : Option Text) (path files : List (List ℕ)) (emit : Emit) → read ≡ first_value f (codes "emit")
+    → ((emit : Emit) → AsksFor read emit → ⊥) → AsksForClass (rows_of f) path emit files → ⊥
+no-emit f read path files emit is none a =
+    none emit (subst (λ (x : Option Text). AsksFor x emit) (sym (is ∙ first_value-rows f (codes "emit"))) a.asks_for)
+
+pub asks-verdict : (f : Found) (word : Text) (path files : List (List ℕ)) → NamesJob (rows_of f) path files → first_of (codes "emit") (rows_of f) ≡ None
+    → Some word ≡ first_value f (codes "verify") → AsksForVerdict (rows_of f) path emits.Report files word
+asks-verdict f word path files job no_emit is = record {
+  job = job;
+  as_report = refl;
+  no_emit = no_emit;
+  report_given = sym (first_value-rows f (codes "verify")) ∙ sym is;
+}
 
 -- ---- the command
 

@@ -10,14 +10,14 @@ use Rattle.mo_incidence.specs.Model.{refusal_of}
 use Rattle.mo_report.specs.declared.report.Report.{Report}
 use Rattle.mo_report.specs.Right.{IsRightReport}
 use Rattle.mo_front.specs.declared.status.Status.{Status}
-use Rattle.mo_front.specs.declared.status.Status.TheVariants.{Refused, Singular}
+use Rattle.mo_front.specs.declared.status.Status.TheVariants.{Differs, Refused, Singular}
 use Rattle.mo_front.specs.declared.words.Emit.TheVariants as emit
 use Rattle.mo_front.specs.Emitted.{PhasesBreak, Refuses, asked_by, no_text as no_part}
 use Rattle.mo_front.specs.Ladder.{IsSummary, SumsUpGiven, TellsLadder, ladder_names, ladder_path, ladder_texts, refused, summary_line, summed}
 use Rattle.mo_front.specs.Run.{IsAnswer}
 use Rattle.mo_front.specs.Told.{Breaks, TextsGive, broken, flat, line_of_broken, no_model, no_text}
 
-report-no-flat : emit.Report ≡ emit.Flat → ⊥
+pub report-no-flat : emit.Report ≡ emit.Flat → ⊥
 report-no-flat e = cc
 
 -- three texts at the end, one behind the other
@@ -74,3 +74,7 @@ told-line n texts others same also b bytes is breaks =
 pub ladder-status : (n : ℕ) (status : Status) (text : List ℕ) → TellsLadder n status text → IsAnswer status × (status ≡ Singular → ⊥)
 ladder-status n status text (summed sums is) = (rw is tt, λ (e : status ≡ Singular). cc)
 ladder-status n status text (refused b breaks is text_is) = (rw is tt, λ (e : status ≡ Singular). cc)
+
+pub ladder-never-differs : (n : ℕ) (status : Status) (text : List ℕ) → TellsLadder n status text → status ≡ Differs → ⊥
+ladder-never-differs n status text (summed sums is) e = cc
+ladder-never-differs n status text (refused b breaks is text_is) e = cc

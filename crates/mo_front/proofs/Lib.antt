@@ -9,6 +9,8 @@ mod OneByOne
 mod Loaded
 mod Writing
 mod SoundTrees
+mod Verifying
+mod OneVerdict
 pub mod Once
 mod OneTold
 mod OneAsked

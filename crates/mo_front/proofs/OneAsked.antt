@@ -1,5 +1,5 @@
 -- What words ask for is one thing, and so what is told of them.
-use Rattle.std.proofs.Common.{◌≡◌, ℕ, List, Some, ap, sym, ◌∙◌, subst}
+use Rattle.std.proofs.Common.{◌≡◌, ℕ, List, Option, None, Some, ap, sym, ◌∙◌, subst}
 use Rattle.mo_syntax.specs.declared.text.Path.{Path}
 use Rattle.mo_lexer.proofs.Unique.{same_tokens}
 use Rattle.mo_ports.specs.Contents.{Contents}
@@ -8,12 +8,13 @@ use Rattle.mo_front.specs.declared.words.Emit.{Emit}
 use Rattle.mo_front.specs.declared.words.Words.{Words}
 use Rattle.mo_front.specs.declared.words.Words.TheVariants.{Job, Make}
 use Rattle.mo_front.specs.Ladder.{TellsLadder, ladder_path, ladder_texts}
-use Rattle.mo_front.specs.Run.{TellsAsked, TellsWords}
-use Rattle.mo_front.specs.Told.{FilesGive, Tells, bytes_of_all, line_of_broken}
+use Rattle.mo_front.specs.Run.{TellsAsked, TellsFiles, TellsWords}
+use Rattle.mo_front.specs.Told.{FilesGive, bytes_of_all, line_of_broken}
 use Rattle.mo_front.specs.Words.{Names, NamesClass, NamesRungs, dotted_names}
 use Rattle.mo_front.proofs.Once.{one_of_files, one_of_texts}
 use Rattle.mo_front.proofs.OneTold.{one-ladder, one-told}
-use Rattle.mo_front.proofs.Writing.{one-emit, one-form}
+use Rattle.mo_front.proofs.OneVerdict.{one-verdict-told}
+use Rattle.mo_front.proofs.Writing.{job-of, one-emit, one-form, one-verify}
 
 some-is : {A : Type 0} (a b : A) → Some a ≡ Some b → a ≡ b
 some-is a b e = cc
@@ -23,13 +24,16 @@ one-class : (word : List ℕ) (path other : List (List ℕ)) → NamesClass word
 one-class word path other a b = some-is path other (sym a.dotted ∙ ap dotted_names (same_tokens 0 word b.tokens a.tokens b.lexes a.lexes) ∙ b.dotted)
 
 module _ (words : List (List ℕ)) where
-  one-path : (class other : Path) (emit again : Emit) (files more : List (List ℕ)) → Names words (Job class emit files) → Names words (Job other again more) → class.0 ≡ other.0
-  one-path class other emit again files more a b =
-      one-class a.asks.class class.0 other.0 a.asks.names_class
-      (subst (λ (w : List ℕ). NamesClass w other.0) (some-is b.asks.class a.asks.class (sym b.asks.class_given ∙ a.asks.class_given)) b.asks.names_class)
+  one-path : (class other : Path) (emit again : Emit) (files more : List (List ℕ)) (verify over : Option (List ℕ)) → Names words (Job class emit files verify) → Names words (Job other again more over) → class.0 ≡ other.0
+  one-path class other emit again files more verify over a b =
+      let job = job-of words class emit files verify a in
+      let others = job-of words other again more over b in
+      one-class job.class class.0 other.0 job.names_class
+      (subst (λ (w : List ℕ). NamesClass w other.0) (some-is others.class job.class (sym others.class_given ∙ job.class_given)) others.names_class)
 
-  same-files : (class other : Path) (emit again : Emit) (files more : List (List ℕ)) → Names words (Job class emit files) → Names words (Job other again more) → files ≡ more
-  same-files class other emit again files more a b = some-is files more (sym a.asks.files_given ∙ b.asks.files_given)
+  same-files : (class other : Path) (emit again : Emit) (files more : List (List ℕ)) (verify over : Option (List ℕ)) → Names words (Job class emit files verify) → Names words (Job other again more over) → files ≡ more
+  same-files class other emit again files more verify over a b =
+      some-is files more (sym (job-of words class emit files verify a).files_given ∙ (job-of words other again more over b).files_given)
 
   same-rungs : (n m : ℕ) → Names words (Make n) → Names words (Make m) → n ≡ m
   same-rungs n m a b =
@@ -38,21 +42,26 @@ module _ (words : List (List ℕ)) where
       a.asks.names_rungs.is ∙ sym named.is
 
   module _ (contents : Contents) (status other : Status) (text more : List ℕ) where
-    one-job : (path : List (List ℕ)) (emit : Emit) (files : List (List ℕ)) → Tells path emit files contents status text → Tells path emit files contents other more → (status ≡ other) × (text ≡ more)
-    one-job path emit files =
+    one-job : (path : List (List ℕ)) (emit : Emit) (files : List (List ℕ)) (verify : Option (List ℕ)) → TellsFiles path emit files verify contents status text → TellsFiles path emit files verify contents other more
+        → (status ≡ other) × (text ≡ more)
+    one-job path emit files None =
         one-told (FilesGive path files contents) (one_of_files path files contents) (line_of_broken files (bytes_of_all contents files)) emit status other text more
+    one-job path emit files (Some report) = one-verdict-told path files report contents status other text more
 
-    same-job : (path path' : List (List ℕ)) (emit emit' : Emit) (files files' : List (List ℕ)) → path ≡ path' → emit ≡ emit' → files ≡ files' → Tells path' emit' files' contents other more → Tells path emit files contents other more
-    same-job path path' emit emit' files files' p e f tells =
-        subst (λ (x : List (List ℕ)). Tells x emit files contents other more) (sym p)
-        (subst (λ (x : Emit). Tells path' x files contents other more) (sym e) (subst (λ (x : List (List ℕ)). Tells path' emit' x contents other more) (sym f) tells))
+    same-job : (path path' : List (List ℕ)) (emit emit' : Emit) (files files' : List (List ℕ)) (verify verify' : Option (List ℕ)) → path ≡ path' → emit ≡ emit' → files ≡ files' → verify ≡ verify'
+        → TellsFiles path' emit' files' verify' contents other more → TellsFiles path emit files verify contents other more
+    same-job path path' emit emit' files files' verify verify' p e f v tells =
+        subst (λ (x : List (List ℕ)). TellsFiles x emit files verify contents other more) (sym p)
+        (subst (λ (x : Emit). TellsFiles path' x files verify contents other more) (sym e)
+        (subst (λ (x : List (List ℕ)). TellsFiles path' emit' x verify contents other more) (sym f) (subst (λ (x : Option (List ℕ)). TellsFiles path' emit' files' x contents other more) (sym v) tells)))
 
     told-of : (asked again : Words) → Names words asked → Names words again → TellsAsked asked contents status text → TellsAsked again contents other more → (status ≡ other) × (text ≡ more)
-    told-of (Job class emit files) (Job class' emit' files') a b tells tells' =
-        one-job class.0 emit files tells
-        (same-job class.0 class'.0 emit emit' files files' (one-path class class' emit emit' files files' a b) (one-emit words class class' emit emit' files files' a b) (same-files class class' emit emit' files files' a b) tells')
-    told-of (Job class emit files) (Make n) a b tells tells' = one-form words class emit files n a b
-    told-of (Make n) (Job class emit files) a b tells tells' = one-form words class emit files n b a
+    told-of (Job class emit files verify) (Job class' emit' files' verify') a b tells tells' =
+        one-job class.0 emit files verify tells
+        (same-job class.0 class'.0 emit emit' files files' verify verify' (one-path class class' emit emit' files files' verify verify' a b) (one-emit words class class' emit emit' files files' verify verify' a b)
+        (same-files class class' emit emit' files files' verify verify' a b) (one-verify words class class' emit emit' files files' verify verify' a b) tells')
+    told-of (Job class emit files verify) (Make n) a b tells tells' = one-form words class emit files verify n a b
+    told-of (Make n) (Job class emit files verify) a b tells tells' = one-form words class emit files verify n b a
     told-of (Make n) (Make m) a b tells tells' =
         one-ladder n (one_of_texts ladder_path (ladder_texts n)) status other text more tells (subst (λ (k : ℕ). TellsLadder k other more) (sym (same-rungs n m a b)) tells')
 

@@ -84,7 +84,7 @@ module _ (m : FlatModel) where
     one-phase phase.Size x y a b = sym a ∙ (same-refusal ∙ b)
     one-phase phase.Reduction x y a b = one-reduction r.offsets s.offsets x y say.offsets a b
 
-    one-break : (phases : List Phase) (x y : Option Broken) → PhasesBreak m r phases x → PhasesBreak m s phases y → x ≡ y
+    pub one-break : (phases : List Phase) (x y : Option Broken) → PhasesBreak m r phases x → PhasesBreak m s phases y → x ≡ y
     one-break [] x y all_passed all_passed = refl
     one-break (asked ∷ phases) x y (this_one {b = b} a) (this_one {b = c} a') = one-phase asked (Some b) (Some c) a a'
     one-break (asked ∷ phases) x y (this_one {b = b} a) (later a' rest') = absurd (some-none b (one-phase asked (Some b) None a a'))
@@ -138,7 +138,7 @@ module _ (m : FlatModel) where
       same-parts [] = refl
       same-parts (p ∷ parts) = rw (same-part p, same-parts parts) refl
 
-    same-status : status_of r ≡ status_of s
+    pub same-status : status_of r ≡ status_of s
     same-status = ap (λ (b : Bool). if b then Singular else Done) same-singular
 
   flat-no-alias : emit.Flat ≡ emit.Alias → ⊥
@@ -192,7 +192,7 @@ module _ (Gives : Outcome → Type 0) (once : (o p : Outcome) → Gives o → Gi
   one-rule : (b c : Broken) → Gives (broken b) → Gives (broken c) → b ≡ c
   one-rule b c x y = let same : broken b ≡ broken c = once (broken b) (broken c) x y in cc
 
-  one-break-of : (b c : Broken) → Breaks Gives emit b → Breaks Gives emit c → b ≡ c
+  pub one-break-of : (b c : Broken) → Breaks Gives emit b → Breaks Gives emit c → b ≡ c
   one-break-of b c (no_model x) (no_model y) = one-rule b c x y
   one-break-of b c (no_model x) (no_text n y refuses) = absurd (no-model-broken n b y x)
   one-break-of b c (no_text m x refuses) (no_model y) = absurd (no-model-broken m c x y)

@@ -1,18 +1,20 @@
 -- What was written of what is told.
 use Rattle.std.proofs.Common.{◌≡◌, ℕ, List, Option, Some, None, IfSome, ap, sym, ◌∙◌, subst, refl, slice_index, if◌then◌else◌, ◌==◌, ◌⊎◌, inl, inr}
 use Rattle.mo_syntax.specs.declared.text.Path.{Path}
+use Rattle.clap.specs.Words.{matches_of}
 use Rattle.mo_ports.specs.Contents.{Contents}
 use Rattle.mo_ports.specs.Written.{AppendsFront, appended}
 use Rattle.mo_front.specs.declared.status.Status.{Status}
-use Rattle.mo_front.specs.declared.status.Status.TheVariants.{Done, Refused, Singular, Usage, ReadFault, WriteFault, NoMemory}
+use Rattle.mo_front.specs.declared.status.Status.TheVariants.{Done, Refused, Singular, Usage, ReadFault, WriteFault, NoMemory, Differs}
 use Rattle.mo_front.specs.declared.words.Emit.{Emit}
 use Rattle.mo_front.specs.declared.words.Words.{Words}
 use Rattle.mo_front.specs.declared.words.Words.TheVariants.{Job, Make}
 use Rattle.mo_front.specs.Ladder.{TellsLadder}
-use Rattle.mo_front.specs.Run.{IsAnswer, IsNamedFault, NamesFault, TellsAsked, TellsWords, WritesFront, WritesTold}
+use Rattle.mo_front.specs.Run.{IsAnswer, IsNamedFault, NamesFault, NamesReport, TellsAsked, TellsFiles, TellsWords, WritesFront, WritesTold, with_report}
 use Rattle.mo_front.specs.Told.{Tells}
+use Rattle.mo_front.specs.Verified.{TellsVerdict}
 use Rattle.mo_front.specs.declared.words.Emit.TheVariants as asks
-use Rattle.mo_front.specs.Words.{AsksFor, Names, word_of}
+use Rattle.mo_front.specs.Words.{AsksFor, Names, NamesJob, command, word_of}
 
 pub writes-told : (told : Option Contents) (path : List (List ℕ)) (emit : Emit) (files : List (List ℕ)) (before after : Option (List ℕ)) (status : Status) (line bytes : List ℕ) → IfSome told (λ contents. Tells path emit files contents status line)
     → after ≡ appended before bytes → bytes ≡ line → IfSome told (λ contents. WritesTold (Tells path emit files contents) before after status)
@@ -50,8 +52,62 @@ ladder-front None words before after n names wrote = tt
 ladder-front (Some contents) words before after n names wrote =
     record { status = wrote.status; text = wrote.text; told = record { asked = Make n; names = names; tells = wrote.told }; written = wrote.written }
 
-pub names-fault : (words : List (List ℕ)) (class : Path) (emit : Emit) (files : List (List ℕ)) (failed : Option (List ℕ)) → Names words (Job class emit files) → IsNamedFault failed files → NamesFault words failed
-names-fault words class emit files failed names fault = record { class = class; emit = emit; files = files; names = names; fault = fault }
+pub names-fault : (words : List (List ℕ)) (class : Path) (emit : Emit) (files : List (List ℕ)) (verify failed : Option (List ℕ)) → Names words (Job class emit files verify) → IsNamedFault failed (with_report files verify)
+    → NamesFault words failed
+names-fault words class emit files verify failed names fault = record { class = class; emit = emit; files = files; verify = verify; names = names; fault = fault }
+
+-- ---- a class in files, and a printed report
+
+pub writes-verdict : (told : Option Contents) (path files : List (List ℕ)) (report : List ℕ) (before after : Option (List ℕ)) (status : Status) (line bytes : List ℕ) → IfSome told (λ contents. TellsVerdict path files report contents status line)
+    → after ≡ appended before bytes → bytes ≡ line → IfSome told (λ contents. WritesTold (TellsVerdict path files report contents) before after status)
+writes-verdict None path files report before after status line bytes tells wrote is = tt
+writes-verdict (Some contents) path files report before after status line bytes tells wrote is = record { text = line; told = tells; written = wrote ∙ ap (appended before) is }
+
+pub writes-verdict-front : (told : Option Contents) (path files : List (List ℕ)) (report : List ℕ) (before after : Option (List ℕ)) (status : Status) (line bytes : List ℕ) → IfSome told (λ contents. TellsVerdict path files report contents status line)
+    → AppendsFront before after bytes → bytes ≡ line → IfSome told (λ contents. WritesFront (TellsVerdict path files report contents) before after)
+writes-verdict-front None path files report before after status line bytes tells wrote is = tt
+writes-verdict-front (Some contents) path files report before after status line bytes tells wrote is =
+    record { status = status; text = line; told = tells; written = subst (λ (x : List ℕ). AppendsFront before after x) is wrote }
+
+-- of a class in files that is told, with a printed report or without one
+pub verdict-of-files : (told : Option Contents) (path : List (List ℕ)) (emit : Emit) (files : List (List ℕ)) (verify : Option (List ℕ)) (report shown : List ℕ) (before after : Option (List ℕ)) (status : Status) → verify ≡ Some report → shown ≡ report
+    → IfSome told (λ contents. WritesTold (TellsVerdict path files shown contents) before after status) → IfSome told (λ contents. WritesTold (TellsFiles path emit files verify contents) before after status)
+verdict-of-files None path emit files verify report shown before after status is same wrote = tt
+verdict-of-files (Some contents) path emit files verify report shown before after status is same wrote = record {
+  text = wrote.text;
+  told = subst (λ (v : Option (List ℕ)). TellsFiles path emit files v contents status wrote.text) (sym is) (subst (λ (r : List ℕ). TellsVerdict path files r contents status wrote.text) same wrote.told);
+  written = wrote.written;
+}
+
+pub verdict-front-of-files : (told : Option Contents) (path : List (List ℕ)) (emit : Emit) (files : List (List ℕ)) (verify : Option (List ℕ)) (report shown : List ℕ) (before after : Option (List ℕ)) → verify ≡ Some report → shown ≡ report
+    → IfSome told (λ contents. WritesFront (TellsVerdict path files shown contents) before after) → IfSome told (λ contents. WritesFront (TellsFiles path emit files verify contents) before after)
+verdict-front-of-files None path emit files verify report shown before after is same wrote = tt
+verdict-front-of-files (Some contents) path emit files verify report shown before after is same wrote = record {
+  status = wrote.status;
+  text = wrote.text;
+  told = subst (λ (v : Option (List ℕ)). TellsFiles path emit files v contents wrote.status wrote.text) (sym is)
+      (subst (λ (r : List ℕ). TellsVerdict path files r contents wrote.status wrote.text) same wrote.told);
+  written = wrote.written;
+}
+
+pub text-of-files : (told : Option Contents) (path : List (List ℕ)) (emit : Emit) (files : List (List ℕ)) (verify : Option (List ℕ)) (before after : Option (List ℕ)) (status : Status) → verify ≡ None
+    → IfSome told (λ contents. WritesTold (Tells path emit files contents) before after status) → IfSome told (λ contents. WritesTold (TellsFiles path emit files verify contents) before after status)
+text-of-files None path emit files verify before after status is wrote = tt
+text-of-files (Some contents) path emit files verify before after status is wrote = record {
+  text = wrote.text;
+  told = subst (λ (v : Option (List ℕ)). TellsFiles path emit files v contents status wrote.text) (sym is) wrote.told;
+  written = wrote.written;
+}
+
+pub front-of-files : (told : Option Contents) (path : List (List ℕ)) (emit : Emit) (files : List (List ℕ)) (verify : Option (List ℕ)) (before after : Option (List ℕ)) → verify ≡ None
+    → IfSome told (λ contents. WritesFront (Tells path emit files contents) before after) → IfSome told (λ contents. WritesFront (TellsFiles path emit files verify contents) before after)
+front-of-files None path emit files verify before after is wrote = tt
+front-of-files (Some contents) path emit files verify before after is wrote = record {
+  status = wrote.status;
+  text = wrote.text;
+  told = subst (λ (v : Option (List ℕ)). TellsFiles path emit files v contents wrote.status wrote.text) (sym is) wrote.told;
+  written = wrote.written;
+}
 
 -- a line that a ladder has, written whole or in part
 pub ladder-writes : (n : ℕ) (before after : Option (List ℕ)) (status : Status) (line bytes : List ℕ) → TellsLadder n status line → after ≡ appended before bytes → bytes ≡ line → WritesTold (TellsLadder n) before after status
@@ -81,16 +137,35 @@ one-asked : (word : Option (List ℕ)) (emit other : Emit) → AsksFor word emit
 one-asked None emit other is also = is ∙ sym also
 one-asked (Some word) emit other is also = sym (asked-word emit) ∙ ap asked_by (sym is ∙ also) ∙ asked-word other
 
+-- whatever is asked for of a class, the class and the files are named
+pub job-of : (words : List (List ℕ)) (class : Path) (emit : Emit) (files : List (List ℕ)) (verify : Option (List ℕ)) → Names words (Job class emit files verify) → NamesJob (matches_of command words) class.0 files
+job-of words class emit files None names = names.asks.job
+job-of words class emit files (Some report) names = names.asks.job
+
 -- words ask for one thing only
-pub one-emit : (words : List (List ℕ)) (class other : Path) (emit again : Emit) (files more : List (List ℕ)) → Names words (Job class emit files) → Names words (Job other again more) → emit ≡ again
-one-emit words class other emit again files more names others = one-asked _ emit again names.asks.asks_for others.asks.asks_for
+pub one-verify : (words : List (List ℕ)) (class other : Path) (emit again : Emit) (files more : List (List ℕ)) (verify over : Option (List ℕ)) → Names words (Job class emit files verify) → Names words (Job other again more over) → verify ≡ over
+one-verify words class other emit again files more None None names others = refl
+one-verify words class other emit again files more None (Some over) names others = let never : None ≡ Some over = sym names.asks.no_report ∙ others.asks.report_given in absurd cc
+one-verify words class other emit again files more (Some report) None names others = let never : None ≡ Some report = sym others.asks.no_report ∙ names.asks.report_given in absurd cc
+one-verify words class other emit again files more (Some report) (Some over) names others = sym names.asks.report_given ∙ others.asks.report_given
+
+pub one-emit : (words : List (List ℕ)) (class other : Path) (emit again : Emit) (files more : List (List ℕ)) (verify over : Option (List ℕ)) → Names words (Job class emit files verify) → Names words (Job other again more over) → emit ≡ again
+one-emit words class other emit again files more None None names others = one-asked _ emit again names.asks.asks_for others.asks.asks_for
+one-emit words class other emit again files more None (Some over) names others = let never : None ≡ Some over = sym names.asks.no_report ∙ others.asks.report_given in absurd cc
+one-emit words class other emit again files more (Some report) None names others = let never : None ≡ Some report = sym others.asks.no_report ∙ names.asks.report_given in absurd cc
+one-emit words class other emit again files more (Some report) (Some over) names others = names.asks.as_report ∙ sym others.asks.as_report
 
 -- a class or a ladder, not both
-pub one-form : {P : Type 0} (words : List (List ℕ)) (class : Path) (emit : Emit) (files : List (List ℕ)) (n : ℕ) → Names words (Job class emit files) → Names words (Make n) → P
-one-form words class emit files n names ladder = absurd (clash (sym names.asks.no_ladder ∙ ladder.asks.ladder_given))
+pub one-form : {P : Type 0} (words : List (List ℕ)) (class : Path) (emit : Emit) (files : List (List ℕ)) (verify : Option (List ℕ)) (n : ℕ) → Names words (Job class emit files verify) → Names words (Make n) → P
+one-form words class emit files verify n names ladder = absurd (clash (sym (job-of words class emit files verify names).no_ladder ∙ ladder.asks.ladder_given))
   where
     clash : None ≡ Some ladder.asks.word → ⊥
     clash eq = cc
+
+-- only words that name a report differ from it
+pub names-report : (words : List (List ℕ)) (class : Path) (emit : Emit) (files : List (List ℕ)) (verify : Option (List ℕ)) → Names words (Job class emit files verify) → (verify ≡ None → ⊥) → NamesReport words
+names-report words class emit files None names some = absurd (some refl)
+names-report words class emit files (Some report) names some = record { class = class; files = files; report = report; names = subst (λ (e : Emit). Names words (Job class e files (Some report))) names.asks.as_report names }
 
 -- a run that is asked for something, and meets no fault, answers, or memory is refused
 pub answered : (s : Status) → (s ≡ Usage → ⊥) → (s ≡ ReadFault → ⊥) → (s ≡ WriteFault → ⊥) → IsAnswer s ⊎ (s ≡ NoMemory)
@@ -101,3 +176,4 @@ answered Usage usage read write = absurd (usage refl)
 answered ReadFault usage read write = absurd (read refl)
 answered WriteFault usage read write = absurd (write refl)
 answered NoMemory usage read write = inr refl
+answered Differs usage read write = inl tt

@@ -2,6 +2,7 @@ pub mod Emitted
 pub mod Files
 pub mod Ladder
 pub mod Limits
+pub mod Verified
 pub mod Loading
 pub mod Refusal
 pub mod Run

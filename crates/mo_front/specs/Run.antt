@@ -1,22 +1,29 @@
 -- What the whole program writes, and where its answers come from.
-use Rattle.std.specs.Prelude.{◌≡◌, ℕ, List, map, Option, Some, Contains, string_bytes}
+use Rattle.std.specs.Prelude.{◌≡◌, ℕ, List, [], ◌∷◌, ◌++◌, map, Option, Some, None, Contains, string_bytes}
 use Rattle.std.specs.declared.string.String.{String}
 use Rattle.std.specs.declared.alloc.Global.{Global}
 use Rattle.mo_syntax.specs.declared.text.Path.{Path}
 use Rattle.mo_ports.specs.Contents.{Contents}
 use Rattle.mo_ports.specs.Written.{AppendsFront, appended}
 use Rattle.mo_front.specs.declared.status.Status.{Status}
-use Rattle.mo_front.specs.declared.status.Status.TheVariants.{Done, Refused, Singular, Usage, ReadFault, WriteFault, NoMemory}
+use Rattle.mo_front.specs.declared.status.Status.TheVariants.{Done, Refused, Singular, Usage, ReadFault, WriteFault, NoMemory, Differs}
 use Rattle.mo_front.specs.Told.{Tells}
+use Rattle.mo_front.specs.Verified.{TellsVerdict}
 use Rattle.mo_front.specs.declared.words.Emit.{Emit}
+use Rattle.mo_front.specs.declared.words.Emit.TheVariants as emit
 use Rattle.mo_front.specs.declared.words.Words.{Words}
 use Rattle.mo_front.specs.declared.words.Words.TheVariants.{Job, Make}
 use Rattle.mo_front.specs.Ladder.{TellsLadder}
 use Rattle.mo_front.specs.Words.{Names}
 
+-- what is told of a class in files, or of a printed report by these
+abbrev pub TellsFiles : (path : List (List ℕ)) → Emit → (files : List (List ℕ)) → Option (List ℕ) → Contents → Status → List ℕ → Type 0
+TellsFiles path emit files None contents status text = Tells path emit files contents status text
+TellsFiles path emit files (Some report) contents status text = TellsVerdict path files report contents status text
+
 -- what is told of what the words ask for
 abbrev pub TellsAsked : Words → Contents → Status → List ℕ → Type 0
-TellsAsked (Job class emit files) contents status text = Tells class.0 emit files contents status text
+TellsAsked (Job class emit files verify) contents status text = TellsFiles class.0 emit files verify contents status text
 TellsAsked (Make n) contents status text = TellsLadder n status text
 
 -- the words ask for something, and of that the text is told with this status
@@ -34,6 +41,7 @@ IsAnswer Usage = ⊥
 IsAnswer ReadFault = ⊥
 IsAnswer WriteFault = ⊥
 IsAnswer NoMemory = ⊥
+IsAnswer Differs = Unit {0}
 
 -- the statuses with which nothing is written
 abbrev pub IsSilent : Status → Type 0
@@ -44,6 +52,7 @@ IsSilent Usage = Unit {0}
 IsSilent ReadFault = Unit {0}
 IsSilent WriteFault = ⊥
 IsSilent NoMemory = Unit {0}
+IsSilent Differs = ⊥
 
 -- the number that the program ends with
 abbrev pub status_number : Status → ℕ
@@ -54,6 +63,7 @@ status_number Usage = 3
 status_number ReadFault = 4
 status_number WriteFault = 5
 status_number NoMemory = 6
+status_number Differs = 7
 
 -- the words of the command line as bytes
 abbrev pub words_of : List (String Global) → List (List ℕ)
@@ -78,10 +88,23 @@ pub record IsNamedFault (failed : Option (List ℕ)) (names : List (List ℕ)) :
   pub is : failed ≡ Some name
   pub among : Contains names name
 
+-- the files that the words name, a printed report behind the others
+abbrev pub with_report : List (List ℕ) → Option (List ℕ) → List (List ℕ)
+with_report files None = files
+with_report files (Some report) = files ++ report ∷ []
+
+-- the words ask for the verdict on a printed report
+pub record NamesReport (words : List (List ℕ)) : Type 0 where
+  pub class : Path
+  pub files : List (List ℕ)
+  pub report : List ℕ
+  pub names : Names words (Job class emit.Report files (Some report))
+
 -- it is one of the files that the words name
 pub record NamesFault (words : List (List ℕ)) (failed : Option (List ℕ)) : Type 0 where
   pub class : Path
   pub emit : Emit
   pub files : List (List ℕ)
-  pub names : Names words (Job class emit files)
-  pub fault : IsNamedFault failed files
+  pub verify : Option (List ℕ)
+  pub names : Names words (Job class emit files verify)
+  pub fault : IsNamedFault failed (with_report files verify)

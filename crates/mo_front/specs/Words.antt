@@ -1,4 +1,5 @@
--- The words of the command line: the name of a class, what is to be written, and the files; or the number of rungs of a ladder.
+-- The words of the command line: the name of a class, what is to be written or the name of a printed report, and the files; or the number of
+-- rungs of a ladder.
 use Rattle.std.specs.Prelude.{◌≡◌, ℕ, ◌==◌, ◌&&◌, ◌≤◌, Bool, true, false, List, [], ◌∷◌, ◌++◌, length, codes, IsTrue, Option, Some}
 use Rattle.std.specs.Prelude.{None, if◌then◌else◌}
 use Rattle.std.specs.List.{flat_map}
@@ -103,6 +104,10 @@ class_option = record (new_rule (codes "class")) { long = Some (codes "class") }
 abbrev pub emit_option : Rule
 emit_option = record (new_rule (codes "emit")) { long = Some (codes "emit") }
 
+-- `--verify REPORT`, which may be given
+abbrev pub verify_option : Rule
+verify_option = record (new_rule (codes "verify")) { long = Some (codes "verify") }
+
 -- `--make N`, which may be given
 abbrev pub make_option : Rule
 make_option = record (new_rule (codes "make")) { long = Some (codes "make") }
@@ -111,28 +116,40 @@ make_option = record (new_rule (codes "make")) { long = Some (codes "make") }
 abbrev pub file_words : Rule
 file_words = record (new_rule (codes "file")) { action = Some Append }
 
--- The command, as the crate `clap` reads one: `[--class NAME] [--emit WORD] [--make N] FILE..`, where no word is the program's own name
+-- The command, as the crate `clap` reads one: `[--class NAME] [--emit WORD] [--verify REPORT] [--make N] FILE..`, where no word is the program's own name
 -- and none asks for help or for a version. An option has one value and stands once, before, between or behind the files.
 abbrev pub command : App
 command = record {
   top = record (new_shape (codes "mofront")) {
-    rules = class_option ∷ emit_option ∷ make_option ∷ file_words ∷ [];
+    rules = class_option ∷ emit_option ∷ verify_option ∷ make_option ∷ file_words ∷ [];
     no_binary_name = true;
     disable_help_flag = true;
   };
   subs = [];
 }
 
--- The first form: the class of that path, what is to be written, and from 1 to 64 files.
-pub record AsksForClass (given : List Row) (path : List (List ℕ)) (emit : Emit) (files : List (List ℕ)) : Type 0 where
+-- The class of that path, and from 1 to 64 files.
+pub record NamesJob (given : List Row) (path files : List (List ℕ)) : Type 0 where
   pub class : List ℕ
   pub class_given : first_of (codes "class") given ≡ Some class
   pub names_class : NamesClass class path
-  pub asks_for : AsksFor (first_of (codes "emit") given) emit
   pub no_ladder : first_of (codes "make") given ≡ None
   pub files_given : all_of (codes "file") given ≡ Some files
   pub some : 1 ≤ length files
   pub few : length files ≤ most_files
+
+-- The first form: a class in files, and what is to be written of it.
+pub record AsksForClass (given : List Row) (path : List (List ℕ)) (emit : Emit) (files : List (List ℕ)) : Type 0 where
+  pub job : NamesJob given path files
+  pub asks_for : AsksFor (first_of (codes "emit") given) emit
+  pub no_report : first_of (codes "verify") given ≡ None
+
+-- The third form: a class in files, and a printed report. What would be written is that report, and nothing says so.
+pub record AsksForVerdict (given : List Row) (path : List (List ℕ)) (what : Emit) (files : List (List ℕ)) (report : List ℕ) : Type 0 where
+  pub job : NamesJob given path files
+  pub as_report : what ≡ emit.Report
+  pub no_emit : first_of (codes "emit") given ≡ None
+  pub report_given : first_of (codes "verify") given ≡ Some report
 
 -- The second form: a ladder of so many rungs, and nothing else.
 pub record AsksForLadder (given : List Row) (n : ℕ) : Type 0 where
@@ -141,11 +158,13 @@ pub record AsksForLadder (given : List Row) (n : ℕ) : Type 0 where
   pub names_rungs : NamesRungs word n
   pub no_class : first_of (codes "class") given ≡ None
   pub no_emit : first_of (codes "emit") given ≡ None
+  pub no_report : first_of (codes "verify") given ≡ None
   pub no_files : all_of (codes "file") given ≡ None
 
 -- What the command's options and files, by what was given of each, ask for.
 abbrev pub Asks : List Row → Words → Type 0
-Asks given (Job class emit files) = AsksForClass given class.0 emit files
+Asks given (Job class emit files None) = AsksForClass given class.0 emit files
+Asks given (Job class emit files (Some report)) = AsksForVerdict given class.0 emit files report
 Asks given (Make n) = AsksForLadder given n
 
 -- The words are those of the command, without a fault, and ask for that.

@@ -96,7 +96,7 @@ fn analysed(alloc: Global, emit: Emit, m: &FlatModel) -> Result<(Status, Text), 
 }
 
 /// The status of a model with that report.
-fn status_of(r: &Report) -> Status
+pub(crate) fn status_of(r: &Report) -> Status
     ensures { result ≡ status_of r.now }
 {
     if is_singular(r) {

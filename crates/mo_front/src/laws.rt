@@ -16,8 +16,8 @@ pub fn files_tell_one()
     ensures { (path names : List (List ℕ)) (emit : Emit) (contents : Contents) (status other : Status) (text more : List ℕ) → Tells path emit names contents status text → Tells path emit names contents other more → (status ≡ other) × (text ≡ more) }
 {}
 
-/// What is told of words and of what is held is one thing, for a class in files and for a ladder: two texts that are told are equal, and so
-/// are their statuses.
+/// What is told of words and of what is held is one thing, for a class in files, for a printed report behind them and for a ladder: two texts
+/// that are told are equal, and so are their statuses.
 pub fn words_tell_one()
     ensures { (words : List (List ℕ)) (contents : Contents) (status other : Status) (text more : List ℕ) → TellsWords words contents status text → TellsWords words contents other more → (status ≡ other) × (text ≡ more) }
 {}

@@ -1,6 +1,6 @@
 //! The program from words and files to bytes: it reads the files, finds the class in their trees, and writes its flat
 //! text, its reduced model, the report on its structure, the states that stateSelect prefers or its aliases, or the line that names the first broken
-//! rule. In place of files it makes a ladder, and writes a line with its counts.
+//! rule. Of a printed report behind the files it writes whether it holds. In place of files it makes a ladder, and writes a line with its counts.
 //!
 //! - `run`: the program over any shelf and sink.
 //! - `files_give_one`, `files_tell_one` and `words_tell_one` are the laws that files give one thing only, and that one text is told of it and of
@@ -16,6 +16,7 @@ mod ladder;
 mod laws;
 mod load;
 mod phases;
+mod printed;
 mod program;
 mod refusal;
 mod rungs;
@@ -24,6 +25,7 @@ mod status;
 mod structure;
 mod summary;
 mod table;
+mod verified;
 mod words;
 
 pub use laws::{files_give_one, files_tell_one, words_tell_one};

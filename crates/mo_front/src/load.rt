@@ -1,5 +1,5 @@
 //! Reading the named files.
-ghost use Rattle.std.specs.Prelude.{◌≡◌, ◌≤◌, ◌<◌, ◌^◌, ◌++◌, [], Some, Ok as Yes, length, min, IfOk, IfErr, IfSome, All};
+ghost use Rattle.std.specs.Prelude.{◌≡◌, ◌≤◌, ◌<◌, ◌^◌, ◌++◌, [], Some, Ok as Yes, length, min, IfOk, IfErr, IfSome, OnOk, All};
 ghost use Rattle.std.specs.Str.Lossy.{utf8_valid_len};
 ghost use Rattle.mo_ports.specs.Counts.{Rose};
 ghost use Rattle.mo_front.specs.Files.{Reads, IsText, breaks_at};
@@ -52,6 +52,8 @@ pub(crate) fn read_files<S: Shelf>(
     ensures refused { IfErr result (λ u. IfSome (S.told shelf.old) (λ contents. RefusesReading contents names.now u)) }
     ensures fault { IfErr result (λ u. u ≡ Unread.Fault → Rose (S.faults shelf.old) (S.faults shelf.new)) }
     ensures fault_name { IfErr result (λ u. u ≡ Unread.Fault → IsNamedFault (S.failed shelf.new) names.now) }
+    ensures same { OnOk result (S.told shelf.new ≡ S.told shelf.old) }
+    ensures faults_later { OnOk result (S.faults shelf.old ≤ S.faults shelf.new) }
 {
     let mut texts = List::new(alloc);
     let mut left = ALL_FILES_LIMIT;
@@ -108,7 +110,14 @@ fn text_of(alloc: Global, name: &str, number: u32, bytes: &[u8]) -> Result<Text,
 }
 
 /// The refusal with the line of a rule that is broken at a byte of a file.
-fn refused(alloc: Global, name: &str, file: u32, bytes: &[u8], rule: u8, byte: u32) -> Unread
+pub(crate) fn refused(
+    alloc: Global,
+    name: &str,
+    file: u32,
+    bytes: &[u8],
+    rule: u8,
+    byte: u32,
+) -> Unread
     requires low { 1 ≤ rule }
     requires high { rule ≤ 46 }
     ensures { IsLine (breaks_at rule file byte) name.now bytes.now result }

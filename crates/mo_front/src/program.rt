@@ -5,7 +5,7 @@ ghost use Rattle.mo_ports.specs.Counts.{Rose};
 ghost use Rattle.mo_front.specs.Ladder.{TellsLadder};
 ghost use Rattle.mo_front.specs.Limits.{most_files, file_limit};
 ghost use Rattle.mo_front.specs.Loading.{TellsTexts};
-ghost use Rattle.mo_front.specs.Run.{IsAnswer, IsNamedFault, IsSilent, NamesFault, TellsWords, WritesTold, WritesFront, words_of};
+ghost use Rattle.mo_front.specs.Run.{IsAnswer, IsNamedFault, IsSilent, NamesFault, NamesReport, TellsFiles, TellsWords, WritesTold, WritesFront, with_report, words_of};
 ghost use Rattle.mo_front.specs.Told.{Breaks, Tells, TextsGive, WritesGiven, line_of_broken};
 ghost use Rattle.mo_front.specs.Words.{Names};
 
@@ -13,6 +13,7 @@ use crate::answer::of_texts;
 use crate::emit::written_of;
 use crate::ladder::ladder_answer;
 use crate::load::{Unread, read_files};
+use crate::printed::run_verdict;
 use crate::refusal::refusal_text;
 use crate::status::Status;
 use crate::words::{Emit, Words, WordsFault, read_words};
@@ -20,9 +21,9 @@ use mo_ports::{Shelf, Sink, put_all};
 use mo_syntax::{Broken, List, NoMemory, Path, Stop, Text};
 use std::alloc::Global;
 
-/// Runs the program with its words: the name of a class, what is to be written of it, and from 1 to 64 names of files; or the
-/// number of rungs of a ladder. It writes that text of the class in these files, or the line with the counts of the ladder; or the line
-/// that names the first broken rule.
+/// Runs the program with its words: the name of a class, what is to be written of it, and from 1 to 64 names of files; the number of rungs of
+/// a ladder; or the name of a class, of a printed report, and of files. It writes that text of the class in these files, the line with the
+/// counts of the ladder, or that with the verdict on the report; or the line that names the first broken rule.
 ///
 /// All memory is taken before the first write.
 pub fn run<S: Shelf, W: Sink>(alloc: Global, words: &[String], shelf: &mut S, out: &mut W) -> Status
@@ -34,8 +35,9 @@ pub fn run<S: Shelf, W: Sink>(alloc: Global, words: &[String], shelf: &mut S, ou
     // Where each answer comes from. Want of memory is the one free answer.
     ensures usage { result ≡ Status.Usage → (asked : Words) → Names (words_of words.now) asked → ⊥ }
     ensures only_usage { ((asked : Words) → Names (words_of words.now) asked → ⊥) → (result ≡ Status.Usage) ⊎ (result ≡ Status.NoMemory) }
-    ensures flat { (class : Path) → (files : Seq (Seq ℕ)) → Names (words_of words.now) (Words.Job class Emit.Flat files) → result ≢ Status.Singular }
-    ensures alias { (class : Path) → (files : Seq (Seq ℕ)) → Names (words_of words.now) (Words.Job class Emit.Alias files) → result ≢ Status.Singular }
+    ensures flat { (class : Path) → (files : Seq (Seq ℕ)) → Names (words_of words.now) (Words.Job class Emit.Flat files None) → result ≢ Status.Singular }
+    ensures alias { (class : Path) → (files : Seq (Seq ℕ)) → Names (words_of words.now) (Words.Job class Emit.Alias files None) → result ≢ Status.Singular }
+    ensures differs { result ≡ Status.Differs → NamesReport (words_of words.now) }
     ensures ladder { (n : ℕ) → Names (words_of words.now) (Words.Make n) → (result ≢ Status.Singular) × (result ≢ Status.ReadFault) }
     ensures read { result ≡ Status.ReadFault → Rose (S.faults shelf.old) (S.faults shelf.new) }
     ensures read_name { result ≡ Status.ReadFault → NamesFault (words_of words.now) (S.failed shelf.new) }
@@ -43,12 +45,45 @@ pub fn run<S: Shelf, W: Sink>(alloc: Global, words: &[String], shelf: &mut S, ou
     ensures complete { (asked : Words) → Names (words_of words.now) asked → (Rose (S.faults shelf.old) (S.faults shelf.new) → ⊥) → (Rose (W.faults out.old) (W.faults out.new) → ⊥) → IsAnswer result ⊎ (result ≡ Status.NoMemory) }
 {
     match read_words(alloc, words) {
-        Ok(Words::Job { class, emit, files }) => {
-            run_job(alloc, &class, emit, files.as_slice(), shelf, out)
-        }
+        Ok(
+            Words::Job {
+                class,
+                emit,
+                files,
+                verify,
+            },
+        ) => run_files(alloc, &class, emit, files.as_slice(), &verify, shelf, out),
         Ok(Words::Make(n)) => run_ladder(alloc, n, out),
         Err(WordsFault::Usage) => Status::Usage,
         Err(WordsFault::NoMemory) => Status::NoMemory,
+    }
+}
+
+/// Runs the program for a class and files, with a printed report or without one.
+fn run_files<S: Shelf, W: Sink>(
+    alloc: Global,
+    class: &Path,
+    emit: Emit,
+    files: &[Text],
+    verify: &Option<Text>,
+    shelf: &mut S,
+    out: &mut W,
+) -> Status
+    requires few { length files.now ≤ most_files }
+    ensures told { IsAnswer result → IfSome (S.told shelf.old) (λ contents. WritesTold (TellsFiles class.now.0 emit files.now verify.now contents) (W.written out.old) (W.written out.new) result) }
+    ensures silent { IsSilent result → W.written out.new ≡ W.written out.old }
+    ensures front { result ≡ Status.WriteFault → IfSome (S.told shelf.old) (λ contents. WritesFront (TellsFiles class.now.0 emit files.now verify.now contents) (W.written out.old) (W.written out.new)) }
+    ensures usage { result ≢ Status.Usage }
+    ensures flat { verify.now ≡ None → emit ≡ Emit.Flat → result ≢ Status.Singular }
+    ensures alias { verify.now ≡ None → emit ≡ Emit.Alias → result ≢ Status.Singular }
+    ensures differs { verify.now ≡ None → result ≢ Status.Differs }
+    ensures read { result ≡ Status.ReadFault → Rose (S.faults shelf.old) (S.faults shelf.new) }
+    ensures read_name { result ≡ Status.ReadFault → IsNamedFault (S.failed shelf.new) (with_report files.now verify.now) }
+    ensures write { result ≡ Status.WriteFault → Rose (W.faults out.old) (W.faults out.new) }
+{
+    match verify {
+        Some(report) => run_verdict(alloc, class, files, report.as_str(), shelf, out),
+        None => run_job(alloc, class, emit, files, shelf, out),
     }
 }
 
@@ -61,6 +96,7 @@ fn run_ladder<W: Sink>(alloc: Global, n: u32, out: &mut W) -> Status
     ensures front { result ≡ Status.WriteFault → WritesFront (TellsLadder n) (W.written out.old) (W.written out.new) }
     ensures usage { result ≢ Status.Usage }
     ensures singular { result ≢ Status.Singular }
+    ensures differs { result ≢ Status.Differs }
     ensures read { result ≢ Status.ReadFault }
     ensures write { result ≡ Status.WriteFault → Rose (W.faults out.old) (W.faults out.new) }
 {
@@ -91,6 +127,7 @@ fn run_job<S: Shelf, W: Sink>(
     ensures usage { result ≢ Status.Usage }
     ensures flat { emit ≡ Emit.Flat → result ≢ Status.Singular }
     ensures alias { emit ≡ Emit.Alias → result ≢ Status.Singular }
+    ensures differs { result ≢ Status.Differs }
     ensures read { result ≡ Status.ReadFault → Rose (S.faults shelf.old) (S.faults shelf.new) }
     ensures read_name { result ≡ Status.ReadFault → IsNamedFault (S.failed shelf.new) files.now }
     ensures write { result ≡ Status.WriteFault → Rose (W.faults out.old) (W.faults out.new) }
@@ -118,6 +155,7 @@ fn read_answer<S: Shelf>(
     ensures answers { IfOk result (λ a. IsAnswer a.0) }
     ensures flat { IfOk result (λ a. emit ≡ Emit.Flat → a.0 ≢ Status.Singular) }
     ensures alias { IfOk result (λ a. emit ≡ Emit.Alias → a.0 ≢ Status.Singular) }
+    ensures differs { IfOk result (λ a. a.0 ≢ Status.Differs) }
     ensures stops { IfErr result (λ status. (status ≡ Status.ReadFault) ⊎ (status ≡ Status.NoMemory)) }
     ensures read { IfErr result (λ status. status ≡ Status.ReadFault → Rose (S.faults shelf.old) (S.faults shelf.new)) }
     ensures read_name { IfErr result (λ status. status ≡ Status.ReadFault → IsNamedFault (S.failed shelf.new) files.now) }

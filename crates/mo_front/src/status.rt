@@ -18,6 +18,8 @@ pub enum Status {
     WriteFault,
     /// Memory was refused; nothing was written.
     NoMemory,
+    /// A printed report does not hold, and the line that says where was written.
+    Differs,
 }
 
 impl Status {
@@ -35,6 +37,7 @@ impl Status {
             Status::ReadFault => 4,
             Status::WriteFault => 5,
             Status::NoMemory => 6,
+            Status::Differs => 7,
         }
     }
 }

@@ -3,7 +3,7 @@ ghost use Rattle.std.specs.Prelude.{◌≡◌, ◌≢◌, ◌++◌, ◌∷◌, [
 ghost use Rattle.std.specs.List.{flat_map};
 ghost use Rattle.mo_syntax.specs.Lexeme.{lexemes};
 ghost use Rattle.std.specs.String.{string_bytes};
-ghost use Rattle.mo_front.specs.Words.{Asks, AsksFor, Names, NamesClass, command, dotted_names, is_dot, is_end, is_ident, name_alone, name_before_dot, with_dots};
+ghost use Rattle.mo_front.specs.Words.{Asks, AsksFor, Names, NamesClass, NamesJob, command, dotted_names, is_dot, is_end, is_ident, name_alone, name_before_dot, with_dots};
 ghost use Rattle.mo_front.specs.Run.{words_of};
 ghost use Rattle.clap.specs.Words.{app_of, first_value, found_of, kind_of, rows_of};
 
@@ -48,6 +48,8 @@ pub enum Words {
         emit: Emit,
         /// From 1 to 64 names of files.
         files: List<Text>,
+        /// The name of a printed report that is to be verified in place of what is written; `emit` is then that of a report.
+        verify: Option<Text>,
     },
     /// The counts of a ladder of so many rungs, from 1 to 1000.
     Make(u32),
@@ -103,6 +105,7 @@ fn command<'a>(alloc: Global) -> Result<Command<'a>, AllocError>
 {
     let class = Arg::new(alloc, "class").long("class");
     let emit = Arg::new(alloc, "emit").long("emit");
+    let verify = Arg::new(alloc, "verify").long("verify");
     let make = Arg::new(alloc, "make").long("make");
     let file = Arg::new(alloc, "file").action(ArgAction::Append);
     Command::new(alloc, "mofront")
@@ -110,6 +113,7 @@ fn command<'a>(alloc: Global) -> Result<Command<'a>, AllocError>
         .disable_help_flag(true)
         .arg(class)?
         .arg(emit)?
+        .arg(verify)?
         .arg(make)?
         .arg(file)
 }
@@ -132,7 +136,41 @@ fn asked(alloc: Global, matches: &ArgMatches<'_>) -> Result<Words, WordsFault>
 {
     match matches.get_str("make") {
         Some(word) => ladder_asked(matches, word),
+        None => files_asked(alloc, matches),
+    }
+}
+
+/// What they ask for where nothing stands behind `--make`.
+fn files_asked(alloc: Global, matches: &ArgMatches<'_>) -> Result<Words, WordsFault>
+    requires no_ladder { first_value (found_of matches.now) (codes "make") ≡ None }
+    ensures asks { IfOk result (Asks (rows_of (found_of matches.now))) }
+    ensures usage { IsErrOf result WordsFault.Usage → (asked : Words) → Asks (rows_of (found_of matches.now)) asked → ⊥ }
+{
+    match matches.get_str("verify") {
+        Some(report) => verdict_asked(alloc, matches, report),
         None => class_asked(alloc, matches),
+    }
+}
+
+/// What they ask for where that word stands behind `--verify`.
+fn verdict_asked(alloc: Global, matches: &ArgMatches<'_>, report: &str) -> Result<Words, WordsFault>
+    requires no_ladder { first_value (found_of matches.now) (codes "make") ≡ None }
+    requires given { Some report.now ≡ first_value (found_of matches.now) (codes "verify") }
+    ensures asks { IfOk result (Asks (rows_of (found_of matches.now))) }
+    ensures usage { IsErrOf result WordsFault.Usage → (asked : Words) → Asks (rows_of (found_of matches.now)) asked → ⊥ }
+{
+    if matches.get_str("emit").is_some() {
+        return Err(WordsFault::Usage);
+    }
+    let verify = Text::from_str(alloc, report)?;
+    match job_named(alloc, matches) {
+        Ok((class, files)) => Ok(Words::Job {
+            class,
+            emit: Emit::Report,
+            files,
+            verify: Some(verify),
+        }),
+        Err(fault) => Err(fault),
     }
 }
 
@@ -145,6 +183,9 @@ fn ladder_asked(matches: &ArgMatches<'_>, word: &str) -> Result<Words, WordsFaul
     if matches.get_str("class").is_some() || matches.get_str("emit").is_some() {
         return Err(WordsFault::Usage);
     }
+    if matches.get_str("verify").is_some() {
+        return Err(WordsFault::Usage);
+    }
     if matches.get_raw("file").is_some() {
         return Err(WordsFault::Usage);
     }
@@ -154,19 +195,37 @@ fn ladder_asked(matches: &ArgMatches<'_>, word: &str) -> Result<Words, WordsFaul
     }
 }
 
-/// What they ask for where nothing stands behind `--make`.
+/// What they ask for where nothing stands behind `--make` and `--verify`.
 fn class_asked(alloc: Global, matches: &ArgMatches<'_>) -> Result<Words, WordsFault>
     requires no_ladder { first_value (found_of matches.now) (codes "make") ≡ None }
+    requires no_report { first_value (found_of matches.now) (codes "verify") ≡ None }
     ensures asks { IfOk result (Asks (rows_of (found_of matches.now))) }
     ensures usage { IsErrOf result WordsFault.Usage → (asked : Words) → Asks (rows_of (found_of matches.now)) asked → ⊥ }
+{
+    let Some(emit) = emit_named(matches.get_str("emit")) else {
+        return Err(WordsFault::Usage);
+    };
+    match job_named(alloc, matches) {
+        Ok((class, files)) => Ok(Words::Job {
+            class,
+            emit,
+            files,
+            verify: None,
+        }),
+        Err(fault) => Err(fault),
+    }
+}
+
+/// The class and the files that they name, where nothing stands behind `--make`.
+fn job_named(alloc: Global, matches: &ArgMatches<'_>) -> Result<(Path, List<Text>), WordsFault>
+    requires no_ladder { first_value (found_of matches.now) (codes "make") ≡ None }
+    ensures job { IfOk result (λ job. NamesJob (rows_of (found_of matches.now)) job.0.0 job.1) }
+    ensures usage { IsErrOf result WordsFault.Usage → (path files : Seq (Seq ℕ)) → NamesJob (rows_of (found_of matches.now)) path files → ⊥ }
 {
     let Some(word) = matches.get_str("class") else {
         return Err(WordsFault::Usage);
     };
     let Some(class) = class_path(alloc, word)? else {
-        return Err(WordsFault::Usage);
-    };
-    let Some(emit) = emit_named(matches.get_str("emit")) else {
         return Err(WordsFault::Usage);
     };
     let Some(files) = matches.get_raw("file") else {
@@ -176,7 +235,7 @@ fn class_asked(alloc: Global, matches: &ArgMatches<'_>) -> Result<Words, WordsFa
         return Err(WordsFault::Usage);
     }
     let files = copied(alloc, files)?;
-    Ok(Words::Job { class, emit, files })
+    Ok((class, files))
 }
 
 /// What the word of `--emit` asks for, None where it is no such word.

@@ -21,7 +21,7 @@ fn main(rt: HostRuntime) -> ExitCode {
     let status = run(rt.alloc(), words.as_slice(), &mut shelf, &mut out);
     if status == Status::Usage {
         let _ = eprintln!(rt;
-            "usage: mofront --class NAME [--emit flat|reduced|report|all|json|states|alias] FILE... | --make N"
+            "usage: mofront --class NAME [--emit flat|reduced|report|all|json|states|alias | --verify REPORT] FILE... | --make N"
         );
     }
     ExitCode::from(status.number())

@@ -2,7 +2,7 @@
 use Rattle.std.proofs.Common.{sym, subst, Ok, IfSome}
 use Rattle.mo_front.specs.Files.{Reads}
 use Rattle.mo_front.specs.Limits.{all_files_limit}
-use Rattle.mo_front.proofs.Answering.{told-texts, told-line, alias-never-singular, answers, never-singular}
+use Rattle.mo_front.proofs.Answering.{told-texts, told-line, alias-never-singular, answers, never-differs, never-singular}
 use Rattle.mo_front.proofs.program.read_answer.Goals as goal
 
 pub answer-requires-clause-few : goal.answer-requires-clause-few
@@ -22,6 +22,9 @@ returns-in-Ok-answer-clause-flat g c = never-singular _ _ _ _ _ _ c.in-Ok-answer
 
 pub returns-in-Ok-answer-clause-alias : goal.returns-in-Ok-answer-clause-alias
 returns-in-Ok-answer-clause-alias g c = alias-never-singular _ _ _ _ _ _ c.in-Ok-answer.ensures.tells
+
+pub returns-in-Ok-answer-clause-differs : goal.returns-in-Ok-answer-clause-differs
+returns-in-Ok-answer-clause-differs g c = never-differs _ _ _ _ _ _ c.in-Ok-answer.ensures.tells
 
 pub returns-in-Err-Refused-clause-told : goal.returns-in-Err-Refused-clause-told
 returns-in-Err-Refused-clause-told g c =

@@ -1,38 +1,43 @@
 -- What is told of words.
 use Rattle.mo_front.specs.declared.words.Words.TheVariants.{Job}
-use Rattle.mo_front.proofs.Writing.{answered, ladder-front, ladder-told, names-fault, one-emit, one-form, words-front, words-told}
+use Rattle.mo_front.proofs.Writing.{answered, job-of, ladder-front, ladder-told, names-fault, names-report, one-emit, one-form, one-verify, words-front, words-told}
 use Rattle.mo_front.proofs.program.run.Goals as goal
 
-pub run_job-requires : goal.run_job-requires
-run_job-requires g c = record { few = rw c.as_slice.ensures (rw c.in-Ok-Job.field-0-is at c.in-Ok-Job.ensures.names).asks.few }
+pub run_files-requires : goal.run_files-requires
+run_files-requires g c = record { few = rw c.as_slice.ensures (job-of _ _ _ _ c.in-Ok-Job.verify (rw c.in-Ok-Job.field-0-is at c.in-Ok-Job.ensures.names)).few }
 
 pub returns-in-Ok-Job-clause-told : goal.returns-in-Ok-Job-clause-told
 returns-in-Ok-Job-clause-told g c = λ is_answer.
-    words-told (g.S.Shelf.told c.args.shelf.now) _ _ _ _ (Job c.in-Ok-Job.class c.in-Ok-Job.emit c.in-Ok-Job.files) (rw c.in-Ok-Job.field-0-is at c.in-Ok-Job.ensures.names) (rw c.as_slice.ensures at (c.run_job.ensures.told is_answer))
+    words-told (g.S.Shelf.told c.args.shelf.now) _ _ _ _ (Job c.in-Ok-Job.class c.in-Ok-Job.emit c.in-Ok-Job.files c.in-Ok-Job.verify) (rw c.in-Ok-Job.field-0-is at c.in-Ok-Job.ensures.names) (rw c.as_slice.ensures at (c.run_files.ensures.told is_answer))
 
 pub returns-in-Ok-Job-clause-front : goal.returns-in-Ok-Job-clause-front
 returns-in-Ok-Job-clause-front g c = λ fault.
-    words-front (g.S.Shelf.told c.args.shelf.now) _ _ _ (Job c.in-Ok-Job.class c.in-Ok-Job.emit c.in-Ok-Job.files) (rw c.in-Ok-Job.field-0-is at c.in-Ok-Job.ensures.names) (rw c.as_slice.ensures at (c.run_job.ensures.front fault))
+    words-front (g.S.Shelf.told c.args.shelf.now) _ _ _ (Job c.in-Ok-Job.class c.in-Ok-Job.emit c.in-Ok-Job.files c.in-Ok-Job.verify) (rw c.in-Ok-Job.field-0-is at c.in-Ok-Job.ensures.names) (rw c.as_slice.ensures at (c.run_files.ensures.front fault))
 
 pub returns-in-Ok-Job-clause-flat : goal.returns-in-Ok-Job-clause-flat
-returns-in-Ok-Job-clause-flat g c = λ class files names. c.run_job.ensures.flat (one-emit _ _ _ _ _ _ _ (rw c.in-Ok-Job.field-0-is at c.in-Ok-Job.ensures.names) names)
+returns-in-Ok-Job-clause-flat g c = λ class files names.
+    c.run_files.ensures.flat (one-verify _ _ _ _ _ _ _ _ _ (rw c.in-Ok-Job.field-0-is at c.in-Ok-Job.ensures.names) names) (one-emit _ _ _ _ _ _ _ _ _ (rw c.in-Ok-Job.field-0-is at c.in-Ok-Job.ensures.names) names)
 
 pub returns-in-Ok-Job-clause-alias : goal.returns-in-Ok-Job-clause-alias
-returns-in-Ok-Job-clause-alias g c = λ class files names. c.run_job.ensures.alias (one-emit _ _ _ _ _ _ _ (rw c.in-Ok-Job.field-0-is at c.in-Ok-Job.ensures.names) names)
+returns-in-Ok-Job-clause-alias g c = λ class files names.
+    c.run_files.ensures.alias (one-verify _ _ _ _ _ _ _ _ _ (rw c.in-Ok-Job.field-0-is at c.in-Ok-Job.ensures.names) names) (one-emit _ _ _ _ _ _ _ _ _ (rw c.in-Ok-Job.field-0-is at c.in-Ok-Job.ensures.names) names)
+
+pub returns-in-Ok-Job-clause-differs : goal.returns-in-Ok-Job-clause-differs
+returns-in-Ok-Job-clause-differs g c = λ e. names-report _ _ _ _ _ (rw c.in-Ok-Job.field-0-is at c.in-Ok-Job.ensures.names) (λ none. c.run_files.ensures.differs none e)
 
 pub returns-in-Ok-Job-clause-ladder : goal.returns-in-Ok-Job-clause-ladder
-returns-in-Ok-Job-clause-ladder g c = λ n names. one-form _ _ _ _ n (rw c.in-Ok-Job.field-0-is at c.in-Ok-Job.ensures.names) names
+returns-in-Ok-Job-clause-ladder g c = λ n names. one-form _ _ _ _ _ n (rw c.in-Ok-Job.field-0-is at c.in-Ok-Job.ensures.names) names
 
 pub returns-in-Ok-Job-clause-only_usage : goal.returns-in-Ok-Job-clause-only_usage
 returns-in-Ok-Job-clause-only_usage g c = λ none. absurd (none _ (rw c.in-Ok-Job.field-0-is at c.in-Ok-Job.ensures.names))
 
 pub returns-in-Ok-Job-clause-read_name : goal.returns-in-Ok-Job-clause-read_name
 returns-in-Ok-Job-clause-read_name g c = λ fault.
-    names-fault _ _ _ _ _ (rw c.in-Ok-Job.field-0-is at c.in-Ok-Job.ensures.names) (rw c.as_slice.ensures at (c.run_job.ensures.read_name fault))
+    names-fault _ _ _ _ _ _ (rw c.in-Ok-Job.field-0-is at c.in-Ok-Job.ensures.names) (rw c.as_slice.ensures at (c.run_files.ensures.read_name fault))
 
 pub returns-in-Ok-Job-clause-complete : goal.returns-in-Ok-Job-clause-complete
 returns-in-Ok-Job-clause-complete g c = λ asked names read write.
-    answered c.run_job.result c.run_job.ensures.usage (λ e. read (c.run_job.ensures.read e)) (λ e. write (c.run_job.ensures.write e))
+    answered c.run_files.result c.run_files.ensures.usage (λ e. read (c.run_files.ensures.read e)) (λ e. write (c.run_files.ensures.write e))
 
 pub run_ladder-requires : goal.run_ladder-requires
 run_ladder-requires g c = record { some = (rw c.in-Ok-Make.field-0-is at c.in-Ok-Make.ensures.names).asks.names_rungs.low; few = (rw c.in-Ok-Make.field-0-is at c.in-Ok-Make.ensures.names).asks.names_rungs.high }
@@ -46,10 +51,10 @@ returns-in-Ok-Make-clause-front g c = λ fault.
     ladder-front (g.S.Shelf.told c.args.shelf.now) _ _ _ c.in-Ok-Make.n (rw c.in-Ok-Make.field-0-is at c.in-Ok-Make.ensures.names) (c.run_ladder.ensures.front fault)
 
 pub returns-in-Ok-Make-clause-flat : goal.returns-in-Ok-Make-clause-flat
-returns-in-Ok-Make-clause-flat g c = λ class files names. one-form _ class _ files c.in-Ok-Make.n names (rw c.in-Ok-Make.field-0-is at c.in-Ok-Make.ensures.names)
+returns-in-Ok-Make-clause-flat g c = λ class files names. one-form _ class _ files _ c.in-Ok-Make.n names (rw c.in-Ok-Make.field-0-is at c.in-Ok-Make.ensures.names)
 
 pub returns-in-Ok-Make-clause-alias : goal.returns-in-Ok-Make-clause-alias
-returns-in-Ok-Make-clause-alias g c = λ class files names. one-form _ class _ files c.in-Ok-Make.n names (rw c.in-Ok-Make.field-0-is at c.in-Ok-Make.ensures.names)
+returns-in-Ok-Make-clause-alias g c = λ class files names. one-form _ class _ files _ c.in-Ok-Make.n names (rw c.in-Ok-Make.field-0-is at c.in-Ok-Make.ensures.names)
 
 pub returns-in-Ok-Make-clause-ladder : goal.returns-in-Ok-Make-clause-ladder
 returns-in-Ok-Make-clause-ladder g c = λ n names. (c.run_ladder.ensures.singular, c.run_ladder.ensures.read)
@@ -60,3 +65,6 @@ returns-in-Ok-Make-clause-only_usage g c = λ none. absurd (none _ (rw c.in-Ok-M
 pub returns-in-Ok-Make-clause-complete : goal.returns-in-Ok-Make-clause-complete
 returns-in-Ok-Make-clause-complete g c = λ asked names read write.
     answered c.run_ladder.result c.run_ladder.ensures.usage (λ e. absurd (c.run_ladder.ensures.read e)) (λ e. write (c.run_ladder.ensures.write e))
+
+pub returns-in-Ok-Make-clause-differs : goal.returns-in-Ok-Make-clause-differs
+returns-in-Ok-Make-clause-differs g c = λ e. absurd (c.run_ladder.ensures.differs e)

@@ -1,5 +1,5 @@
 -- What was written of a ladder.
-use Rattle.mo_front.proofs.Laddering.{ladder-status}
+use Rattle.mo_front.proofs.Laddering.{ladder-never-differs, ladder-status}
 use Rattle.mo_front.proofs.Writing.{ladder-writes, ladder-writes-front}
 use Rattle.mo_front.proofs.program.run_ladder.Goals as goal
 
@@ -13,3 +13,6 @@ returns-clause-front g c = λ fault.
 
 pub returns-in-Ok-put_all-clause-singular : goal.returns-in-Ok-put_all-clause-singular
 returns-in-Ok-put_all-clause-singular g c = (ladder-status _ _ _ c.in-Ok.ensures.tells).1
+
+pub returns-in-Ok-put_all-clause-differs : goal.returns-in-Ok-put_all-clause-differs
+returns-in-Ok-put_all-clause-differs g c = ladder-never-differs _ _ _ c.in-Ok.ensures.tells

@@ -15,14 +15,19 @@ returns-then-is_some-clause-usage c = λ same. only-ladder (found_of c.args.matc
 
 pub returns-then-is_some-3-clause-usage : goal.returns-then-is_some-3-clause-usage
 returns-then-is_some-3-clause-usage c = λ same. only-ladder (found_of c.args.matches.now) c.args.word.now c.requires.given (λ n asks.
-    files-given (found_of c.args.matches.now) c.get_raw.result c.get_raw.ensures (sym c.is_some-2.ensures ∙ c.if-is_some-3.true) asks.no_files)
+    word-given (found_of c.args.matches.now) (codes "verify") c.get_str-2.result c.get_str-2.ensures (sym c.is_some-2.ensures ∙ c.if-is_some-3.true) asks.no_report)
+
+pub returns-then-is_some-4-clause-usage : goal.returns-then-is_some-4-clause-usage
+returns-then-is_some-4-clause-usage c = λ same. only-ladder (found_of c.args.matches.now) c.args.word.now c.requires.given (λ n asks.
+    files-given (found_of c.args.matches.now) c.get_raw.result c.get_raw.ensures (sym c.is_some-3.ensures ∙ c.if-is_some-4.true) asks.no_files)
 
 pub returns-in-Some-clause-asks : goal.returns-in-Some-clause-asks
 returns-in-Some-clause-asks c =
     asks-ladder (found_of c.args.matches.now) c.args.word.now c.in-Some.n c.requires.given c.in-Some.ensures.some
     (word-missing (found_of c.args.matches.now) (codes "class") c.get_str.result c.get_str.ensures (sym c.is_some.ensures ∙ c.if-is_some.false))
     (word-missing (found_of c.args.matches.now) (codes "emit") c.get_str-else-is_some.result c.get_str-else-is_some.ensures (sym c.is_some-else-is_some.ensures ∙ c.if-is_some-2.false))
-    (files-missing (found_of c.args.matches.now) c.get_raw.result c.get_raw.ensures (sym c.is_some-2.ensures ∙ c.if-is_some-3.false))
+    (word-missing (found_of c.args.matches.now) (codes "verify") c.get_str-2.result c.get_str-2.ensures (sym c.is_some-2.ensures ∙ c.if-is_some-3.false))
+    (files-missing (found_of c.args.matches.now) c.get_raw.result c.get_raw.ensures (sym c.is_some-3.ensures ∙ c.if-is_some-4.false))
 
 pub returns-in-None-clause-usage : goal.returns-in-None-clause-usage
 returns-in-None-clause-usage c = λ same. only-ladder (found_of c.args.matches.now) c.args.word.now c.requires.given

@@ -1,0 +1,151 @@
+-- From what is read of files and of a printed report behind them to what is told of it.
+use Rattle.std.proofs.Common.{◌≡◌, ◌+◌, ◌<◌, ◌≤◌, ℕ, List, [], ◌∷◌, ◌++◌, length, Option, Some, None, IfSome, IsSomeAnd, Result, Ok, Err, IfOk, OnOk, refl, ap, sym, ◌∙◌, subst}
+use Rattle.std.proofs.lemmas.List.Elements.{Contains-append_left, Contains-push}
+use Rattle.mo_syntax.specs.declared.place.Broken.{Broken}
+use Rattle.mo_syntax.specs.declared.place.NoMemory.{NoMemory as memory_refused}
+use Rattle.mo_syntax.specs.declared.place.Stop.{Stop}
+use Rattle.mo_syntax.specs.declared.place.Stop.TheVariants.{Broken as broken_by, NoMemory as no_memory}
+use Rattle.mo_lexer.specs.Lexing.{IfBroken}
+use Rattle.mo_flat.specs.declared.model.FlatModel.{FlatModel}
+use Rattle.mo_incidence.specs.Model.{refusal_of}
+use Rattle.mo_ports.specs.Contents.{Contents}
+use Rattle.mo_report.specs.declared.report.Report.{Report}
+use Rattle.mo_report.specs.Right.{IsRightReport}
+use Rattle.mo_verify.specs.declared.verdict.Verdict.{Verdict}
+use Rattle.mo_verify.specs.declared.verdict.Verdict.TheVariants as said
+use Rattle.mo_front.specs.declared.load.Unread.{Unread}
+use Rattle.mo_front.specs.declared.load.Unread.TheVariants.{Fault, NoMemory, Refused}
+use Rattle.mo_front.specs.declared.status.Status.{Status}
+use Rattle.mo_front.specs.declared.status.Status.TheVariants.{Refused as refused_status}
+use Rattle.mo_front.specs.declared.words.Emit.TheVariants as emit
+use Rattle.mo_front.specs.Emitted.{PhasesBreak, Refuses, asked_by, is_singular, no_text as no_part, status_of}
+use Rattle.mo_front.specs.Files.{Reads, breaks_at}
+use Rattle.mo_front.specs.Limits.{all_files_limit, printed_limit}
+use Rattle.mo_front.specs.Loading.{IsLine, JudgesTexts, RefusesReading, RefusesReadingAll, RefusesReport, TellsBytes, judges, of_files, of_report, refuses}
+use Rattle.mo_front.specs.Run.{IsAnswer, IsNamedFault}
+use Rattle.mo_front.specs.Told.{Breaks, TextsGive, flat, line_of_broken, no_model, no_text}
+use Rattle.mo_front.specs.Verified.{FilesGiveWith, IsJudged, ReadsReport, SaysVerdict, TellsVerdict, judged, read, refused, too_long, unread, verdict_status}
+use Rattle.mo_front.proofs.Answering.{answer-of, read-bytes}
+use Rattle.mo_front.proofs.Laddering.{report-no-flat}
+
+-- ---- of a model
+
+module _ (m : FlatModel) (r : Report) (accepted : refusal_of m ≡ None) (right : IsRightReport m r) where
+  pub judged-by : (bytes : List ℕ) (t : Result (Status × List ℕ) Stop) → OnOk t (PhasesBreak m r (asked_by emit.Report).phases None) → IfOk t (λ a. SaysVerdict m bytes (status_of r) a.0 a.1)
+      → IfOk t (λ a. IsJudged m bytes a.0 a.1)
+  judged-by bytes (Ok a) passed says = record { r = r; accepted = accepted; right = right; passed = passed; says = says }
+  judged-by bytes (Err s) passed says = tt
+
+  pub verdict-refused : (t : Result (Status × List ℕ) Stop) → IfBroken t (λ b. PhasesBreak m r (asked_by emit.Report).phases (Some b)) → IfBroken t (λ b. Refuses emit.Report m b)
+  verdict-refused (Ok a) was = tt
+  verdict-refused (Err (broken_by b)) was = no_part r report-no-flat accepted right was
+  verdict-refused (Err no_memory) was = tt
+
+-- ---- of texts
+
+pub judges-given : (path texts : List (List ℕ)) (bytes : List ℕ) (m : FlatModel) (r : Result (Status × List ℕ) Stop) → TextsGive path texts (flat m) → IfOk r (λ a. IsJudged m bytes a.0 a.1)
+    → IfOk r (λ a. JudgesTexts path texts bytes a.0 a.1)
+judges-given path texts bytes m (Ok a) gives is = record { m = m; given = gives; judged = is }
+judges-given path texts bytes m (Err s) gives is = tt
+
+pub bytes-judged : (path names texts : List (List ℕ)) (bytes : List ℕ) (status : Status) (line items : List ℕ) → items ≡ line → JudgesTexts path texts bytes status line → TellsBytes path names texts bytes status items
+bytes-judged path names texts bytes status line items is told = judges (subst (λ (x : List ℕ). JudgesTexts path texts bytes status x) (sym is) told)
+
+pub bytes-refused : (path names texts : List (List ℕ)) (bytes : List ℕ) (b : Broken) (line : List ℕ) → line ≡ line_of_broken names texts b → Breaks (TextsGive path texts) emit.Report b
+    → TellsBytes path names texts bytes refused_status line
+bytes-refused path names texts bytes b line is breaks = refuses b breaks refl is
+
+-- ---- of files
+
+module _ (contents : Contents) (path names texts : List (List ℕ)) (report bytes : List ℕ) (reads : Reads contents 1 all_files_limit names (Ok texts)) (held : ReadsReport contents report bytes) where
+  breaks-with : (b : Broken) → Breaks (TextsGive path texts) emit.Report b → Breaks (FilesGiveWith path names report contents) emit.Report b
+  breaks-with b (no_model gives) = no_model (read texts bytes reads held gives)
+  breaks-with b (no_text m gives not) = no_text m (read texts bytes reads held gives) not
+
+  tells-with : (status : Status) (line : List ℕ) → TellsBytes path names texts bytes status line → TellsVerdict path names report contents status line
+  tells-with status line (judges j) = judged (record { m = j.m; bytes = bytes; given = read texts bytes reads held j.given; read = held; judged = j.judged })
+  tells-with status line (refuses b breaks is line_is) =
+      refused b (breaks-with b breaks) is (line_is ∙ ap (λ (x : List (List ℕ)). line_of_broken names x b) (sym (read-bytes contents 1 all_files_limit names texts reads)))
+
+pub told-bytes : (tells_of : Option Contents) (path names texts : List (List ℕ)) (report bytes : List ℕ) (r : Result (Status × List ℕ) memory_refused) (a : Status × List ℕ) → r ≡ Ok a
+    → IfSome tells_of (λ contents. Reads contents 1 all_files_limit names (Ok texts)) → IfSome tells_of (λ contents. ReadsReport contents report bytes)
+    → IfOk r (λ x. TellsBytes path names texts bytes x.0 x.1) → IfSome tells_of (λ contents. TellsVerdict path names report contents a.0 a.1)
+told-bytes None path names texts report bytes r a is reads held gives = tt
+told-bytes (Some contents) path names texts report bytes r a is reads held gives = tells-with contents path names texts report bytes reads held a.0 a.1 (rw is at gives)
+
+pub told-unread : (tells_of : Option Contents) (path names : List (List ℕ)) (report line : List ℕ) → IfSome tells_of (λ contents. RefusesReadingAll contents names report (Refused line))
+    → IfSome tells_of (λ contents. TellsVerdict path names report contents refused_status line)
+told-unread None path names report line was = tt
+told-unread (Some contents) path names report line (of_files first) = refused first.b (no_model (unread first.b first.reads refl)) refl first.is
+told-unread (Some contents) path names report line (of_report b long is) = too_long b long refl is
+
+-- ---- the status
+
+ends-answer : (v : Verdict) (ends : Status) → IsAnswer ends → IsAnswer (verdict_status v ends)
+ends-answer said.Yes ends is = is
+ends-answer said.Admissible ends is = is
+ends-answer (said.Unreadable n) ends is = tt
+ends-answer (said.Line n printed found) ends is = tt
+ends-answer (said.Shape n printed wanted) ends is = tt
+ends-answer (said.Order i unknown printed found) ends is = tt
+ends-answer (said.Low i unknown order c d) ends is = tt
+ends-answer (said.Loose i unknown order c d) ends is = tt
+ends-answer (said.Twice i k unknown) ends is = tt
+ends-answer (said.NotLeast i printed smaller) ends is = tt
+
+pub verdict-answers : (path names texts : List (List ℕ)) (bytes : List ℕ) (status : Status) (line : List ℕ) → TellsBytes path names texts bytes status line → IsAnswer status
+verdict-answers path names texts bytes status line (judges j) =
+    subst (λ (s : Status). IsAnswer s) (sym j.judged.says.is_status) (ends-answer j.judged.says.verdict (status_of j.judged.r) (answer-of (is_singular j.judged.r)))
+verdict-answers path names texts bytes status line (refuses b breaks is line_is) = rw is tt
+
+-- ---- reading
+
+refused-long : (contents : Contents) (k : ℕ) (name : List ℕ) (u : Unread) (o : Option (List ℕ)) → contents name ≡ o → IsSomeAnd o (λ bytes. printed_limit < length bytes)
+    → IsLine (breaks_at 1 k 0) name [] u → RefusesReport contents k name u
+refused-long contents k name (Refused line) (Some bytes) held long line_is = record { bytes = bytes; holds = held; past = long; is = line_is }
+refused-long contents k name (Refused line) None held long line_is = absurd long
+refused-long contents k name Fault o held long line_is = tt
+refused-long contents k name NoMemory o held long line_is = tt
+
+pub report-long : (told : Option Contents) (k : ℕ) (name : List ℕ) (u : Unread) → IfSome told (λ contents. IsSomeAnd (contents name) (λ bytes. printed_limit < length bytes))
+    → IsLine (breaks_at 1 k 0) name [] u → IfSome told (λ contents. RefusesReport contents k name u)
+report-long None k name u long line_is = tt
+report-long (Some contents) k name u long line_is = refused-long contents k name u (contents name) refl long line_is
+
+pub report-read : (told : Option Contents) (name bytes : List ℕ) → IfSome told (λ contents. contents name ≡ Some bytes) → length bytes ≤ printed_limit → IfSome told (λ contents. ReadsReport contents name bytes)
+report-read None name bytes holds within = tt
+report-read (Some contents) name bytes holds within = record { holds = holds; within = within }
+
+files-refused-first : (contents : Contents) (names : List (List ℕ)) (report : List ℕ) (u : Unread) → RefusesReading contents names u → RefusesReadingAll contents names report u
+files-refused-first contents names report (Refused line) was = of_files was
+files-refused-first contents names report Fault was = tt
+files-refused-first contents names report NoMemory was = tt
+
+pub files-refused : (told : Option Contents) (names : List (List ℕ)) (report : List ℕ) (u : Unread) → IfSome told (λ contents. RefusesReading contents names u) → IfSome told (λ contents. RefusesReadingAll contents names report u)
+files-refused None names report u was = tt
+files-refused (Some contents) names report u was = files-refused-first contents names report u was
+
+report-refused-last : (contents : Contents) (names texts : List (List ℕ)) (report : List ℕ) (k : ℕ) (u : Unread) → k ≡ length names + 1 → Reads contents 1 all_files_limit names (Ok texts)
+    → RefusesReport contents k report u → RefusesReadingAll contents names report u
+report-refused-last contents names texts report k (Refused line) number reads was =
+    of_report (breaks_at 1 k 0) (record { texts = texts; bytes = was.bytes; reads = reads; holds = was.holds; past = was.past; is = ap (λ (n : ℕ). breaks_at 1 n 0) number }) was.is
+report-refused-last contents names texts report k Fault number reads was = tt
+report-refused-last contents names texts report k NoMemory number reads was = tt
+
+pub report-refused : (told held : Option Contents) (names texts : List (List ℕ)) (report : List ℕ) (k : ℕ) (u : Unread) → held ≡ told → k ≡ length names + 1
+    → IfSome told (λ contents. Reads contents 1 all_files_limit names (Ok texts)) → IfSome held (λ contents. RefusesReport contents k report u)
+    → IfSome told (λ contents. RefusesReadingAll contents names report u)
+report-refused None held names texts report k u same number reads was = tt
+report-refused (Some contents) held names texts report k u same number reads was =
+    report-refused-last contents names texts report k u number reads (subst (λ (o : Option Contents). IfSome o (λ c. RefusesReport c k report u)) same was)
+
+pub same-report : (told held : Option Contents) (report bytes : List ℕ) → held ≡ told → IfSome held (λ contents. ReadsReport contents report bytes) → IfSome told (λ contents. ReadsReport contents report bytes)
+same-report told held report bytes same was = subst (λ (o : Option Contents). IfSome o (λ c. ReadsReport c report bytes)) same was
+
+-- ---- names
+
+pub fault-of-files : (failed : Option (List ℕ)) (names : List (List ℕ)) (report : List ℕ) → IsNamedFault failed names → IsNamedFault failed (names ++ report ∷ [])
+fault-of-files failed names report fault = record { name = fault.name; is = fault.is; among = Contains-append_left names (report ∷ []) fault.name fault.among }
+
+pub fault-of-report : (failed : Option (List ℕ)) (names : List (List ℕ)) (report : List ℕ) → failed ≡ Some report → IsNamedFault failed (names ++ report ∷ [])
+fault-of-report failed names report is = record { name = report; is = is; among = Contains-push names report }
