@@ -1,6 +1,6 @@
 -- The place of each rule that is told of named files is a byte of one of them, from 0 to its length; only that no class has the asked path is told
 -- on the command line.
-use Rattle.std.specs.Prelude.{◌≡◌, ◌⊎◌, ℕ, List}
+use Rattle.std.specs.Prelude.{◌≡◌, ◌⊎◌, ℕ, ◌+◌, List, length}
 use Rattle.mo_syntax.specs.declared.place.Broken.{Broken}
 use Rattle.mo_flat.specs.declared.model.FlatModel.{FlatModel}
 use Rattle.mo_ports.specs.Contents.{Contents}
@@ -11,7 +11,8 @@ use Rattle.mo_front.specs.Ladder.{ladder_path, ladder_texts}
 use Rattle.mo_front.specs.Told.{FilesGive, TextsGive, Breaks, flat, broken, bytes_of_all}
 use Rattle.mo_places.specs.TreeWritten.{nowhere}
 use Rattle.mo_places.specs.MadeStands.{ModelStands}
-use Rattle.mo_bytes.specs.Bytes.{IsByteOfSome}
+use Rattle.mo_front.specs.Verified.{FilesGiveWith, IsTooLong}
+use Rattle.mo_bytes.specs.Bytes.{IsByteOf, IsByteOfSome}
 use Rattle.mo_bytes.specs.Held.{HoldsAll}
 
 -- at a byte of a named file; or it is rule 11, on the command line
@@ -37,3 +38,13 @@ ToldRefusalsStand =
 abbrev pub LadderRefusalsStand : Type 0
 LadderRefusalsStand =
     (n : ℕ) (b : Broken) → Breaks (TextsGive ladder_path (ladder_texts n)) emit.Report b → IsByteOfSome 1 (ladder_texts n) b.place ⊎ (b ≡ breach 11 nowhere)
+
+-- and the first rule that is broken on the way to the verdict on a printed report behind them, where the report is within its limit
+abbrev pub VerdictRefusalsStand : Type 0
+VerdictRefusalsStand =
+    (path names : List (List ℕ)) (report : List ℕ) (contents : Contents) (b : Broken) → Breaks (FilesGiveWith path names report contents) emit.Report b → RefusalStands contents names b
+
+-- The rule that a report past its limit breaks is broken at a byte of it, in the file of the number behind those of the files.
+abbrev pub LongReportsStand : Type 0
+LongReportsStand =
+    (names : List (List ℕ)) (report : List ℕ) (contents : Contents) (b : Broken) (long : IsTooLong names report contents b) → IsByteOf (length names + 1) long.bytes b.place

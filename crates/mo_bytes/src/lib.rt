@@ -8,8 +8,12 @@
 //! - [`models_stand`]: the flat model.
 //! - [`told_refusals_stand`]: the first rule that is broken on the way to what is written.
 //! - [`ladder_refusals_stand`]: the first rule that is broken on the way to the line of a ladder, in the text of the ladder.
+//! - [`verdict_refusals_stand`]: the first rule that is broken on the way to the verdict on a printed report.
 #![tactic(auto)]
 
 mod stated;
 
-pub use stated::{ladder_refusals_stand, models_stand, refusals_stand, told_refusals_stand};
+pub use stated::{
+    ladder_refusals_stand, models_stand, refusals_stand, told_refusals_stand,
+    verdict_refusals_stand,
+};
