@@ -18,6 +18,8 @@ mod running;
 #[cfg(test)]
 mod structure_rows;
 #[cfg(test)]
+mod verdict_rows;
+#[cfg(test)]
 mod word_rows;
 #[cfg(test)]
 mod worked_rows;

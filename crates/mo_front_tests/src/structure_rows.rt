@@ -88,7 +88,7 @@ const SINGULAR: [Asked; 6] = [
     ),
 ];
 
-const PENDULUM_REPORT: &str =
+pub(crate) const PENDULUM_REPORT: &str =
     "report M\nequations 5 unknowns 5\nequation 1 c 1 pairs x order 1\nequation 2 c 1 pairs vy order 0\nequation 3 c 0 pairs vx order 1\nequation 4 c 0 pairs lam order 0\nequation 5 c 2 pairs y order 0\nunknown x d 2\nunknown y d 2\nunknown vx d 1\nunknown vy d 1\nunknown lam d 0\nreason 1 from 5\nreason 2 from 4\nreason 5 from 2\nblock 1 2 3 4 5\ndummy der(der(x)) stage 1 equation 1\ndummy der(vy) stage 1 equation 2\ndummy der(der(y)) stage 1 equation 5\ndummy der(y) stage 2 equation 5\nstate x\nstate vx\nindex 3\nfreedom 2\n";
 
 const PENDULUM_REDUCED: &str =
