@@ -78,7 +78,29 @@ def chain(n):
     return model([f"Real x{k}" for k in range(n)], ["x0 = time"] + [f"x{k} = der(x{k - 1})" for k in range(1, n)])
 
 
-# Each series has what makes its inputs, what is asked for, and three sizes; a ladder is made by the program itself.
+def rungs(n):
+    """The ladder of n rungs that the program makes, as a text: its report is written, and then verified."""
+    parts = (
+        "connector Pin Real v; flow Real i; end Pin;\n"
+        "partial model TwoPin Pin p; Pin n; Real v; Real i; equation v = p.v - n.v; 0 = p.i + n.i; i = p.i; end TwoPin;\n"
+        "model Resistor extends TwoPin; parameter Real R = 1.0; equation v = R*i; end Resistor;\n"
+        "model Capacitor extends TwoPin; parameter Real C = 1.0; equation i = C*der(v); end Capacitor;\n"
+        "model Source extends TwoPin; parameter Real V = 1.0; equation v = V; end Source;\n"
+        "model Ground Pin p; equation p.v = 0; end Ground;\n"
+    )
+    declared = ["Source s", "Ground g"] + [f"{part} {part[0].lower()}{k}" for k in range(1, n + 1) for part in ("Resistor", "Capacitor")]
+    joined = ["connect(s.n, g.p)", "connect(s.p, r1.p)"]
+    joined += [c for k in range(1, n + 1) for c in (f"connect(r{k}.n, c{k}.p)", f"connect(c{k}.n, g.p)")]
+    joined += [f"connect(r{k}.n, r{k + 1}.p)" for k in range(1, n)]
+    return parts + model(declared, joined)
+
+
+def line(n):
+    """A printed report that is one line of n bytes, on a model without equations."""
+    return "x" * n
+
+
+# Each series has what makes its inputs, what is asked for, and three sizes; a ladder is made by the program itself, and so is the report that is verified.
 SERIES = {
     "ladder": (None, None, (100, 300, 1000)),
     "library": (library, "flat", (1000, 3000, 10000)),
@@ -90,11 +112,35 @@ SERIES = {
     "dense": (dense, "report", (25000, 75000, 225000)),
     "lifts": (lifts, "all", (1300, 3900, 11700)),
     "chain": (chain, "report", (30, 90, 270)),
+    "verified": (rungs, "verify", (100, 300, 1000)),
+    "line": (line, "verify", (7000000, 21000000, 63000000)),
 }
 
+# what a series ends with, where that is not 0
+WANTED = {"line": 7}
 
-def run(program, words):
-    """The status, seconds of processor time and megabytes of the best of some runs."""
+
+def words_of(program, name, size):
+    """The words of a row, and how many bytes its file has: the model, or the report where one is verified."""
+    make, asked, _ = SERIES[name]
+    if make is None:
+        return ["--make", str(size)], ""
+    path, report = OUT / f"{name}-{size}.mo", OUT / f"{name}-{size}.txt"
+    if name == "line":
+        path.write_text(model([], []))
+        report.write_text(make(size))
+    else:
+        path.write_text(make(size))
+    if asked != "verify":
+        return ["--class", "M", "--emit", asked, path.name], path.stat().st_size
+    if name != "line":
+        with open(report, "wb") as written:
+            subprocess.run([program, "--class", "M", "--emit", "report", path.name], cwd=OUT, stdout=written, check=True)
+    return ["--class", "M", "--verify", report.name, path.name], report.stat().st_size
+
+
+def run(program, words, wanted):
+    """The status, seconds of processor time and megabytes of the best of some runs, as long as they end with the status that is wanted."""
     best = None
     for _ in range(RUNS):
         started = time.monotonic()
@@ -106,9 +152,9 @@ def run(program, words):
                 time.sleep(0.001)
         process.returncode = status = os.waitstatus_to_exitcode(ended[1])
         row = (status, ended[2].ru_utime + ended[2].ru_stime, ended[2].ru_maxrss / 1024)
-        if status != 0:
+        if status != wanted:
             return row
-        best = row if best is None else (0, min(best[1], row[1]), max(best[2], row[2]))
+        best = row if best is None else (status, min(best[1], row[1]), max(best[2], row[2]))
     return best
 
 
@@ -122,20 +168,16 @@ def main():
     print("| series | size | bytes | seconds | MB | times |\n|---|---|---|---|---|---|")
     failed = 0
     for name in chosen:
-        make, emit, sizes = SERIES[name]
+        wanted = WANTED.get(name, 0)
         before = None
-        for size in sizes:
-            words, length = ["--make", str(size)], ""
-            if make is not None:
-                path = OUT / f"{name}-{size}.mo"
-                path.write_text(make(size))
-                words, length = ["--class", "M", "--emit", emit, path.name], path.stat().st_size
-            status, seconds, megabytes = run(program, words)
-            growth = f"{seconds / before:.1f}" if before and status == 0 else ""
-            said = f"{seconds:.3f}" if status == 0 else f"status {status}"
+        for size in SERIES[name][2]:
+            words, length = words_of(program, name, size)
+            status, seconds, megabytes = run(program, words, wanted)
+            growth = f"{seconds / before:.1f}" if before and status == wanted else ""
+            said = f"{seconds:.3f}" if status == wanted else f"status {status}"
             print(f"| {name} | {size} | {length} | {said} | {megabytes:.0f} | {growth} |", flush=True)
-            failed += status != 0
-            before = seconds if status == 0 else None
+            failed += status != wanted
+            before = seconds if status == wanted else None
     sys.exit(1 if failed else 0)
 
 
