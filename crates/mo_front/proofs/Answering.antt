@@ -1,5 +1,6 @@
 -- From what each step finds to what is told.
 use Rattle.std.proofs.Common.{◌≡◌, ◌+◌, ◌-◌, ℕ, Bool, true, false, if◌then◌else◌, List, [], ◌∷◌, length, Option, Some, None, unwrap_or, IfSome, Result, Ok, Err, IfOk, refl, ap, sym, ◌∙◌, subst}
+use Rattle.std.specs.Prelude.{nat_lt}
 use Rattle.mo_syntax.specs.declared.class.FileTree.{FileTree}
 use Rattle.mo_syntax.specs.declared.place.Broken.{Broken}
 use Rattle.mo_syntax.specs.declared.place.NoMemory.{NoMemory}
@@ -16,7 +17,7 @@ use Rattle.mo_front.specs.declared.status.Status.{Status}
 use Rattle.mo_front.specs.declared.status.Status.TheVariants.{Differs, Done, Singular, Refused as refused_status}
 use Rattle.mo_front.specs.declared.words.Emit.{Emit}
 use Rattle.mo_front.specs.declared.words.Emit.TheVariants as asks
-use Rattle.mo_front.specs.Emitted.{Refuses, Writes, analysed, without_aliases, flat_text, is_singular}
+use Rattle.mo_front.specs.Emitted.{Refuses, Writes, analysed, without_aliases, reduced_model, flat_text, is_singular}
 use Rattle.mo_front.specs.Files.{Reads, none, text, Tokens, Trees}
 use Rattle.mo_front.specs.Limits.{all_files_limit}
 use Rattle.mo_front.specs.Loading.{RefusesReading, TellsTexts}
@@ -140,7 +141,8 @@ answer-of false = tt
 writes-answer : (emit : Emit) (m : FlatModel) (status : Status) (bytes : List ℕ) → Writes emit m status bytes → IsAnswer status
 writes-answer emit m status bytes (flat_text asked is bytes_are) = rw is tt
 writes-answer emit m status bytes (without_aliases r asked accepted right passed is bytes_are) = rw is tt
-writes-answer emit m status bytes (analysed r asked also accepted right passed is bytes_are) = rw is (answer-of (is_singular r))
+writes-answer emit m status bytes (reduced_model o asked accepted least passed is bytes_are) = rw is (answer-of (nat_lt (length o.c.items) (length o.d.items)))
+writes-answer emit m status bytes (analysed r asked also alone accepted right passed is bytes_are) = rw is (answer-of (is_singular r))
 
 pub answers : (path : List (List ℕ)) (emit : Emit) (names texts : List (List ℕ)) (status : Status) (line : List ℕ) → TellsTexts path emit names texts status line → IsAnswer status
 answers path emit names texts status line (written w) = writes-answer emit w.m status line w.writes
@@ -154,7 +156,8 @@ no-difference false e = cc
 writes-never-differs : (emit : Emit) (m : FlatModel) (status : Status) (bytes : List ℕ) → Writes emit m status bytes → status ≡ Differs → ⊥
 writes-never-differs emit m status bytes (flat_text asked is bytes_are) e = cc
 writes-never-differs emit m status bytes (without_aliases r asked accepted right passed is bytes_are) e = cc
-writes-never-differs emit m status bytes (analysed r asked also accepted right passed is bytes_are) e = no-difference (is_singular r) (sym is ∙ e)
+writes-never-differs emit m status bytes (reduced_model o asked accepted least passed is bytes_are) e = no-difference (nat_lt (length o.c.items) (length o.d.items)) (sym is ∙ e)
+writes-never-differs emit m status bytes (analysed r asked also alone accepted right passed is bytes_are) e = no-difference (is_singular r) (sym is ∙ e)
 
 pub never-differs : (path : List (List ℕ)) (emit : Emit) (names texts : List (List ℕ)) (status : Status) (line : List ℕ) → TellsTexts path emit names texts status line → status ≡ Differs → ⊥
 never-differs path emit names texts status line (written w) e = writes-never-differs emit w.m status line w.writes e
@@ -164,12 +167,14 @@ never-differs path emit names texts status line (refused b breaks is line_is) e 
 flat-done : (emit : Emit) (m : FlatModel) (status : Status) (bytes : List ℕ) → Writes emit m status bytes → emit ≡ asks.Flat → status ≡ Singular → ⊥
 flat-done emit m status bytes (flat_text asked is bytes_are) only_flat singular = cc
 flat-done emit m status bytes (without_aliases r asked accepted right passed is bytes_are) only_flat singular = cc
-flat-done emit m status bytes (analysed r asked also accepted right passed is bytes_are) only_flat singular = asked only_flat
+flat-done emit m status bytes (reduced_model o asked accepted least passed is bytes_are) only_flat singular = cc
+flat-done emit m status bytes (analysed r asked also alone accepted right passed is bytes_are) only_flat singular = asked only_flat
 
 alias-done : (emit : Emit) (m : FlatModel) (status : Status) (bytes : List ℕ) → Writes emit m status bytes → emit ≡ asks.Alias → status ≡ Singular → ⊥
 alias-done emit m status bytes (flat_text asked is bytes_are) only_alias singular = cc
 alias-done emit m status bytes (without_aliases r asked accepted right passed is bytes_are) only_alias singular = cc
-alias-done emit m status bytes (analysed r asked also accepted right passed is bytes_are) only_alias singular = also only_alias
+alias-done emit m status bytes (reduced_model o asked accepted least passed is bytes_are) only_alias singular = cc
+alias-done emit m status bytes (analysed r asked also alone accepted right passed is bytes_are) only_alias singular = also only_alias
 
 pub never-singular : (path : List (List ℕ)) (emit : Emit) (names texts : List (List ℕ)) (status : Status) (line : List ℕ) → TellsTexts path emit names texts status line → emit ≡ asks.Flat → status ≡ Singular → ⊥
 never-singular path emit names texts status line (written w) only_flat singular = flat-done emit w.m status line w.writes only_flat singular

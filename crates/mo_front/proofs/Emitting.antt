@@ -1,5 +1,5 @@
 -- From a right report to what is written of a model.
-use Rattle.std.proofs.Common.{◌≡◌, ℕ, Bool, true, false, List, [], ◌∷◌, length, map, Option, Some, None, Result, Err, if◌then◌else◌, refl, ap, sym, ◌∙◌, subst, arith}
+use Rattle.std.proofs.Common.{◌≡◌, ℕ, Bool, true, false, List, [], ◌∷◌, length, map, Option, Some, None, Result, Ok, Err, IfOk, IfSome, if◌then◌else◌, refl, ap, sym, ◌∙◌, subst, arith}
 use Rattle.std.specs.Prelude.{MatchOption, nat_le}
 use Rattle.mo_syntax.specs.declared.place.Broken.{Broken}
 use Rattle.mo_syntax.specs.declared.place.Place.{Place}
@@ -13,23 +13,24 @@ use Rattle.mo_symdiff.specs.Reduced.{IsWithin, first_given, reduced_lines, reduc
 use Rattle.mo_symdiff.specs.Refusal.{of_given, IfBroken as IfReducedBroken}
 use Rattle.mo_incidence.specs.declared.findings.Offsets.{Offsets}
 use Rattle.mo_incidence.specs.Model.{incidence_of, refusal_of, row_of}
-use Rattle.mo_incidence.specs.Signature.{Signature, equations}
+use Rattle.mo_incidence.specs.Signature.{equations}
 use Rattle.mo_report.specs.declared.report.Report.{Report}
-use Rattle.mo_report.specs.Right.{HasOffsets, IsRightFor, IsRightReport, singular, square, underdetermined}
+use Rattle.mo_report.specs.Right.{AreLeastOffsets, IsRightReport}
 use Rattle.mo_report.specs.Size.{report_limit}
 use Rattle.mo_front.specs.declared.status.Status.{Status}
 use Rattle.mo_front.specs.declared.words.Emit.{Emit}
 use Rattle.mo_front.specs.declared.words.Emit.TheVariants as asks
-use Rattle.mo_front.specs.Emitted.{PhaseBreaks, PhasesBreak, ReducedBreaks, Refuses, all_passed, asked_by, derivatives_size, given, large, later, no_text, nothing, reduced_part, report_refusal, this_one}
+use Rattle.mo_front.specs.Emitted.{IsReported, IsTextOf, PhaseBreaks, PhasesBreak, ReducedBreaks, Refuses, Writes, all_passed, analysed, asked_by, derivatives_size, given, large, later, no_text, nothing, reduced_part, report_refusal, status_of, this_one}
+use Rattle.mo_front.specs.Least.{IsLeastOf, least_offsets, left_out}
 use Rattle.mo_front.specs.declared.table.Phase.{Phase}
 
 -- ---- the size of the report
 
-pub report-accepted : (m : FlatModel) (r : Report) (b : Bool) → b ≡ nat_le (derivatives_size r r.offsets) report_limit → b ≡ true → report_refusal m r ≡ None
-report-accepted m r b is holds = ap (λ (t : Bool). if t then None else Some (too_large m)) (sym is ∙ holds)
+pub report-accepted : (m : FlatModel) (o : Option Offsets) (b : Bool) → b ≡ nat_le (derivatives_size m o) report_limit → b ≡ true → report_refusal m o ≡ None
+report-accepted m o b is holds = ap (λ (t : Bool). if t then None else Some (too_large m)) (sym is ∙ holds)
 
-pub report-refused : (m : FlatModel) (r : Report) (b : Bool) → b ≡ nat_le (derivatives_size r r.offsets) report_limit → b ≡ false → report_refusal m r ≡ Some (too_large m)
-report-refused m r b is fails = ap (λ (t : Bool). if t then None else Some (too_large m)) (sym is ∙ fails)
+pub report-refused : (m : FlatModel) (o : Option Offsets) (b : Bool) → b ≡ nat_le (derivatives_size m o) report_limit → b ≡ false → report_refusal m o ≡ Some (too_large m)
+report-refused m o b is fails = ap (λ (t : Bool). if t then None else Some (too_large m)) (sym is ∙ fails)
 
 -- ---- the reduced model
 
@@ -41,24 +42,19 @@ equations-of : (m : FlatModel) → equations (incidence_of m) ≡ length m.equat
 unfolding equations incidence_of
 equations-of m = length-map (row_of m.vars) m.equations
 
-counts-of : (g : Signature) (r : Report) (offsets others : Offsets) → HasOffsets g others r → r.offsets ≡ Some offsets → length offsets.c.items ≡ equations g
-counts-of g r offsets others has is =
-    let both : Some others ≡ Some offsets = sym has.given ∙ is in
-    let same : others ≡ offsets = cc in
-    ap (λ (o : Offsets). length o.c.items) (sym same) ∙ has.least.equations_all
-
-counts-for : (g : Signature) (r : Report) (offsets : Offsets) → IsRightFor g r → r.offsets ≡ Some offsets → length offsets.c.items ≡ equations g
-counts-for g r offsets (singular deficit k some deficit_is is_deficit none orders loose no_parts) is = let never : None ≡ Some offsets = sym none ∙ is in absurd cc
-counts-for g r offsets (underdetermined others few has loose no_parts) is = counts-of g r offsets others has is
-counts-for g r offsets (square others all has loose parts) is = counts-of g r offsets others has is
-
 -- there is a count for each equation
-pub counts : (m : FlatModel) (r : Report) (offsets : Offsets) (c : List ℕ) → IsRightReport m r → r.offsets ≡ Some offsets → c ≡ offsets.c.items → length c ≡ length m.equations
-counts m r offsets c right is same = ap length same ∙ counts-for (incidence_of m) r offsets right.found is ∙ equations-of m
+pub counts : (m : FlatModel) (offsets : Offsets) (c : List ℕ) → AreLeastOffsets (incidence_of m) offsets → c ≡ offsets.c.items → length c ≡ length m.equations
+counts m offsets c they same = ap length same ∙ they.equations_all ∙ equations-of m
 
-pub reduced-passed : (m : FlatModel) (o : Option Offsets) (offsets : Offsets) (c : List ℕ) (lines : List (List FlatEquation)) → o ≡ Some offsets → c ≡ offsets.c.items
-    → first_given m.vars m.equations c ≡ None → lines ≡ reduced_lines m.vars m.equations c → IsWithin m lines → ReducedBreaks m o None
-reduced-passed m o offsets c lines is same none they within = subst (λ (x : Option Offsets). ReducedBreaks m x None) (sym is) (nothing apart small)
+pub least-is : (m : FlatModel) (o : Option Offsets) (offsets : Offsets) → IsLeastOf m o → o ≡ Some offsets → AreLeastOffsets (incidence_of m) offsets
+least-is m None offsets (left_out deficient mentioned k some deficit) is = let never : None ≡ Some offsets = is in absurd cc
+least-is m (Some others) offsets (least_offsets they) is =
+    let same : others ≡ offsets = cc in
+    subst (AreLeastOffsets (incidence_of m)) same they
+
+pub reduced-passed : (m : FlatModel) (offsets : Offsets) (c : List ℕ) (lines : List (List FlatEquation)) → c ≡ offsets.c.items
+    → first_given m.vars m.equations c ≡ None → lines ≡ reduced_lines m.vars m.equations c → IsWithin m lines → ReducedBreaks m (Some offsets) None
+reduced-passed m offsets c lines same none they within = nothing apart small
   where
     apart : first_given m.vars m.equations offsets.c.items ≡ None
     apart = ap (first_given m.vars m.equations) (sym same) ∙ none
@@ -66,10 +62,9 @@ reduced-passed m o offsets c lines is same none they within = subst (λ (x : Opt
     small : IsWithin m (reduced_lines m.vars m.equations offsets.c.items)
     small = subst (λ (ls : List (List FlatEquation)). IsWithin m ls) (they ∙ ap (reduced_lines m.vars m.equations) same) within
 
-pub reduced-is : (m : FlatModel) (o : Option Offsets) (offsets : Offsets) (c : List ℕ) (lines : List (List FlatEquation)) (text : List ℕ) → o ≡ Some offsets → c ≡ offsets.c.items
-    → lines ≡ reduced_lines m.vars m.equations c → text ≡ reduced_text m lines → Some text ≡ reduced_part m o
-reduced-is m o offsets c lines text is same they text_is =
-    ap (λ (t : List ℕ). Some t) (text_is ∙ ap (reduced_text m) (they ∙ ap (reduced_lines m.vars m.equations) same)) ∙ sym (ap (reduced_part m) is)
+pub reduced-is : (m : FlatModel) (offsets : Offsets) (c : List ℕ) (lines : List (List FlatEquation)) (text : List ℕ) → c ≡ offsets.c.items
+    → lines ≡ reduced_lines m.vars m.equations c → text ≡ reduced_text m lines → text ≡ reduced_text m (reduced_lines m.vars m.equations offsets.c.items)
+reduced-is m offsets c lines text same they text_is = text_is ∙ ap (reduced_text m) (they ∙ ap (reduced_lines m.vars m.equations) same)
 
 reduced-breaks : (m : FlatModel) (offsets : Offsets) (b : Broken) (found : Option Place) → first_given m.vars m.equations offsets.c.items ≡ found
     → MatchOption found ((IsWithin m (reduced_lines m.vars m.equations offsets.c.items) → ⊥) × (b ≡ too_large m)) (λ place. b ≡ of_given place) → ReducedBreaks m (Some offsets) (Some b)
@@ -80,14 +75,28 @@ reduced-breaks m offsets b (Some place) at was = subst (λ (x : Broken). Reduced
 abbrev RefusedBy : FlatModel → List ℕ → Broken → Type 0
 RefusedBy m c b = MatchOption (first_given m.vars m.equations c) ((IsWithin m (reduced_lines m.vars m.equations c) → ⊥) × (b ≡ too_large m)) (λ place. b ≡ of_given place)
 
-pub reduced-refused : (m : FlatModel) (o : Option Offsets) (offsets : Offsets) (c : List ℕ) (r : Result Reduced Stop) (s : Stop) → o ≡ Some offsets → c ≡ offsets.c.items → r ≡ Err s
+pub reduced-refused : (m : FlatModel) (offsets : Offsets) (c : List ℕ) (r : Result Reduced Stop) (s : Stop) → c ≡ offsets.c.items → r ≡ Err s
     → IfReducedBroken r (λ b. MatchOption (first_given m.vars m.equations c) ((IsWithin m (reduced_lines m.vars m.equations c) → ⊥) × (b ≡ too_large m)) (λ place. b ≡ of_given place))
-    → IfBroken {T = Option (List ℕ)} (Err s) (λ b. ReducedBreaks m o (Some b))
-reduced-refused m o offsets c r s is same stops was = subst (λ (x : Option Offsets). IfBroken {T = Option (List ℕ)} (Err s) (λ b. ReducedBreaks m x (Some b))) (sym is) (at s (rw (stops, same) at was))
+    → IfBroken {T = List ℕ} (Err s) (λ b. ReducedBreaks m (Some offsets) (Some b))
+reduced-refused m offsets c r s same stops was = at s (rw (stops, same) at was)
   where
-    at : (s : Stop) → IfReducedBroken {T = Reduced} (Err s) (λ b. RefusedBy m offsets.c.items b) → IfBroken {T = Option (List ℕ)} (Err s) (λ b. ReducedBreaks m (Some offsets) (Some b))
+    at : (s : Stop) → IfReducedBroken {T = Reduced} (Err s) (λ b. RefusedBy m offsets.c.items b) → IfBroken {T = List ℕ} (Err s) (λ b. ReducedBreaks m (Some offsets) (Some b))
     at (broken_by b) was = reduced-breaks m offsets b (first_given m.vars m.equations offsets.c.items) refl was
     at no_memory was = tt
+
+module _ (m : FlatModel) (o : Option Offsets) (offsets : Offsets) (is : o ≡ Some offsets) where
+  pub part-passed : ReducedBreaks m (Some offsets) None → ReducedBreaks m o None
+  part-passed passes = subst (λ (x : Option Offsets). ReducedBreaks m x None) (sym is) passes
+
+  pub part-is : (text : List ℕ) → text ≡ reduced_text m (reduced_lines m.vars m.equations offsets.c.items) → Some text ≡ reduced_part m o
+  part-is text text_is = ap (λ (t : List ℕ). Some t) text_is ∙ sym (ap (reduced_part m) is)
+
+  pub part-refused : (t : Result (List ℕ) Stop) (s : Stop) → t ≡ Err s → IfBroken t (λ b. ReducedBreaks m (Some offsets) (Some b)) → IfBroken {T = Option (List ℕ)} (Err s) (λ b. ReducedBreaks m o (Some b))
+  part-refused t s stops was = at s (rw stops at was)
+    where
+      at : (s : Stop) → IfBroken {T = List ℕ} (Err s) (λ b. ReducedBreaks m (Some offsets) (Some b)) → IfBroken {T = Option (List ℕ)} (Err s) (λ b. ReducedBreaks m o (Some b))
+      at (broken_by b) was = subst (λ (x : Option Offsets). ReducedBreaks m x (Some b)) (sym is) was
+      at no_memory was = tt
 
 -- ---- a stop
 
@@ -97,10 +106,10 @@ stopped-at s b P is p = rw is p
 -- ---- phases, one after another
 
 -- whatever the phases from `left` on break is what all of them break
-abbrev pub Passed : FlatModel → Report → List Phase → List Phase → Type 0
+abbrev pub Passed : FlatModel → Option Offsets → List Phase → List Phase → Type 0
 Passed m r phases left = (o : Option Broken) → PhasesBreak m r left o → PhasesBreak m r phases o
 
-module _ (m : FlatModel) (r : Report) (phases left rest : List Phase) (asked : Phase) (so_far : Passed m r phases left) (front : left ≡ asked ∷ rest) where
+module _ (m : FlatModel) (r : Option Offsets) (phases left rest : List Phase) (asked : Phase) (so_far : Passed m r phases left) (front : left ≡ asked ∷ rest) where
   pub one-passed : PhaseBreaks m r asked None → Passed m r phases rest
   one-passed here o breaks = so_far o (subst (λ (l : List Phase). PhasesBreak m r l o) (sym front) (later here breaks))
 
@@ -113,16 +122,51 @@ module _ (m : FlatModel) (r : Report) (phases left rest : List Phase) (asked : P
       at (broken_by b) was = so_far (Some b) (subst (λ (l : List Phase). PhasesBreak m r l (Some b)) (sym front) (this_one was))
       at no_memory was = tt
 
-pub all-asked : (m : FlatModel) (r : Report) (phases left : List Phase) → Passed m r phases left → left ≡ [] → PhasesBreak m r phases None
+pub all-asked : (m : FlatModel) (r : Option Offsets) (phases left : List Phase) → Passed m r phases left → left ≡ [] → PhasesBreak m r phases None
 all-asked m r phases left so_far is = so_far None (subst (λ (l : List Phase). PhasesBreak m r l None) (sym is) all_passed)
 
 pub alias-no-flat : asks.Alias ≡ asks.Flat → ⊥
 alias-no-flat e = cc
 
-pub by-phases : (emit : Emit) (m : FlatModel) (r : Report) (t : Result (List ℕ) Stop) (s : Stop) → t ≡ Err s → (emit ≡ asks.Flat → ⊥) → refusal_of m ≡ None → IsRightReport m r
-    → IfBroken t (λ b. PhasesBreak m r (asked_by emit).phases (Some b)) → IfBroken {T = Status × List ℕ} (Err s) (λ b. Refuses emit m b)
-by-phases emit m r t s is asked accepted right was = at s (rw is at was)
+pub reduced-no-flat : asks.Reduced ≡ asks.Flat → ⊥
+reduced-no-flat e = cc
+
+pub reduced-no-alias : asks.Reduced ≡ asks.Alias → ⊥
+reduced-no-alias e = cc
+
+pub by-phases : {A : Type 0} (emit : Emit) (m : FlatModel) (o : Option Offsets) (t : Result A Stop) (s : Stop) → t ≡ Err s → (emit ≡ asks.Flat → ⊥) → refusal_of m ≡ None → IsLeastOf m o
+    → IfBroken t (λ b. PhasesBreak m o (asked_by emit).phases (Some b)) → IfBroken {T = Status × List ℕ} (Err s) (λ b. Refuses emit m b)
+by-phases {A} emit m o t s is asked accepted they was = at s (rw is at was)
   where
-    at : (s : Stop) → IfBroken {T = List ℕ} (Err s) (λ b. PhasesBreak m r (asked_by emit).phases (Some b)) → IfBroken {T = Status × List ℕ} (Err s) (λ b. Refuses emit m b)
-    at (broken_by b) was = no_text r asked accepted right was
+    at : (s : Stop) → IfBroken {T = A} (Err s) (λ b. PhasesBreak m o (asked_by emit).phases (Some b)) → IfBroken {T = Status × List ℕ} (Err s) (λ b. Refuses emit m b)
+    at (broken_by b) was = no_text o asked accepted they was
     at no_memory was = tt
+
+-- ---- the reduced model alone
+
+pub reduction-passed : (m : FlatModel) (o : Option Offsets) → ReducedBreaks m o None → PhasesBreak m o (asked_by asks.Reduced).phases None
+reduction-passed m o passes = later passes all_passed
+
+pub reduction-refused : (m : FlatModel) (offsets : Offsets) (o : Option Offsets) (t : Result (List ℕ) Stop) (s : Stop) → t ≡ Err s → o ≡ Some offsets → refusal_of m ≡ None → IsLeastOf m o
+    → IfBroken t (λ b. ReducedBreaks m (Some offsets) (Some b)) → IfBroken {T = Status × List ℕ} (Err s) (λ b. Refuses asks.Reduced m b)
+reduction-refused m offsets o t s stops is accepted they was = at s (rw stops at was)
+  where
+    at : (s : Stop) → IfBroken {T = List ℕ} (Err s) (λ b. ReducedBreaks m (Some offsets) (Some b)) → IfBroken {T = Status × List ℕ} (Err s) (λ b. Refuses asks.Reduced m b)
+    at (broken_by b) was = no_text (Some offsets) reduced-no-flat accepted (subst (IsLeastOf m) is they) (this_one was)
+    at no_memory was = tt
+
+-- ---- by the report
+
+pub written-by : (emit : Emit) (m : FlatModel) (o : Option Offsets) (status : Status) (text : List ℕ) → (emit ≡ asks.Flat → ⊥) → (emit ≡ asks.Alias → ⊥) → (emit ≡ asks.Reduced → o ≡ None)
+    → refusal_of m ≡ None → PhasesBreak m o (asked_by emit).phases None → IsReported emit m o status text → Writes emit m status text
+written-by emit m o status text no_flat no_alias reduced accepted passes reported =
+    analysed reported.r no_flat no_alias (λ (e : emit ≡ asks.Reduced). reported.given ∙ reduced e) accepted reported.right
+    (subst (λ (x : Option Offsets). PhasesBreak m x (asked_by emit).phases None) (sym reported.given) passes) reported.status_is reported.text_is
+
+pub made-by : (m : FlatModel) (o p : Option Offsets) (made : Option (Option (List ℕ))) → p ≡ o → IfSome made (λ part. part ≡ reduced_part m o) → IfSome made (λ part. part ≡ reduced_part m p)
+made-by m o p made same is = subst (λ (x : Option Offsets). IfSome made (λ part. part ≡ reduced_part m x)) (sym same) is
+
+pub reported-by : {E : Type 0} (emit : Emit) (m : FlatModel) (o : Option Offsets) (r : Report) (t : Result (Status × List ℕ) E) → IsRightReport m r → r.offsets ≡ o
+    → IfOk t (λ w. (w.0 ≡ status_of r) × IsTextOf emit m r w.1) → IfOk t (λ w. IsReported emit m o w.0 w.1)
+reported-by emit m o r (Ok w) right same is = record { r = r; right = right; given = same; status_is = is.0; text_is = is.1 }
+reported-by emit m o r (Err s) right same is = tt

@@ -1,11 +1,12 @@
 -- From what the text of a ladder gives to what is told of it.
-use Rattle.std.proofs.Common.{◌≡◌, ◌++◌, ℕ, List, Some, None, Result, Ok, Err, IfOk, OnOk, refl, ap, ◌∙◌, subst}
+use Rattle.std.proofs.Common.{◌≡◌, ◌++◌, ℕ, List, Option, Some, None, Result, Ok, Err, IfOk, refl, ap, sym, ◌∙◌, subst}
 use Rattle.std.proofs.lemmas.List.{append_assoc}
 use Rattle.mo_syntax.specs.declared.place.Broken.{Broken}
 use Rattle.mo_syntax.specs.declared.place.Stop.{Stop}
 use Rattle.mo_syntax.specs.declared.place.Stop.TheVariants.{Broken as broken_by, NoMemory as no_memory}
 use Rattle.mo_lexer.specs.Lexing.{IfBroken}
 use Rattle.mo_flat.specs.declared.model.FlatModel.{FlatModel}
+use Rattle.mo_incidence.specs.declared.findings.Offsets.{Offsets}
 use Rattle.mo_incidence.specs.Model.{refusal_of}
 use Rattle.mo_report.specs.declared.report.Report.{Report}
 use Rattle.mo_report.specs.Right.{IsRightReport}
@@ -15,6 +16,7 @@ use Rattle.mo_front.specs.declared.words.Emit.TheVariants as emit
 use Rattle.mo_front.specs.Emitted.{PhasesBreak, Refuses, asked_by, no_text as no_part}
 use Rattle.mo_front.specs.Ladder.{IsSummary, SumsUpGiven, TellsLadder, ladder_names, ladder_path, ladder_texts, refused, summary_line, summed}
 use Rattle.mo_front.specs.Run.{IsAnswer}
+use Rattle.mo_front.specs.Least.{IsLeastOf}
 use Rattle.mo_front.specs.Told.{Breaks, TextsGive, broken, flat, line_of_broken, no_model, no_text}
 
 pub report-no-flat : emit.Report ≡ emit.Flat → ⊥
@@ -25,17 +27,25 @@ pub behind-three : (s p q r a b c : List ℕ) → p ≡ s ++ a → q ≡ p ++ b 
 behind-three s p q r a b c first second third =
     third ∙ ap (λ (x : List ℕ). x ++ c) (second ∙ ap (λ (x : List ℕ). x ++ b) first ∙ append_assoc s a b) ∙ append_assoc s (a ++ b) c
 
--- ---- by a right report
+-- ---- by the least offsets
 
-module _ (n : ℕ) (m : FlatModel) (r : Report) (accepted : refusal_of m ≡ None) (right : IsRightReport m r) where
-  pub summed-up : (t : Result (List ℕ) Stop) → OnOk t (PhasesBreak m r (asked_by emit.Report).phases None) → IfOk t (λ text. text ≡ summary_line n m r) → IfOk t (IsSummary n m)
-  summed-up (Ok text) passed is = record { r = r; accepted = accepted; right = right; passed = passed; is = is }
-  summed-up (Err s) passed is = tt
+pub report-refused : {A : Type 0} (m : FlatModel) (o : Option Offsets) (t : Result A Stop) (s : Stop) → t ≡ Err s → refusal_of m ≡ None → IsLeastOf m o
+    → IfBroken t (λ b. PhasesBreak m o (asked_by emit.Report).phases (Some b)) → IfBroken {T = List ℕ} (Err s) (λ b. Refuses emit.Report m b)
+report-refused {A} m o t s is accepted they was = at s (rw is at was)
+  where
+    at : (s : Stop) → IfBroken {T = A} (Err s) (λ b. PhasesBreak m o (asked_by emit.Report).phases (Some b)) → IfBroken {T = List ℕ} (Err s) (λ b. Refuses emit.Report m b)
+    at (broken_by b) was = no_part o report-no-flat accepted they was
+    at no_memory was = tt
 
-  pub report-refused : (t : Result (List ℕ) Stop) → IfBroken t (λ b. PhasesBreak m r (asked_by emit.Report).phases (Some b)) → IfBroken t (λ b. Refuses emit.Report m b)
-  report-refused (Ok text) was = tt
-  report-refused (Err (broken_by b)) was = no_part r report-no-flat accepted right was
-  report-refused (Err no_memory) was = tt
+pub summed-up : (n : ℕ) (m : FlatModel) (o : Option Offsets) (r : Report) (text : List ℕ) → refusal_of m ≡ None → IsRightReport m r → r.offsets ≡ o
+    → PhasesBreak m o (asked_by emit.Report).phases None → text ≡ summary_line n m r → IsSummary n m text
+summed-up n m o r text accepted right given passed is = record {
+  r = r;
+  accepted = accepted;
+  right = right;
+  passed = subst (λ (x : Option Offsets). PhasesBreak m x (asked_by emit.Report).phases None) (sym given) passed;
+  is = is;
+}
 
 -- ---- of what the text gives
 

@@ -12,6 +12,7 @@ mod SoundTrees
 mod Verifying
 mod OneVerdict
 pub mod Once
+mod OneLeast
 mod OneTold
 mod OneAsked
 mod Structuring

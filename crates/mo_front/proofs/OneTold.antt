@@ -32,8 +32,11 @@ use Rattle.mo_front.specs.declared.table.Phase.TheVariants as phase
 use Rattle.mo_front.specs.declared.status.Status.TheVariants.{Done, Singular}
 use Rattle.mo_front.specs.declared.words.Emit.{Emit}
 use Rattle.mo_front.specs.declared.words.Emit.TheVariants as emit
-use Rattle.mo_front.specs.Emitted.{PhaseBreaks, PhasesBreak, all_passed, this_one, later, ReducedBreaks, no_offsets, given, large, nothing, Writes, flat_text, without_aliases, analysed, Refuses, no_incidence, no_text as no_part, asked_by, derivatives_size, report_refusal, reduced_part, part_text, status_of, is_singular, IsSelected, IsTextOfAliases, no_selection, selection, Selects}
+use Rattle.mo_front.specs.Emitted.{PhaseBreaks, PhasesBreak, all_passed, this_one, later, least_status, ReducedBreaks, no_offsets, given, large, nothing, Writes, flat_text, without_aliases, reduced_model, analysed, Refuses, no_incidence, no_text as no_part, asked_by, derivatives_size, report_refusal, reduced_part, reduced_status, part_text, status_of, is_singular, IsSelected, IsTextOfAliases, no_selection, selection, Selects}
+use Rattle.mo_report.specs.Right.{IsRightReport}
 use Rattle.mo_front.specs.States.{IsSelectionOf, selected_lines}
+use Rattle.mo_front.specs.Least.{IsLeastOf}
+use Rattle.mo_front.proofs.OneLeast.{one-least, right-least}
 use Rattle.mo_front.specs.Ladder.{IsSummary, SumsUpGiven, TellsLadder, ladder_names, ladder_path, ladder_texts, summary_line, summed, refused as refused_ladder}
 use Rattle.mo_front.specs.Told.{Outcome, flat, broken, WritesGiven, Breaks, no_model, no_text, TellsOf, TextsGive, line_of_broken, written, refused}
 
@@ -70,27 +73,44 @@ module _ (m : FlatModel) where
   one-reduction (Some o) None x y e a b = absurd (offsets-none o e)
   one-reduction (Some o) (Some p) x y e a b = one-reduced o p x y (offsets-are o p e).0 a b
 
-  module _ (r s : Report) (say : SaySame r s) where
-    same-size : (o p : Option Offsets) → offset_lists o ≡ offset_lists p → derivatives_size r o ≡ derivatives_size s p
-    same-size None None e = refl
-    same-size None (Some p) e = absurd (none-offsets p e)
-    same-size (Some o) None e = absurd (offsets-none o e)
-    same-size (Some o) (Some p) e = rw (say.unknowns, say.equations, (offsets-are o p e).1) refl
+  same-size : (o p : Option Offsets) → offset_lists o ≡ offset_lists p → derivatives_size m o ≡ derivatives_size m p
+  same-size None None e = refl
+  same-size None (Some p) e = absurd (none-offsets p e)
+  same-size (Some o) None e = absurd (offsets-none o e)
+  same-size (Some o) (Some p) e = rw ((offsets-are o p e).0, (offsets-are o p e).1) refl
 
-    same-refusal : report_refusal m r ≡ report_refusal m s
-    same-refusal = ap (λ (n : ℕ). if nat_le n report_limit then None else Some (too_large m)) (same-size r.offsets s.offsets say.offsets)
+  same-refusal : (o p : Option Offsets) → offset_lists o ≡ offset_lists p → report_refusal m o ≡ report_refusal m p
+  same-refusal o p e = ap (λ (n : ℕ). if nat_le n report_limit then None else Some (too_large m)) (same-size o p e)
 
-    one-phase : (asked : Phase) (x y : Option Broken) → PhaseBreaks m r asked x → PhaseBreaks m s asked y → x ≡ y
-    one-phase phase.Size x y a b = sym a ∙ (same-refusal ∙ b)
-    one-phase phase.Reduction x y a b = one-reduction r.offsets s.offsets x y say.offsets a b
+  module _ (o p : Option Offsets) (same : offset_lists o ≡ offset_lists p) where
+    one-phase : (asked : Phase) (x y : Option Broken) → PhaseBreaks m o asked x → PhaseBreaks m p asked y → x ≡ y
+    one-phase phase.Size x y a b = sym a ∙ (same-refusal o p same ∙ b)
+    one-phase phase.Reduction x y a b = one-reduction o p x y same a b
 
-    pub one-break : (phases : List Phase) (x y : Option Broken) → PhasesBreak m r phases x → PhasesBreak m s phases y → x ≡ y
+    pub one-break : (phases : List Phase) (x y : Option Broken) → PhasesBreak m o phases x → PhasesBreak m p phases y → x ≡ y
     one-break [] x y all_passed all_passed = refl
     one-break (asked ∷ phases) x y (this_one {b = b} a) (this_one {b = c} a') = one-phase asked (Some b) (Some c) a a'
     one-break (asked ∷ phases) x y (this_one {b = b} a) (later a' rest') = absurd (some-none b (one-phase asked (Some b) None a a'))
     one-break (asked ∷ phases) x y (later a rest) (this_one {b = c} a') = absurd (some-none c (sym (one-phase asked None (Some c) a a')))
     one-break (asked ∷ phases) x y (later a rest) (later a' rest') = one-break phases x y rest rest'
 
+  -- the least offsets leave no choice of what is broken
+  pub one-rule-by : (o p : Option Offsets) (phases : List Phase) (x y : Option Broken) → IsLeastOf m o → IsLeastOf m p → PhasesBreak m o phases x → PhasesBreak m p phases y → x ≡ y
+  one-rule-by o p phases x y a b = one-break o p (one-least m o p a b) phases x y
+
+  same-reduced-status : (o p : Offsets) → offset_lists (Some o) ≡ offset_lists (Some p) → reduced_status o ≡ reduced_status p
+  same-reduced-status o p e = rw ((offsets-are o p e).0, (offsets-are o p e).1) refl
+
+  pub same-least-status : (o p : Option Offsets) → offset_lists o ≡ offset_lists p → least_status o ≡ least_status p
+  same-least-status None None e = refl
+  same-least-status None (Some p) e = absurd (none-offsets p e)
+  same-least-status (Some o) None e = absurd (offsets-none o e)
+  same-least-status (Some o) (Some p) e = same-reduced-status o p e
+
+  same-reduced-text : (o p : Offsets) → offset_lists (Some o) ≡ offset_lists (Some p) → reduced_text m (reduced_lines m.vars m.equations o.c.items) ≡ reduced_text m (reduced_lines m.vars m.equations p.c.items)
+  same-reduced-text o p e = ap (λ (c : List ℕ). reduced_text m (reduced_lines m.vars m.equations c)) (offsets-are o p e).0
+
+  module _ (r s : Report) (say : SaySame r s) where
     -- ---- the text and the status
 
     same-test : (x y : Option Deficit) → deficit_lists x ≡ deficit_lists y → is_some x ≡ is_some y
@@ -129,7 +149,6 @@ module _ (m : FlatModel) where
       same-part : (p : Part) → part_text m r x p ≡ part_text m s y p
       same-part part.Flat = refl
       same-part part.Reduced = ap (λ (t : Option (List ℕ)). unwrap_or t []) (same-reduced r.offsets s.offsets say.offsets)
-      same-part part.ReducedOrReport = rw (same-reduced r.offsets s.offsets say.offsets, same-lines r s say) refl
       same-part part.Report = same-lines r s say
       same-part part.Json = same-line r s say
       same-part part.StatesOrReport = lines
@@ -138,47 +157,71 @@ module _ (m : FlatModel) where
       same-parts [] = refl
       same-parts (p ∷ parts) = rw (same-part p, same-parts parts) refl
 
-    pub same-status : status_of r ≡ status_of s
+    same-status : status_of r ≡ status_of s
     same-status = ap (λ (b : Bool). if b then Singular else Done) same-singular
 
   flat-no-alias : emit.Flat ≡ emit.Alias → ⊥
   flat-no-alias e = cc
 
+  flat-no-reduced : emit.Flat ≡ emit.Reduced → ⊥
+  flat-no-reduced e = cc
+
+  alias-no-reduced : emit.Alias ≡ emit.Reduced → ⊥
+  alias-no-reduced e = cc
+
   one-aliases : (text more : List ℕ) → IsTextOfAliases m text → IsTextOfAliases m more → text ≡ more
   one-aliases text more (a, is, text_is) (b, also, more_is) = text_is ∙ ap (aliases_text m) (one-finding m a b is also) ∙ sym more_is
+
+  -- a reduced model has offsets, and a report that stands in its place has none
+  never-reduced : (o : Offsets) (r : Report) → IsLeastOf m (Some o) → IsRightReport m r → r.offsets ≡ None → ⊥
+  never-reduced o r they right none = offsets-none o (one-least m (Some o) r.offsets they (right-least m r right) ∙ ap offset_lists none)
 
   module _ (emit : Emit) where
     one-written : (status other : Status) (text more : List ℕ) → Writes emit m status text → Writes emit m other more → (status ≡ other) × (text ≡ more)
     one-written status other text more (flat_text is done whole) (flat_text is' done' whole') = (done ∙ sym done', whole ∙ sym whole')
-    one-written status other text more (flat_text is done whole) (without_aliases r alias accepted right passes status_is text_is) = absurd (flat-no-alias (sym is ∙ alias))
-    one-written status other text more (flat_text is done whole) (analysed r not also accepted right passes status_is text_is) = absurd (not is)
-    one-written status other text more (without_aliases r alias accepted right passes status_is text_is) (flat_text is done whole) = absurd (flat-no-alias (sym is ∙ alias))
-    one-written status other text more (without_aliases r alias accepted right passes status_is text_is) (without_aliases s alias' accepted' right' passes' status_is' text_is') =
+    one-written status other text more (flat_text is done whole) (without_aliases o alias accepted they passes status_is text_is) = absurd (flat-no-alias (sym is ∙ alias))
+    one-written status other text more (flat_text is done whole) (reduced_model o reduced accepted they passes status_is text_is) = absurd (flat-no-reduced (sym is ∙ reduced))
+    one-written status other text more (flat_text is done whole) (analysed r not also none accepted right passes status_is text_is) = absurd (not is)
+    one-written status other text more (without_aliases o alias accepted they passes status_is text_is) (flat_text is done whole) = absurd (flat-no-alias (sym is ∙ alias))
+    one-written status other text more (without_aliases o alias accepted they passes status_is text_is) (without_aliases p alias' accepted' they' passes' status_is' text_is') =
         (status_is ∙ sym status_is', one-aliases text more text_is text_is')
-    one-written status other text more (without_aliases r alias accepted right passes status_is text_is) (analysed s not also accepted' right' passes' status_is' text_is') = absurd (also alias)
-    one-written status other text more (analysed r not also accepted right passes status_is text_is) (flat_text is done whole) = absurd (not is)
-    one-written status other text more (analysed r not also accepted right passes status_is text_is) (without_aliases s alias accepted' right' passes' status_is' text_is') = absurd (also alias)
-    one-written status other text more (analysed r not also accepted right passes status_is text_is) (analysed s not' also' accepted' right' passes' status_is' text_is') =
+    one-written status other text more (without_aliases o alias accepted they passes status_is text_is) (reduced_model p reduced accepted' they' passes' status_is' text_is') = absurd (alias-no-reduced (sym alias ∙ reduced))
+    one-written status other text more (without_aliases o alias accepted they passes status_is text_is) (analysed s not also none accepted' right' passes' status_is' text_is') = absurd (also alias)
+    one-written status other text more (reduced_model o reduced accepted they passes status_is text_is) (flat_text is done whole) = absurd (flat-no-reduced (sym is ∙ reduced))
+    one-written status other text more (reduced_model o reduced accepted they passes status_is text_is) (without_aliases p alias accepted' they' passes' status_is' text_is') = absurd (alias-no-reduced (sym alias ∙ reduced))
+    one-written status other text more (reduced_model o reduced accepted they passes status_is text_is) (reduced_model p reduced' accepted' they' passes' status_is' text_is') =
+        let lists = one-least m (Some o) (Some p) they they' in
+        (status_is ∙ (same-reduced-status o p lists ∙ sym status_is'), text_is ∙ (same-reduced-text o p lists ∙ sym text_is'))
+    one-written status other text more (reduced_model o reduced accepted they passes status_is text_is) (analysed s not also none accepted' right' passes' status_is' text_is') = absurd (never-reduced o s they right' (none reduced))
+    one-written status other text more (analysed r not also none accepted right passes status_is text_is) (flat_text is done whole) = absurd (not is)
+    one-written status other text more (analysed r not also none accepted right passes status_is text_is) (without_aliases s alias accepted' they' passes' status_is' text_is') = absurd (also alias)
+    one-written status other text more (analysed r not also none accepted right passes status_is text_is) (reduced_model p reduced accepted' they' passes' status_is' text_is') = absurd (never-reduced p r they' right (none reduced))
+    one-written status other text more (analysed r not also none accepted right passes status_is text_is) (analysed s not' also' none' accepted' right' passes' status_is' text_is') =
         let say = one-report m r s right right' in
         let lines = one-selects r s say emit text_is.selected text_is'.selected text_is.selects text_is'.selects in
         (status_is ∙ (same-status r s say ∙ sym status_is'), text_is.is ∙ (same-parts r s say text_is.selected text_is'.selected lines (asked_by emit).parts ∙ sym text_is'.is))
 
     one-refusal : (b c : Broken) → Refuses emit m b → Refuses emit m c → b ≡ c
     one-refusal b c (no_incidence not is) (no_incidence not' is') = some-is b c (sym is ∙ is')
-    one-refusal b c (no_incidence not is) (no_part s not' accepted right breaks) = absurd (some-none b (sym is ∙ accepted))
-    one-refusal b c (no_part r not accepted right breaks) (no_incidence not' is') = absurd (some-none c (sym is' ∙ accepted))
-    one-refusal b c (no_part r not accepted right breaks) (no_part s not' accepted' right' breaks') =
-        some-is b c (one-break r s (one-report m r s right right') (asked_by emit).phases (Some b) (Some c) breaks breaks')
+    one-refusal b c (no_incidence not is) (no_part p not' accepted they breaks) = absurd (some-none b (sym is ∙ accepted))
+    one-refusal b c (no_part o not accepted they breaks) (no_incidence not' is') = absurd (some-none c (sym is' ∙ accepted))
+    one-refusal b c (no_part o not accepted they breaks) (no_part p not' accepted' they' breaks') =
+        some-is b c (one-rule-by o p (asked_by emit).phases (Some b) (Some c) they they' breaks breaks')
+
+    -- phases that passed break nothing
+    never-broken : (o p : Option Offsets) (b : Broken) → IsLeastOf m o → IsLeastOf m p → PhasesBreak m o (asked_by emit).phases None → PhasesBreak m p (asked_by emit).phases (Some b) → ⊥
+    never-broken o p b they they' passes breaks = some-none b (sym (one-rule-by o p (asked_by emit).phases None (Some b) they they' passes breaks))
 
     never-both : (status : Status) (text : List ℕ) (b : Broken) → Writes emit m status text → Refuses emit m b → ⊥
     never-both status text b (flat_text is done whole) (no_incidence not is') = not is
-    never-both status text b (flat_text is done whole) (no_part s not accepted right breaks) = not is
-    never-both status text b (without_aliases r alias accepted right passes status_is text_is) (no_incidence not' is') = some-none b (sym is' ∙ accepted)
-    never-both status text b (without_aliases r alias accepted right passes status_is text_is) (no_part s not' accepted' right' breaks') =
-        some-none b (sym (one-break r s (one-report m r s right right') (asked_by emit).phases None (Some b) passes breaks'))
-    never-both status text b (analysed r not also accepted right passes status_is text_is) (no_incidence not' is') = some-none b (sym is' ∙ accepted)
-    never-both status text b (analysed r not also accepted right passes status_is text_is) (no_part s not' accepted' right' breaks') =
-        some-none b (sym (one-break r s (one-report m r s right right') (asked_by emit).phases None (Some b) passes breaks'))
+    never-both status text b (flat_text is done whole) (no_part p not accepted they breaks) = not is
+    never-both status text b (without_aliases o alias accepted they passes status_is text_is) (no_incidence not' is') = some-none b (sym is' ∙ accepted)
+    never-both status text b (without_aliases o alias accepted they passes status_is text_is) (no_part p not' accepted' they' breaks') = never-broken o p b they they' passes breaks'
+    never-both status text b (reduced_model o reduced accepted they passes status_is text_is) (no_incidence not' is') = some-none b (sym is' ∙ accepted)
+    never-both status text b (reduced_model o reduced accepted they passes status_is text_is) (no_part p not' accepted' they' breaks') = never-broken (Some o) p b they they' passes breaks'
+    never-both status text b (analysed r not also none accepted right passes status_is text_is) (no_incidence not' is') = some-none b (sym is' ∙ accepted)
+    never-both status text b (analysed r not also none accepted right passes status_is text_is) (no_part p not' accepted' they' breaks') =
+        never-broken r.offsets p b (right-least m r right) they' passes breaks'
 
 -- ---- what is told
 
@@ -226,8 +269,8 @@ module _ (n : ℕ) (m : FlatModel) where
 
   summed-no-refusal : (text : List ℕ) (b : Broken) → IsSummary n m text → Refuses emit.Report m b → ⊥
   summed-no-refusal text b sums (no_incidence not is) = some-none b (sym is ∙ sums.accepted)
-  summed-no-refusal text b sums (no_part s not accepted right breaks) =
-      some-none b (sym (one-break m sums.r s (one-report m sums.r s sums.right right) (asked_by emit.Report).phases None (Some b) sums.passed breaks))
+  summed-no-refusal text b sums (no_part p not accepted they breaks) =
+      some-none b (sym (one-rule-by m sums.r.offsets p (asked_by emit.Report).phases None (Some b) (right-least m sums.r sums.right) they sums.passed breaks))
 
 module _ (n : ℕ) (once : (o p : Outcome) → TextsGive ladder_path (ladder_texts n) o → TextsGive ladder_path (ladder_texts n) p → o ≡ p) where
   abbrev of_ladder : Outcome → Type 0

@@ -3,17 +3,17 @@ use Rattle.std.proofs.Common.{◌≡◌, ℕ, ◌≤◌, List, length, Some, Non
 use Rattle.mo_syntax.specs.declared.place.Broken.{Broken}
 use Rattle.mo_flat.specs.declared.model.FlatModel.{FlatModel}
 use Rattle.mo_ports.specs.Contents.{Contents}
-use Rattle.mo_report.proofs.OneReport.{one-report}
 use Rattle.mo_verify.proofs.Deciding.{one_verdict}
 use Rattle.mo_front.specs.declared.status.Status.{Status}
 use Rattle.mo_front.specs.declared.words.Emit.TheVariants as emit
-use Rattle.mo_front.specs.Emitted.{Refuses, asked_by, no_incidence, no_text as no_part, status_of}
+use Rattle.mo_front.specs.Emitted.{Refuses, asked_by, no_incidence, least_status, no_text as no_part}
 use Rattle.mo_front.specs.Limits.{all_files_limit, printed_limit}
 use Rattle.mo_front.specs.Refusal.{refusal_line}
 use Rattle.mo_front.specs.Told.{Breaks, FilesGive, Outcome, broken, bytes_of_all, flat, line_of_broken, no_model, no_text, read as read_files, unread as unread_files}
 use Rattle.mo_front.specs.Verified.{FilesGiveWith, IsJudged, IsTooLong, JudgesGiven, ReadsReport, SaysVerdict, TellsVerdict, judged, read, refused, too_long, unread, verdict_line, verdict_status}
 use Rattle.mo_front.proofs.Once.{one_of_files, one_reading}
-use Rattle.mo_front.proofs.OneTold.{one-break, one-break-of, same-status}
+use Rattle.mo_front.proofs.OneLeast.{one-least}
+use Rattle.mo_front.proofs.OneTold.{one-break-of, one-rule-by, same-least-status}
 
 some-is : {A : Type 0} (a b : A) → Some a ≡ Some b → a ≡ b
 some-is a b e = cc
@@ -31,13 +31,13 @@ says-one m bytes ends again status other text more e a b =
 
 one-judged : (m : FlatModel) (bytes : List ℕ) (status other : Status) (text more : List ℕ) → IsJudged m bytes status text → IsJudged m bytes other more → (status ≡ other) × (text ≡ more)
 one-judged m bytes status other text more a b =
-    says-one m bytes (status_of a.r) (status_of b.r) status other text more (same-status m a.r b.r (one-report m a.r b.r a.right b.right)) a.says b.says
+    says-one m bytes (least_status a.offsets) (least_status b.offsets) status other text more (same-least-status m a.offsets b.offsets (one-least m a.offsets b.offsets a.least b.least)) a.says b.says
 
 -- where a verdict is told, no phase breaks a rule
 judged-no-refusal : (m : FlatModel) (bytes : List ℕ) (status : Status) (text : List ℕ) (b : Broken) → IsJudged m bytes status text → Refuses emit.Report m b → ⊥
 judged-no-refusal m bytes status text b j (no_incidence not is) = some-none b (sym is ∙ j.accepted)
-judged-no-refusal m bytes status text b j (no_part s not accepted right breaks) =
-    some-none b (sym (one-break m j.r s (one-report m j.r s j.right right) (asked_by emit.Report).phases None (Some b) j.passed breaks))
+judged-no-refusal m bytes status text b j (no_part p not accepted least breaks) =
+    some-none b (sym (one-rule-by m j.offsets p (asked_by emit.Report).phases None (Some b) j.least least j.passed breaks))
 
 -- ---- what is read
 

@@ -1,5 +1,5 @@
 -- What an assignment of all equations and the least offsets give.
-use Rattle.std.proofs.Common.{◌≡◌, ℕ, ◌-◌, ◌<◌, ◌≤◌, List, Vec, Some, length, get_or, refl, ap, ◌∙◌, subst, arith}
+use Rattle.std.proofs.Common.{◌≡◌, ℕ, ◌-◌, ◌<◌, ◌≤◌, List, Vec, Option, Some, None, length, get_or, refl, ap, sym, ◌∙◌, subst, arith}
 use Rattle.std.specs.Global.{Global}
 use Rattle.std.proofs.lemmas.Grind.{get_or_default_zero}
 use Rattle.std.proofs.lemmas.List.{length-map}
@@ -12,6 +12,7 @@ use Rattle.mo_incidence.specs.declared.findings.Reason.{Reason}
 use Rattle.mo_incidence.specs.Signature.{Signature, equations, IsSound}
 use Rattle.mo_incidence.specs.Assignment.{Mentions, IsAssignment, CoversAll, ListsWhere, IsDeficit, IsUndetermined}
 use Rattle.mo_incidence.specs.Offsets.{IsTight, by_place, by_number}
+use Rattle.mo_incidence.specs.Reasons.{AreReasonsOf}
 use Rattle.mo_incidence.specs.Model.{row_of, incidence_of}
 use Rattle.mo_incidence.proofs.Counting.{distinct-room}
 use Rattle.mo_pantelides.proofs.Tight.{tight-entry-of}
@@ -20,7 +21,9 @@ use Rattle.mo_incidence.proofs.Owning.{tight-known}
 use Rattle.mo_report.specs.declared.report.Report.{Report}
 use Rattle.mo_report.specs.Right.{AreLeastOffsets, AreOrdersAt, HasSquareParts, HasNoSquareParts, IsRightFor, singular, underdetermined, square}
 use Rattle.mo_report.specs.Right.{IsRightReport}
-use Rattle.mo_front.specs.Structure.{order_by_offsets, IsReportOn, IsEmptyReport}
+use Rattle.mo_front.specs.declared.structure.Found.{Found}
+use Rattle.mo_front.specs.Structure.{order_by_offsets, IsEmptyReport, IsFoundOf, IsLeftOut, IsReportOn, as_many, fewer_equations, missing}
+use Rattle.mo_front.specs.Least.{IsLeastFor, least_offsets, left_out}
 
 mentions-known : (g : Signature) (i j : ℕ) → IsSound g → i < equations g → Mentions g i j → (0 < j) × (j ≤ g.unknowns)
 unfolding Mentions
@@ -95,14 +98,51 @@ none-there e r none reasons blocks dummies index freedom = record {
   freedom = rw freedom none.freedom;
 }
 
+-- ---- what is found before a report is made
+
+pub found-left-out : (g : Signature) (f : Found) (deficit : Deficit) (k : ℕ) → f.deficit ≡ Some deficit → f.offsets ≡ None
+    → IsDeficit g deficit.equations.items deficit.unknowns.items k → 0 < k → IsFoundOf g f
+found-left-out g f deficit k some none is more = missing deficit k (omega arith) some is none
+
+pub least-of-found : (g : Signature) (f : Found) → IsFoundOf g f → IsLeastFor g f.offsets
+least-of-found g f (missing deficit k some deficit_is is none) = subst (IsLeastFor g) (sym none) (left_out deficit.equations.items deficit.unknowns.items k some is)
+least-of-found g f (fewer_equations offsets few none is they loose) = subst (IsLeastFor g) (sym is) (least_offsets they)
+least-of-found g f (as_many offsets all none is they reasons) = subst (IsLeastFor g) (sym is) (least_offsets they)
+
+pub left-out-of : (g : Signature) (f : Found) → IsFoundOf g f → f.offsets ≡ None → IsLeftOut g f.deficit
+left-out-of g f (missing deficit k some deficit_is is none) e = (deficit, k, some, deficit_is, is)
+left-out-of g f (fewer_equations offsets few none is they loose) e = let never : None ≡ Some offsets = sym e ∙ is in absurd cc
+left-out-of g f (as_many offsets all none is they reasons) e = let never : None ≡ Some offsets = sym e ∙ is in absurd cc
+
+same-offsets : (a b : Offsets) → Some a ≡ Some b → a ≡ b
+same-offsets a b e = cc
+
+pub fewer-of : (g : Signature) (f : Found) (offsets : Offsets) → IsFoundOf g f → f.offsets ≡ Some offsets → equations g < g.unknowns
+    → AreLeastOffsets g offsets × ListsWhere (IsUndetermined g) g.unknowns f.loose.items
+fewer-of g f offsets (missing deficit k some deficit_is is none) e l = let never : None ≡ Some offsets = sym none ∙ e in absurd cc
+fewer-of g f offsets (fewer_equations others few none is they loose) e l = (subst (AreLeastOffsets g) (same-offsets others offsets (sym is ∙ e)) they, loose)
+fewer-of g f offsets (as_many others all none is they reasons) e l = absurd (omega (arith, all, l))
+
+abbrev pub AreReasonsBy : Signature → Offsets → List Reason → Type 0
+AreReasonsBy g offsets reasons = AreReasonsOf g (by_place offsets.c.items) (by_number offsets.d.items) (by_place offsets.pairs.items) reasons
+
+pub equal-of : (g : Signature) (f : Found) (offsets : Offsets) → IsFoundOf g f → f.offsets ≡ Some offsets → g.unknowns ≤ equations g
+    → (equations g ≡ g.unknowns) × AreLeastOffsets g offsets × AreReasonsBy g offsets f.reasons.items
+equal-of g f offsets (missing deficit k some deficit_is is none) e l = let never : None ≡ Some offsets = sym none ∙ e in absurd cc
+equal-of g f offsets (fewer_equations others few none is they loose) e l = absurd (omega (arith, few, l))
+equal-of g f offsets (as_many others all none is they reasons) e l =
+    let same : others ≡ offsets = same-offsets others offsets (sym is ∙ e) in
+    (all, subst (AreLeastOffsets g) same they, subst (λ (o : Offsets). AreReasonsBy g o f.reasons.items) same reasons)
+
+-- ---- reports
+
 -- the report where some equation is left out
-pub singular-report : (m : FlatModel) (g : Signature) (e : Report) (deficit : Deficit) (k : ℕ) → IsEmptyReport m g e
-    → IsDeficit g deficit.equations.items deficit.unknowns.items k → 0 < k → IsReportOn m g (record e { deficit = Some deficit })
-singular-report m g e deficit k empty is some = record {
+pub singular-report : (m : FlatModel) (g : Signature) (e : Report) (deficit : Option Deficit) → IsEmptyReport m g e → IsLeftOut g deficit → IsReportOn m g (record e { deficit = deficit })
+singular-report m g e deficit empty (found, k, some, is, is_deficit) = record {
   name = empty.name;
   unknowns = empty.unknowns;
   equations = empty.equations;
-  found = singular deficit k (omega arith) refl is empty.offsets empty.orders empty.loose
+  found = singular found k some is is_deficit empty.offsets empty.orders empty.loose
       (none-there _ _ empty.square refl refl refl refl refl);
 }
 

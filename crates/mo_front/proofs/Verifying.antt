@@ -1,5 +1,6 @@
 -- From what is read of files and of a printed report behind them to what is told of it.
 use Rattle.std.proofs.Common.{◌≡◌, ◌+◌, ◌<◌, ◌≤◌, ℕ, List, [], ◌∷◌, ◌++◌, length, Option, Some, None, IfSome, IsSomeAnd, Result, Ok, Err, IfOk, OnOk, refl, ap, sym, ◌∙◌, subst}
+use Rattle.std.specs.Prelude.{nat_lt}
 use Rattle.std.proofs.lemmas.List.Elements.{Contains-append_left, Contains-push}
 use Rattle.mo_syntax.specs.declared.place.Broken.{Broken}
 use Rattle.mo_syntax.specs.declared.place.NoMemory.{NoMemory as memory_refused}
@@ -9,8 +10,7 @@ use Rattle.mo_lexer.specs.Lexing.{IfBroken}
 use Rattle.mo_flat.specs.declared.model.FlatModel.{FlatModel}
 use Rattle.mo_incidence.specs.Model.{refusal_of}
 use Rattle.mo_ports.specs.Contents.{Contents}
-use Rattle.mo_report.specs.declared.report.Report.{Report}
-use Rattle.mo_report.specs.Right.{IsRightReport}
+use Rattle.mo_incidence.specs.declared.findings.Offsets.{Offsets}
 use Rattle.mo_verify.specs.declared.verdict.Verdict.{Verdict}
 use Rattle.mo_verify.specs.declared.verdict.Verdict.TheVariants as said
 use Rattle.mo_front.specs.declared.load.Unread.{Unread}
@@ -18,8 +18,9 @@ use Rattle.mo_front.specs.declared.load.Unread.TheVariants.{Fault, NoMemory, Ref
 use Rattle.mo_front.specs.declared.status.Status.{Status}
 use Rattle.mo_front.specs.declared.status.Status.TheVariants.{Refused as refused_status}
 use Rattle.mo_front.specs.declared.words.Emit.TheVariants as emit
-use Rattle.mo_front.specs.Emitted.{PhasesBreak, Refuses, asked_by, is_singular, no_text as no_part, status_of}
+use Rattle.mo_front.specs.Emitted.{PhasesBreak, Refuses, asked_by, least_status, no_text as no_part}
 use Rattle.mo_front.specs.Files.{Reads, breaks_at}
+use Rattle.mo_front.specs.Least.{IsLeastOf}
 use Rattle.mo_front.specs.Limits.{all_files_limit, printed_limit}
 use Rattle.mo_front.specs.Loading.{IsLine, JudgesTexts, RefusesReading, RefusesReadingAll, RefusesReport, TellsBytes, judges, of_files, of_report, refuses}
 use Rattle.mo_front.specs.Run.{IsAnswer, IsNamedFault}
@@ -30,15 +31,15 @@ use Rattle.mo_front.proofs.Laddering.{report-no-flat}
 
 -- ---- of a model
 
-module _ (m : FlatModel) (r : Report) (accepted : refusal_of m ≡ None) (right : IsRightReport m r) where
-  pub judged-by : (bytes : List ℕ) (t : Result (Status × List ℕ) Stop) → OnOk t (PhasesBreak m r (asked_by emit.Report).phases None) → IfOk t (λ a. SaysVerdict m bytes (status_of r) a.0 a.1)
+module _ (m : FlatModel) (o : Option Offsets) (accepted : refusal_of m ≡ None) (least : IsLeastOf m o) where
+  pub judged-by : (bytes : List ℕ) (t : Result (Status × List ℕ) Stop) → OnOk t (PhasesBreak m o (asked_by emit.Report).phases None) → IfOk t (λ a. SaysVerdict m bytes (least_status o) a.0 a.1)
       → IfOk t (λ a. IsJudged m bytes a.0 a.1)
-  judged-by bytes (Ok a) passed says = record { r = r; accepted = accepted; right = right; passed = passed; says = says }
+  judged-by bytes (Ok a) passed says = record { offsets = o; accepted = accepted; least = least; passed = passed; says = says }
   judged-by bytes (Err s) passed says = tt
 
-  pub verdict-refused : (t : Result (Status × List ℕ) Stop) → IfBroken t (λ b. PhasesBreak m r (asked_by emit.Report).phases (Some b)) → IfBroken t (λ b. Refuses emit.Report m b)
+  pub verdict-refused : (t : Result (Status × List ℕ) Stop) → IfBroken t (λ b. PhasesBreak m o (asked_by emit.Report).phases (Some b)) → IfBroken t (λ b. Refuses emit.Report m b)
   verdict-refused (Ok a) was = tt
-  verdict-refused (Err (broken_by b)) was = no_part r report-no-flat accepted right was
+  verdict-refused (Err (broken_by b)) was = no_part o report-no-flat accepted least was
   verdict-refused (Err no_memory) was = tt
 
 -- ---- of texts
@@ -93,9 +94,13 @@ ends-answer (said.Loose i unknown order c d) ends is = tt
 ends-answer (said.Twice i k unknown) ends is = tt
 ends-answer (said.NotLeast i printed smaller) ends is = tt
 
+least-answers : (o : Option Offsets) → IsAnswer (least_status o)
+least-answers None = tt
+least-answers (Some offsets) = answer-of (nat_lt (length offsets.c.items) (length offsets.d.items))
+
 pub verdict-answers : (path names texts : List (List ℕ)) (bytes : List ℕ) (status : Status) (line : List ℕ) → TellsBytes path names texts bytes status line → IsAnswer status
 verdict-answers path names texts bytes status line (judges j) =
-    subst (λ (s : Status). IsAnswer s) (sym j.judged.says.is_status) (ends-answer j.judged.says.verdict (status_of j.judged.r) (answer-of (is_singular j.judged.r)))
+    subst (λ (s : Status). IsAnswer s) (sym j.judged.says.is_status) (ends-answer j.judged.says.verdict (least_status j.judged.offsets) (least-answers j.judged.offsets))
 verdict-answers path names texts bytes status line (refuses b breaks is line_is) = rw is tt
 
 -- ---- reading

@@ -14,7 +14,7 @@ use Rattle.mo_incidence.specs.Model.{refusal_of}
 use Rattle.mo_report.specs.declared.report.Report.{Report}
 use Rattle.mo_report.specs.Lines.{report_lines}
 use Rattle.mo_report.specs.Right.{IsRightReport}
-use Rattle.mo_report.specs.Size.{report_limit, report_size}
+use Rattle.mo_report.specs.Size.{report_limit, report_size, unknown_names}
 use Rattle.mo_json.specs.Values.{json_line}
 use Rattle.mo_select.specs.declared.selection.Selection.{Selection}
 use Rattle.mo_alias.specs.declared.found.Aliases.{Aliases}
@@ -29,6 +29,7 @@ use Rattle.mo_front.specs.declared.table.Phase.TheVariants as phase
 use Rattle.mo_front.specs.declared.table.Part.{Part}
 use Rattle.mo_front.specs.declared.table.Part.TheVariants as part
 use Rattle.mo_front.specs.States.{IsSelectionOf, selected_lines}
+use Rattle.mo_front.specs.Least.{IsLeastOf}
 
 -- ---- what is asked for
 
@@ -37,29 +38,31 @@ pub record Asked : Type 0 where
   pub phases : List Phase
   pub parts : List Part
 
--- the phases and texts of each value; of the flat text alone not even the incidence is asked, and the text of aliases goes by no report
+-- The phases and texts of each value. Of the flat text alone not even the incidence is asked; the text of aliases and that of the reduced
+-- model go by no report, which stands in place of a reduced model where some equation cannot be assigned.
 abbrev pub asked_by : Emit → Asked
 asked_by emit.Flat = record { phases = []; parts = part.Flat ∷ [] }
-asked_by emit.Reduced = record { phases = phase.Reduction ∷ []; parts = part.ReducedOrReport ∷ [] }
+asked_by emit.Reduced = record { phases = phase.Reduction ∷ []; parts = part.Report ∷ [] }
 asked_by emit.Report = record { phases = phase.Size ∷ []; parts = part.Report ∷ [] }
 asked_by emit.All = record { phases = phase.Size ∷ phase.Reduction ∷ []; parts = part.Flat ∷ part.Reduced ∷ part.Report ∷ [] }
 asked_by emit.Json = record { phases = phase.Size ∷ []; parts = part.Json ∷ [] }
 asked_by emit.States = record { phases = phase.Size ∷ []; parts = part.StatesOrReport ∷ [] }
 asked_by emit.Alias = record { phases = phase.Size ∷ []; parts = [] }
 
--- ---- the rules that the phases behind the incidence break, which go by a right report
+-- ---- the rules that the phases behind the incidence break, which go by the least offsets, none where some equation cannot be assigned
 
--- how much text the derivatives in the report take: none where some equation cannot be assigned or the system is not square
-abbrev pub derivatives_size : Report → Option Offsets → ℕ
-derivatives_size r None = 0
-derivatives_size r (Some offsets) = if r.equations == length r.unknowns then report_size r.unknowns offsets.d.items else 0
+-- How much text the derivatives in the report take: none where some equation cannot be assigned or the system is not square, so
+-- that there are not as many offsets of equations as of unknowns.
+abbrev pub derivatives_size : FlatModel → Option Offsets → ℕ
+derivatives_size m None = 0
+derivatives_size m (Some offsets) = if length offsets.c.items == length offsets.d.items then report_size (unknown_names m.vars) offsets.d.items else 0
 
 -- rule 44 at the model where the report does not fit
-abbrev pub report_refusal : FlatModel → Report → Option Broken
-report_refusal m r = if nat_le (derivatives_size r r.offsets) report_limit then None else Some (too_large m)
+abbrev pub report_refusal : FlatModel → Option Offsets → Option Broken
+report_refusal m o = if nat_le (derivatives_size m o) report_limit then None else Some (too_large m)
 
 -- The rule that the reduced model breaks: 43 at the first equation in which a given variable would be differentiated, then 44
--- at the model where the lines pass their limits. Without offsets, where some equation cannot be assigned, there is none.
+-- at the model where the lines pass their limits. Without offsets there is none.
 pub data ReducedBreaks (m : FlatModel) : Option Offsets → Option Broken → Type 0 where
   no_offsets : ReducedBreaks m None None
   given : {offsets : Offsets} (place : Place) → first_given m.vars m.equations offsets.c.items ≡ Some place → ReducedBreaks m (Some offsets) (Some (of_given place))
@@ -69,15 +72,15 @@ pub data ReducedBreaks (m : FlatModel) : Option Offsets → Option Broken → Ty
       → ReducedBreaks m (Some offsets) None
 
 -- the rule that one phase breaks
-abbrev pub PhaseBreaks : FlatModel → Report → Phase → Option Broken → Type 0
-PhaseBreaks m r phase.Size o = report_refusal m r ≡ o
-PhaseBreaks m r phase.Reduction o = ReducedBreaks m r.offsets o
+abbrev pub PhaseBreaks : FlatModel → Option Offsets → Phase → Option Broken → Type 0
+PhaseBreaks m o phase.Size b = report_refusal m o ≡ b
+PhaseBreaks m o phase.Reduction b = ReducedBreaks m o b
 
 -- the rule that is broken by phases that are asked one after another
-pub data PhasesBreak (m : FlatModel) (r : Report) : List Phase → Option Broken → Type 0 where
-  all_passed : PhasesBreak m r [] None
-  this_one : {asked : Phase} {phases : List Phase} {b : Broken} → PhaseBreaks m r asked (Some b) → PhasesBreak m r (asked ∷ phases) (Some b)
-  later : {asked : Phase} {phases : List Phase} {o : Option Broken} → PhaseBreaks m r asked None → PhasesBreak m r phases o → PhasesBreak m r (asked ∷ phases) o
+pub data PhasesBreak (m : FlatModel) (offsets : Option Offsets) : List Phase → Option Broken → Type 0 where
+  all_passed : PhasesBreak m offsets [] None
+  this_one : {asked : Phase} {phases : List Phase} {b : Broken} → PhaseBreaks m offsets asked (Some b) → PhasesBreak m offsets (asked ∷ phases) (Some b)
+  later : {asked : Phase} {phases : List Phase} {o : Option Broken} → PhaseBreaks m offsets asked None → PhasesBreak m offsets phases o → PhasesBreak m offsets (asked ∷ phases) o
 
 -- ---- the text and the status
 
@@ -90,7 +93,6 @@ reduced_part m (Some offsets) = Some (reduced_text m (reduced_lines m.vars m.equ
 abbrev pub part_text : FlatModel → Report → Option Selection → Part → List ℕ
 part_text m r s part.Flat = model_text m
 part_text m r s part.Reduced = unwrap_or (reduced_part m r.offsets) []
-part_text m r s part.ReducedOrReport = unwrap_or (reduced_part m r.offsets) (report_lines r)
 part_text m r s part.Report = report_lines r
 part_text m r s part.Json = json_line r
 part_text m r s part.StatesOrReport = selected_lines r s r.offsets
@@ -101,6 +103,15 @@ is_singular r = is_some r.deficit || nat_lt r.equations (length r.unknowns)
 
 abbrev pub status_of : Report → Status
 status_of r = if is_singular r then Singular else Done
+
+-- where all equations can be assigned, and there are not fewer than unknowns
+abbrev pub reduced_status : Offsets → Status
+reduced_status offsets = if nat_lt (length offsets.c.items) (length offsets.d.items) then Singular else Done
+
+-- that of a report on the model
+abbrev pub least_status : Option Offsets → Status
+least_status None = Singular
+least_status (Some offsets) = reduced_status offsets
 
 -- ---- the states
 
@@ -120,21 +131,32 @@ pub record IsTextOf (asked : Emit) (m : FlatModel) (r : Report) (text : List ℕ
   pub selects : Selects asked m r selected
   pub is : text ≡ flat_map (part_text m r selected) (asked_by asked).parts
 
+-- the texts that are asked for go by a right report with these offsets, and so does the status
+pub record IsReported (asked : Emit) (m : FlatModel) (offsets : Option Offsets) (status : Status) (text : List ℕ) : Type 0 where
+  pub r : Report
+  pub right : IsRightReport m r
+  pub given : r.offsets ≡ offsets
+  pub status_is : status ≡ status_of r
+  pub text_is : IsTextOf asked m r text
+
 -- the text of what is found of aliases
 abbrev pub IsTextOfAliases : FlatModel → List ℕ → Type 0
 IsTextOfAliases m text = (found : Aliases) × AreAliases m found × (text ≡ aliases_text m found)
 
 -- ---- the whole
 
--- the text that is written of the model, with its status; the flat text and that of aliases are written of singular models too
+-- The text that is written of the model, with its status; the flat text and that of aliases are written of singular models too. A
+-- reduced model goes by the least offsets alone.
 pub data Writes (asked : Emit) (m : FlatModel) (status : Status) (text : List ℕ) : Type 0 where
   flat_text : asked ≡ emit.Flat → status ≡ Done → text ≡ model_text m → Writes asked m status text
-  without_aliases : (r : Report) → asked ≡ emit.Alias → refusal_of m ≡ None → IsRightReport m r → PhasesBreak m r (asked_by asked).phases None → status ≡ Done → IsTextOfAliases m text
-      → Writes asked m status text
-  analysed : (r : Report) → asked ≢ emit.Flat → asked ≢ emit.Alias → refusal_of m ≡ None → IsRightReport m r → PhasesBreak m r (asked_by asked).phases None → status ≡ status_of r
-      → IsTextOf asked m r text → Writes asked m status text
+  without_aliases : (offsets : Option Offsets) → asked ≡ emit.Alias → refusal_of m ≡ None → IsLeastOf m offsets → PhasesBreak m offsets (asked_by asked).phases None → status ≡ Done
+      → IsTextOfAliases m text → Writes asked m status text
+  reduced_model : (offsets : Offsets) → asked ≡ emit.Reduced → refusal_of m ≡ None → IsLeastOf m (Some offsets) → PhasesBreak m (Some offsets) (asked_by asked).phases None
+      → status ≡ reduced_status offsets → text ≡ reduced_text m (reduced_lines m.vars m.equations offsets.c.items) → Writes asked m status text
+  analysed : (r : Report) → asked ≢ emit.Flat → asked ≢ emit.Alias → (asked ≡ emit.Reduced → r.offsets ≡ None) → refusal_of m ≡ None → IsRightReport m r
+      → PhasesBreak m r.offsets (asked_by asked).phases None → status ≡ status_of r → IsTextOf asked m r text → Writes asked m status text
 
 -- the first rule that is broken instead: those of the incidence before those of the other phases
 pub data Refuses (asked : Emit) (m : FlatModel) (b : Broken) : Type 0 where
   no_incidence : asked ≢ emit.Flat → refusal_of m ≡ Some b → Refuses asked m b
-  no_text : (r : Report) → asked ≢ emit.Flat → refusal_of m ≡ None → IsRightReport m r → PhasesBreak m r (asked_by asked).phases (Some b) → Refuses asked m b
+  no_text : (offsets : Option Offsets) → asked ≢ emit.Flat → refusal_of m ≡ None → IsLeastOf m offsets → PhasesBreak m offsets (asked_by asked).phases (Some b) → Refuses asked m b

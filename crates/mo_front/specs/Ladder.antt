@@ -44,7 +44,7 @@ pub record IsSummary (n : ℕ) (m : FlatModel) (text : List ℕ) : Type 0 where
   pub r : Report
   pub accepted : refusal_of m ≡ None
   pub right : IsRightReport m r
-  pub passed : PhasesBreak m r (asked_by emit.Report).phases None
+  pub passed : PhasesBreak m r.offsets (asked_by emit.Report).phases None
   pub is : text ≡ summary_line n m r
 
 -- the line of the model that is given

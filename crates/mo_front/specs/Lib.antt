@@ -1,6 +1,7 @@
 pub mod Emitted
 pub mod Files
 pub mod Ladder
+pub mod Least
 pub mod Limits
 pub mod Verified
 pub mod Loading

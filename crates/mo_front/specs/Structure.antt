@@ -1,11 +1,15 @@
 -- Words on the report on the structure of a model.
-use Rattle.std.specs.Prelude.{◌≡◌, ℕ, ◌-◌, [], None}
+use Rattle.std.specs.Prelude.{◌≡◌, ◌≢◌, ℕ, ◌-◌, ◌<◌, [], Option, Some, None}
 use Rattle.mo_flat.specs.declared.model.FlatModel.{FlatModel}
+use Rattle.mo_incidence.specs.declared.findings.Deficit.{Deficit}
 use Rattle.mo_incidence.specs.declared.findings.Offsets.{Offsets}
+use Rattle.mo_incidence.specs.Assignment.{IsDeficit, IsUndetermined, ListsWhere}
+use Rattle.mo_incidence.specs.Reasons.{AreReasonsOf}
 use Rattle.mo_incidence.specs.Signature.{Signature, equations}
 use Rattle.mo_incidence.specs.Offsets.{by_place, by_number}
 use Rattle.mo_report.specs.declared.report.Report.{Report}
-use Rattle.mo_report.specs.Right.{IsRightFor, HasNoSquareParts}
+use Rattle.mo_report.specs.Right.{AreLeastOffsets, IsRightFor, HasNoSquareParts}
+use Rattle.mo_front.specs.declared.structure.Found.{Found}
 use Rattle.mo_report.specs.Size.{unknown_names}
 
 -- the order at which the unknown of the equation at place i stands in it: the difference of their offsets
@@ -29,3 +33,18 @@ pub record IsEmptyReport (m : FlatModel) (g : Signature) (r : Report) : Type 0 w
   pub offsets : r.offsets ≡ None
   pub loose : r.loose.items ≡ []
   pub square : HasNoSquareParts r
+
+-- a deficit of the signature
+abbrev pub IsLeftOut : Signature → Option Deficit → Type 0
+IsLeftOut g deficit = (found : Deficit) × (k : ℕ) × (k ≢ 0) × (deficit ≡ Some found) × IsDeficit g found.equations.items found.unknowns.items k
+
+-- what is found of a signature before a report is made of it
+pub data IsFoundOf (g : Signature) (f : Found) : Type 0 where
+  -- some equation can have no unknown of its own
+  missing : (deficit : Deficit) (k : ℕ) → k ≢ 0 → f.deficit ≡ Some deficit → IsDeficit g deficit.equations.items deficit.unknowns.items k
+      → f.offsets ≡ None → IsFoundOf g f
+  -- fewer equations than unknowns
+  fewer_equations : (offsets : Offsets) → equations g < g.unknowns → f.deficit ≡ None → f.offsets ≡ Some offsets → AreLeastOffsets g offsets
+      → ListsWhere (IsUndetermined g) g.unknowns f.loose.items → IsFoundOf g f
+  as_many : (offsets : Offsets) → equations g ≡ g.unknowns → f.deficit ≡ None → f.offsets ≡ Some offsets → AreLeastOffsets g offsets
+      → AreReasonsOf g (by_place offsets.c.items) (by_number offsets.d.items) (by_place offsets.pairs.items) f.reasons.items → IsFoundOf g f

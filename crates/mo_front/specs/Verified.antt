@@ -1,19 +1,19 @@
 -- What is told of a printed report: one line with the verdict on it, or the line of the first broken rule.
-use Rattle.std.specs.Prelude.{◌≡◌, ℕ, ◌+◌, ◌<◌, ◌≤◌, List, ◌++◌, length, codes, decimal, Some, None, Ok, Err}
+use Rattle.std.specs.Prelude.{◌≡◌, ℕ, ◌+◌, ◌<◌, ◌≤◌, List, ◌++◌, length, codes, decimal, Option, Some, None, Ok, Err}
 use Rattle.mo_syntax.specs.declared.place.Broken.{Broken}
 use Rattle.mo_flat.specs.declared.model.FlatModel.{FlatModel}
 use Rattle.mo_incidence.specs.Model.{refusal_of}
 use Rattle.mo_ports.specs.Contents.{Contents}
-use Rattle.mo_report.specs.declared.report.Report.{Report}
-use Rattle.mo_report.specs.Right.{IsRightReport}
+use Rattle.mo_incidence.specs.declared.findings.Offsets.{Offsets}
 use Rattle.mo_verify.specs.declared.verdict.Verdict.{Verdict}
 use Rattle.mo_verify.specs.declared.verdict.Verdict.TheVariants as said
 use Rattle.mo_verify.specs.Verdict.{IsVerdict}
 use Rattle.mo_front.specs.declared.status.Status.{Status}
 use Rattle.mo_front.specs.declared.status.Status.TheVariants.{Refused, Differs}
 use Rattle.mo_front.specs.declared.words.Emit.TheVariants as emit
-use Rattle.mo_front.specs.Emitted.{PhasesBreak, asked_by, status_of}
+use Rattle.mo_front.specs.Emitted.{PhasesBreak, asked_by, least_status}
 use Rattle.mo_front.specs.Files.{Reads, breaks_at}
+use Rattle.mo_front.specs.Least.{IsLeastOf}
 use Rattle.mo_front.specs.Limits.{all_files_limit, printed_limit}
 use Rattle.mo_front.specs.Refusal.{refusal_line}
 use Rattle.mo_front.specs.Told.{Breaks, Outcome, TextsGive, broken, flat, bytes_of_all, line_of_broken}
@@ -84,11 +84,11 @@ pub record SaysVerdict (m : FlatModel) (bytes : List ℕ) (ends status : Status)
 
 -- the verdict, where the phases that a report asks for break no rule
 pub record IsJudged (m : FlatModel) (bytes : List ℕ) (status : Status) (text : List ℕ) : Type 0 where
-  pub r : Report
+  pub offsets : Option Offsets
   pub accepted : refusal_of m ≡ None
-  pub right : IsRightReport m r
-  pub passed : PhasesBreak m r (asked_by emit.Report).phases None
-  pub says : SaysVerdict m bytes (status_of r) status text
+  pub least : IsLeastOf m offsets
+  pub passed : PhasesBreak m offsets (asked_by emit.Report).phases None
+  pub says : SaysVerdict m bytes (least_status offsets) status text
 
 -- the verdict on the bytes of the report by the model that the files give
 pub record JudgesGiven (path names : List (List ℕ)) (report : List ℕ) (contents : Contents) (status : Status) (text : List ℕ) : Type 0 where

@@ -4,23 +4,25 @@ ghost use Rattle.mo_lexer.specs.Lexing.{IfBroken};
 ghost use Rattle.mo_flat.specs.Sound.{IsSoundModel};
 ghost use Rattle.mo_flat.specs.Text.{model_text};
 ghost use Rattle.mo_incidence.specs.Model.{incidence_of, refusal_of};
-ghost use Rattle.mo_symdiff.specs.Reduced.{too_large};
+ghost use Rattle.mo_symdiff.specs.Reduced.{reduced_lines, reduced_text, too_large};
 ghost use Rattle.mo_report.specs.Lines.{report_lines};
 ghost use Rattle.mo_json.specs.Values.{json_line};
-ghost use Rattle.mo_report.specs.Right.{IsRightReport};
+ghost use Rattle.mo_report.specs.Right.{AreLeastOffsets, IsRightReport};
 ghost use Rattle.mo_report.specs.Size.{report_limit};
 ghost use Rattle.mo_select.specs.Text.{selection_lines};
 ghost use Rattle.mo_front.specs.States.{selected_lines};
-ghost use Rattle.mo_front.specs.Emitted.{IsTextOf, IsTextOfAliases, PhaseBreaks, PhasesBreak, ReducedBreaks, Refuses, Selects, Writes, asked_by, derivatives_size, is_singular, part_text, reduced_part, status_of};
+ghost use Rattle.mo_front.specs.Least.{IsLeastOf};
+ghost use Rattle.mo_front.specs.Structure.{IsFoundOf};
+ghost use Rattle.mo_front.specs.Emitted.{IsReported, IsTextOf, IsTextOfAliases, PhaseBreaks, PhasesBreak, ReducedBreaks, Refuses, Selects, Writes, asked_by, derivatives_size, least_status, part_text, reduced_part, reduced_status, status_of};
 
 use crate::states::selection_of;
 use crate::status::Status;
-use crate::structure::{Analysis, analysis_of, is_singular};
+use crate::structure::{Analysis, analysis_of, is_singular, report_of};
 use crate::table::{Part, Phase, parts, phases};
 use crate::words::Emit;
 use mo_alias::{aliases, aliases_text};
 use mo_flat::{FlatModel, flat_text};
-use mo_incidence::Offsets;
+use mo_incidence::{Incidence, Offsets};
 use mo_json::report_json;
 use mo_report::{Report, report_fits, report_text};
 use mo_select::{Selection, selection_text};
@@ -29,7 +31,8 @@ use mo_syntax::{Broken, NoMemory, Rule, Stop, Text};
 use std::alloc::Global;
 
 /// What is written of a sound flat model and the status, or the first rule that a phase breaks: the incidence, then the size of
-/// the report, then the reduced model, each where it is asked for.
+/// the report, then the reduced model, each where it is asked for. Both of these go by the offsets, and are asked before blocks,
+/// dummies and states are made.
 pub(crate) fn written_of(alloc: Global, emit: Emit, m: &FlatModel) -> Result<(Status, Text), Stop>
     requires sound { IsSoundModel m.now }
     ensures written { IfOk result (λ w. Writes emit m.now w.0 w.1) }
@@ -38,6 +41,7 @@ pub(crate) fn written_of(alloc: Global, emit: Emit, m: &FlatModel) -> Result<(St
     match emit {
         Emit::Flat => Ok((Status::Done, flat_text(alloc, m)?)),
         Emit::Alias => without_aliases(alloc, m),
+        Emit::Reduced => reduction(alloc, m),
         _ => analysed(alloc, emit, m),
     }
 }
@@ -49,7 +53,7 @@ fn without_aliases(alloc: Global, m: &FlatModel) -> Result<(Status, Text), Stop>
     ensures refused { IfBroken result (λ b. Refuses Emit.Alias m.now b) }
 {
     match analysis_of(alloc, m) {
-        Ok(analysis) => match text_of_aliases(alloc, m, &analysis.report) {
+        Ok(analysis) => match text_of_aliases(alloc, m, &analysis.found.offsets) {
             Ok(text) => Ok((Status::Done, text)),
             Err(stop) => Err(stop),
         },
@@ -57,14 +61,14 @@ fn without_aliases(alloc: Global, m: &FlatModel) -> Result<(Status, Text), Stop>
     }
 }
 
-/// The text of the aliases of a model with that report, or the rule that a phase behind the incidence breaks.
-fn text_of_aliases(alloc: Global, m: &FlatModel, r: &Report) -> Result<Text, Stop>
-    requires right { IsRightReport m.now r.now }
-    ensures passed { OnOk result (PhasesBreak m.now r.now (asked_by Emit.Alias).phases None) }
+/// The text of the aliases of a model with these offsets, or the rule that a phase behind the incidence breaks.
+fn text_of_aliases(alloc: Global, m: &FlatModel, least: &Option<Offsets>) -> Result<Text, Stop>
+    requires { IsLeastOf m.now least.now }
+    ensures passed { OnOk result (PhasesBreak m.now least.now (asked_by Emit.Alias).phases None) }
     ensures text { IfOk result (IsTextOfAliases m.now) }
-    ensures refused { IfBroken result (λ b. PhasesBreak m.now r.now (asked_by Emit.Alias).phases (Some b)) }
+    ensures refused { IfBroken result (λ b. PhasesBreak m.now least.now (asked_by Emit.Alias).phases (Some b)) }
 {
-    match passed(alloc, m, r, phases(Emit::Alias)) {
+    match passed(alloc, m, least, phases(Emit::Alias)) {
         Ok(_made) => Ok(aliases_written(alloc, m)?),
         Err(stop) => Err(stop),
     }
@@ -78,25 +82,114 @@ fn aliases_written(alloc: Global, m: &FlatModel) -> Result<Text, NoMemory>
     Ok(text)
 }
 
+/// The reduced model, or the report where some equation cannot be assigned, or the first rule that the incidence or the reduced
+/// model breaks.
+fn reduction(alloc: Global, m: &FlatModel) -> Result<(Status, Text), Stop>
+    requires sound { IsSoundModel m.now }
+    ensures written { IfOk result (λ w. Writes Emit.Reduced m.now w.0 w.1) }
+    ensures refused { IfBroken result (λ b. Refuses Emit.Reduced m.now b) }
+{
+    match analysis_of(alloc, m) {
+        Ok(analysis) => reduced_or_report(alloc, m, analysis),
+        Err(stop) => Err(stop),
+    }
+}
+
+/// The reduced model by the offsets that are found, or the report where there are none.
+fn reduced_or_report(alloc: Global, m: &FlatModel, a: Analysis) -> Result<(Status, Text), Stop>
+    requires accepted { refusal_of m.now ≡ None }
+    requires incidence { a.incidence ≡ incidence_of m.now }
+    requires found { IsFoundOf (incidence_of m.now) a.found }
+    ensures written { IfOk result (λ w. Writes Emit.Reduced m.now w.0 w.1) }
+    ensures refused { IfBroken result (λ b. Refuses Emit.Reduced m.now b) }
+{
+    match &a.found.offsets {
+        Some(offsets) => match reduced_by(alloc, m, offsets) {
+            Ok(text) => Ok((reduced_status(offsets), text)),
+            Err(stop) => Err(stop),
+        },
+        None => Ok(reported(alloc, Emit::Reduced, m, a, None)?),
+    }
+}
+
+/// The status of a reduced model.
+fn reduced_status(offsets: &Offsets) -> Status
+    ensures { result ≡ reduced_status offsets.now }
+{
+    if offsets.c.len() < offsets.d.len() {
+        Status::Singular
+    } else {
+        Status::Done
+    }
+}
+
+/// The status of a model with these least offsets, where there are some.
+pub(crate) fn least_status(least: &Option<Offsets>) -> Status
+    ensures { result ≡ least_status least.now }
+{
+    match least {
+        None => Status::Singular,
+        Some(offsets) => reduced_status(offsets),
+    }
+}
+
 /// What is written by the report on the structure of the model.
 fn analysed(alloc: Global, emit: Emit, m: &FlatModel) -> Result<(Status, Text), Stop>
     requires sound { IsSoundModel m.now }
     requires structure { emit ≢ Emit.Flat }
     requires report { emit ≢ Emit.Alias }
+    requires whole { emit ≢ Emit.Reduced }
     ensures written { IfOk result (λ w. Writes emit m.now w.0 w.1) }
     ensures refused { IfBroken result (λ b. Refuses emit m.now b) }
 {
     match analysis_of(alloc, m) {
-        Ok(analysis) => match text_of(alloc, emit, m, &analysis) {
-            Ok(text) => Ok((status_of(&analysis.report), text)),
+        Ok(analysis) => match passed(alloc, m, &analysis.found.offsets, phases(emit)) {
+            Ok(made) => Ok(reported(alloc, emit, m, analysis, made)?),
             Err(stop) => Err(stop),
         },
         Err(stop) => Err(stop),
     }
 }
 
+/// The status and the texts of a model that go by its report.
+fn reported(
+    alloc: Global,
+    emit: Emit,
+    m: &FlatModel,
+    a: Analysis,
+    made: Option<Option<Text>>,
+) -> Result<(Status, Text), NoMemory>
+    requires incidence { a.incidence ≡ incidence_of m.now }
+    requires found { IsFoundOf (incidence_of m.now) a.found }
+    requires made { IfSome made (λ part. part ≡ reduced_part m.now a.found.offsets) }
+    ensures { IfOk result (λ w. IsReported emit m.now a.found.offsets w.0 w.1) }
+{
+    let Analysis { incidence, found } = a;
+    let report = report_of(alloc, m, &incidence, found)?;
+    by_report(alloc, emit, m, &incidence, &report, &made)
+}
+
+/// The status and the texts by the report.
+fn by_report(
+    alloc: Global,
+    emit: Emit,
+    m: &FlatModel,
+    inc: &Incidence,
+    r: &Report,
+    made: &Option<Option<Text>>,
+) -> Result<(Status, Text), NoMemory>
+    requires incidence { inc.now ≡ incidence_of m.now }
+    requires right { IsRightReport m.now r.now }
+    requires made { IfSome made.now (λ part. part ≡ reduced_part m.now r.now.offsets) }
+    ensures { IfOk result (λ w. (w.0 ≡ status_of r.now) × IsTextOf emit m.now r.now w.1) }
+{
+    let selected = selected(alloc, emit, m, inc, r)?;
+    let text = all_parts(alloc, m, r, &selected, made, parts(emit))?;
+    Ok((status_of(r), text))
+}
+
 /// The status of a model with that report.
-pub(crate) fn status_of(r: &Report) -> Status
+fn status_of(r: &Report) -> Status
     ensures { result ≡ status_of r.now }
 {
     if is_singular(r) {
@@ -106,58 +199,42 @@ pub(crate) fn status_of(r: &Report) -> Status
     }
 }
 
-/// The text of a model with that incidence and report, or the rule that a phase behind the incidence breaks.
-fn text_of(alloc: Global, emit: Emit, m: &FlatModel, a: &Analysis) -> Result<Text, Stop>
-    requires incidence { a.now.incidence ≡ incidence_of m.now }
-    requires right { IsRightReport m.now a.now.report }
-    ensures passed { OnOk result (PhasesBreak m.now a.now.report (asked_by emit).phases None) }
-    ensures text { IfOk result (IsTextOf emit m.now a.now.report) }
-    ensures refused { IfBroken result (λ b. PhasesBreak m.now a.now.report (asked_by emit).phases (Some b)) }
-{
-    match passed(alloc, m, &a.report, phases(emit)) {
-        Ok(made) => {
-            let selected = selected(alloc, emit, m, a)?;
-            Ok(all_parts(alloc, m, &a.report, &selected, &made, parts(emit))?)
-        }
-        Err(stop) => Err(stop),
-    }
-}
-
 /// The states that are selected, where they are asked for.
 fn selected(
     alloc: Global,
     emit: Emit,
     m: &FlatModel,
-    a: &Analysis,
+    inc: &Incidence,
+    r: &Report,
 ) -> Result<Option<Selection>, NoMemory>
-    requires incidence { a.now.incidence ≡ incidence_of m.now }
-    requires right { IsRightReport m.now a.now.report }
-    ensures { IfOk result (Selects emit m.now a.now.report) }
+    requires incidence { inc.now ≡ incidence_of m.now }
+    requires right { IsRightReport m.now r.now }
+    ensures { IfOk result (Selects emit m.now r.now) }
 {
     match emit {
-        Emit::States => selection_of(alloc, m, &a.incidence, &a.report),
+        Emit::States => selection_of(alloc, m, inc, r),
         Emit::Flat | Emit::Reduced | Emit::Report | Emit::All | Emit::Json | Emit::Alias => Ok(
             None,
         ),
     }
 }
 
-/// Asks phases one after another, or gives the first rule that one of them breaks. The text of the reduced model is kept, where
-/// one of them makes it.
+/// Asks phases one after another by the least offsets of a model, or gives the first rule that one of them breaks. The text of
+/// the reduced model is kept, where one of them makes it.
 pub(crate) fn passed(
     alloc: Global,
     m: &FlatModel,
-    r: &Report,
+    least: &Option<Offsets>,
     phases: &[Phase],
 ) -> Result<Option<Option<Text>>, Stop>
-    requires right { IsRightReport m.now r.now }
-    ensures passed { OnOk result (PhasesBreak m.now r.now phases.now None) }
-    ensures made { IfOk result (λ made. IfSome made (λ part. part ≡ reduced_part m.now r.now.offsets)) }
-    ensures refused { IfBroken result (λ b. PhasesBreak m.now r.now phases.now (Some b)) }
+    requires { IsLeastOf m.now least.now }
+    ensures passed { OnOk result (PhasesBreak m.now least.now phases.now None) }
+    ensures made { IfOk result (λ made. IfSome made (λ part. part ≡ reduced_part m.now least.now)) }
+    ensures refused { IfBroken result (λ b. PhasesBreak m.now least.now phases.now (Some b)) }
 {
     let mut made = None;
     for phase in phases {
-        match pass(alloc, m, r, *phase, made) {
+        match pass(alloc, m, least, *phase, made) {
             Ok(passed) => made = passed,
             Err(stop) => return Err(stop),
         }
@@ -169,24 +246,24 @@ pub(crate) fn passed(
 fn pass(
     alloc: Global,
     m: &FlatModel,
-    r: &Report,
+    least: &Option<Offsets>,
     phase: Phase,
     made: Option<Option<Text>>,
 ) -> Result<Option<Option<Text>>, Stop>
-    requires right { IsRightReport m.now r.now }
-    requires made { IfSome made (λ part. part ≡ reduced_part m.now r.now.offsets) }
-    ensures passed { OnOk result (PhaseBreaks m.now r.now phase None) }
-    ensures made { IfOk result (λ made. IfSome made (λ part. part ≡ reduced_part m.now r.now.offsets)) }
-    ensures refused { IfBroken result (λ b. PhaseBreaks m.now r.now phase (Some b)) }
+    requires least { IsLeastOf m.now least.now }
+    requires made { IfSome made (λ part. part ≡ reduced_part m.now least.now) }
+    ensures passed { OnOk result (PhaseBreaks m.now least.now phase None) }
+    ensures made { IfOk result (λ made. IfSome made (λ part. part ≡ reduced_part m.now least.now)) }
+    ensures refused { IfBroken result (λ b. PhaseBreaks m.now least.now phase (Some b)) }
 {
     match phase {
         Phase::Size => {
-            if fits(m, r) {
+            if fits(m, least) {
                 return Ok(made);
             }
             Err(too_large(m))
         }
-        Phase::Reduction => match reduced_part(alloc, m, r) {
+        Phase::Reduction => match reduced_part(alloc, m, least) {
             Ok(part) => Ok(Some(part)),
             Err(stop) => Err(stop),
         },
@@ -194,14 +271,13 @@ fn pass(
 }
 
 /// Whether the derivatives in the report stay within their limit.
-fn fits(m: &FlatModel, r: &Report) -> bool
-    requires right { IsRightReport m.now r.now }
-    ensures { result ≡ nat_le (derivatives_size r.now r.now.offsets) report_limit }
+fn fits(m: &FlatModel, least: &Option<Offsets>) -> bool
+    ensures { result ≡ nat_le (derivatives_size m.now least.now) report_limit }
 {
-    let Some(offsets) = &r.offsets else {
+    let Some(offsets) = least else {
         return true;
     };
-    if r.equations as usize != r.unknowns.len() {
+    if offsets.c.len() != offsets.d.len() {
         return true;
     }
     report_fits(m, offsets)
@@ -274,11 +350,6 @@ fn write_part(
             Some(None) => Ok(()),
             None => Err(NoMemory),
         },
-        Part::ReducedOrReport => match reduced {
-            Some(Some(text)) => write_text(out, text),
-            Some(None) => write_report(alloc, out, r),
-            None => Err(NoMemory),
-        },
         Part::StatesOrReport => write_selected(alloc, out, r, selected),
     }
 }
@@ -343,17 +414,30 @@ fn write_report(alloc: Global, out: &mut String, r: &Report) -> Result<(), NoMem
 }
 
 /// The text of the reduced model, None where some equation cannot be assigned, or the rule that it breaks.
-fn reduced_part(alloc: Global, m: &FlatModel, r: &Report) -> Result<Option<Text>, Stop>
-    requires right { IsRightReport m.now r.now }
-    ensures passed { OnOk result (ReducedBreaks m.now r.now.offsets None) }
-    ensures text { IfOk result (λ text. text ≡ reduced_part m.now r.now.offsets) }
-    ensures refused { IfBroken result (λ b. ReducedBreaks m.now r.now.offsets (Some b)) }
+fn reduced_part(alloc: Global, m: &FlatModel, least: &Option<Offsets>) -> Result<Option<Text>, Stop>
+    requires { IsLeastOf m.now least.now }
+    ensures passed { OnOk result (ReducedBreaks m.now least.now None) }
+    ensures text { IfOk result (λ text. text ≡ reduced_part m.now least.now) }
+    ensures refused { IfBroken result (λ b. ReducedBreaks m.now least.now (Some b)) }
 {
-    match &r.offsets {
-        Some(offsets) => match reduced(alloc, m, &offsets.c) {
-            Ok(reduced) => Ok(Some(reduced_text(alloc, m, &reduced)?)),
+    match least {
+        Some(offsets) => match reduced_by(alloc, m, offsets) {
+            Ok(text) => Ok(Some(text)),
             Err(stop) => Err(stop),
         },
         None => Ok(None),
+    }
+}
+
+/// The text of the reduced model with these offsets, or the rule that it breaks.
+fn reduced_by(alloc: Global, m: &FlatModel, offsets: &Offsets) -> Result<Text, Stop>
+    requires { AreLeastOffsets (incidence_of m.now) offsets.now }
+    ensures passed { OnOk result (ReducedBreaks m.now (Some offsets.now) None) }
+    ensures text { IfOk result (λ text. text ≡ reduced_text m.now (reduced_lines m.now.vars m.now.equations offsets.now.c.items)) }
+    ensures refused { IfBroken result (λ b. ReducedBreaks m.now (Some offsets.now) (Some b)) }
+{
+    match reduced(alloc, m, &offsets.c) {
+        Ok(reduced) => Ok(reduced_text(alloc, m, &reduced)?),
+        Err(stop) => Err(stop),
     }
 }

@@ -1,4 +1,5 @@
-//! The report on the structure of a model: the analyses of its incidence, one after another.
+//! The report on the structure of a model: the analyses of its incidence, one after another. What goes by the offsets alone is found
+//! first, so that a phase can ask their size before blocks, dummies and states are made.
 ghost use Rattle.std.specs.Prelude.{◌≡◌, ◌<◌, Some, None, IfOk, OnOk, length};
 ghost use Rattle.mo_lexer.specs.Lexing.{IfBroken};
 ghost use Rattle.mo_flat.specs.Sound.{IsSoundModel};
@@ -11,7 +12,7 @@ ghost use Rattle.mo_match.specs.Results.{IsMadeFor};
 ghost use Rattle.mo_report.specs.Right.{IsRightReport, AreLeastOffsets};
 ghost use Rattle.mo_report.specs.Size.{unknown_names};
 ghost use Rattle.mo_front.specs.Emitted.{is_singular};
-ghost use Rattle.mo_front.specs.Structure.{IsReportOn, IsEmptyReport};
+ghost use Rattle.mo_front.specs.Structure.{IsEmptyReport, IsFoundOf, IsLeftOut, IsReportOn};
 
 use crate::degrees::{freedom, index, orders};
 use mo_blocks::{blocks, dummies};
@@ -24,11 +25,21 @@ use mo_report::Report;
 use mo_syntax::{List, NoMemory, Role, Stop, Text};
 use std::alloc::Global;
 
-/// The incidence of a model and the report on it.
+/// The incidence of a model and what is found of it before a report is made.
 #[derive(Drop)]
 pub(crate) struct Analysis {
     pub(crate) incidence: Incidence,
-    pub(crate) report: Report,
+    pub(crate) found: Found,
+}
+
+/// The deficit, where not every equation can have an unknown of its own; otherwise the least offsets, with the undetermined
+/// unknowns where there are fewer equations than unknowns, and with reasons in a square system.
+#[derive(Drop)]
+pub(crate) struct Found {
+    pub(crate) deficit: Option<Deficit>,
+    pub(crate) offsets: Option<Offsets>,
+    pub(crate) loose: Vec<u32>,
+    pub(crate) reasons: Vec<Reason>,
 }
 
 /// Whether not every equation or not every unknown can be assigned.
@@ -38,36 +49,31 @@ pub(crate) fn is_singular(r: &Report) -> bool
     r.deficit.is_some() || (r.equations as usize) < r.unknowns.len()
 }
 
-/// The incidence of a sound flat model, and the report on its structure: the deficit, where not every equation can have an unknown of its own;
-/// otherwise the least offsets, with the undetermined unknowns where there are fewer equations than unknowns, and in a square
-/// system with reasons, blocks, dummies, index and freedom.
+/// The incidence of a sound flat model, with the deficit or the least offsets: neither blocks nor dummies and states, whose number
+/// goes by the sum of the offsets.
 ///
 /// Breaks rule 43 at the first equation in which a given variable would be differentiated, and then rule 42 at the model where
 /// there are more than 1,000,000 entries.
 pub(crate) fn analysis_of(alloc: Global, m: &FlatModel) -> Result<Analysis, Stop>
     requires sound { IsSoundModel m.now }
     ensures incidence { IfOk result (λ a. a.incidence ≡ incidence_of m.now) }
-    ensures right { IfOk result (λ a. IsRightReport m.now a.report) }
+    ensures found { IfOk result (λ a. IsFoundOf (incidence_of m.now) a.found) }
     ensures accepted { OnOk result (refusal_of m.now ≡ None) }
     ensures refused { IfBroken result (λ b. refusal_of m.now ≡ Some b) }
 {
     match incidence(alloc, m) {
         Ok(incidence) => {
-            let report = of_incidence(alloc, m, &incidence)?;
-            Ok(Analysis { incidence, report })
+            let found = of_incidence(alloc, &incidence)?;
+            Ok(Analysis { incidence, found })
         }
         Err(Stop::Broken(broken)) => Err(Stop::Broken(broken)),
         Err(Stop::NoMemory) => Err(Stop::NoMemory),
     }
 }
 
-/// What an incidence shows, with the names of a model.
-pub(crate) fn of_incidence(
-    alloc: Global,
-    m: &FlatModel,
-    inc: &Incidence,
-) -> Result<Report, NoMemory>
-    ensures { IfOk result (λ r. IsReportOn m.now inc.now r) }
+/// What an incidence shows.
+pub(crate) fn of_incidence(alloc: Global, inc: &Incidence) -> Result<Found, NoMemory>
+    ensures { IfOk result (λ f. IsFoundOf inc.now f) }
 {
     let mut work = Work::new(alloc, inc.equations(), inc.unknowns(), inc.entries())?;
     let mut steps = Steps::new(());
@@ -75,49 +81,45 @@ pub(crate) fn of_incidence(
     match assign(&counted, &mut work, &mut steps) {
         Assigned::Missing(missing) => {
             let Work { deficit, .. } = work;
-            singular_report(alloc, m, inc, deficit, missing)
+            Ok(left_out(alloc, inc, deficit, missing))
         }
-        Assigned::All => assigned_report(alloc, m, inc, &counted, work, &mut steps),
+        Assigned::All => Ok(assigned(alloc, inc, &counted, work, &mut steps)),
     }
 }
 
-/// The report where so many equations are left out.
-fn singular_report(
-    alloc: Global,
-    m: &FlatModel,
-    inc: &Incidence,
-    deficit: Deficit,
-    _missing: u32,
-) -> Result<Report, NoMemory>
-    requires deficit { IsDeficit inc.now deficit.equations.items deficit.unknowns.items _missing }
+/// Where so many equations are left out.
+fn left_out(alloc: Global, _inc: &Incidence, deficit: Deficit, _missing: u32) -> Found
+    requires deficit { IsDeficit _inc.now deficit.equations.items deficit.unknowns.items _missing }
     requires some { 0 < _missing }
-    ensures { IfOk result (λ r. IsReportOn m.now inc.now r) }
+    ensures { IsFoundOf _inc.now result }
 {
-    let mut report = empty_report(alloc, m, inc)?;
-    report.deficit = Some(deficit);
-    Ok(report)
+    Found {
+        deficit: Some(deficit),
+        offsets: None,
+        loose: Vec::new(alloc),
+        reasons: Vec::new(alloc),
+    }
 }
 
-/// The report where every equation has an unknown.
-fn assigned_report<L>(
+/// Where every equation has an unknown.
+fn assigned<L>(
     alloc: Global,
-    m: &FlatModel,
     inc: &Incidence,
     counted: &Counted<L>,
     mut work: Work,
     steps: &mut Steps<L>,
-) -> Result<Report, NoMemory>
+) -> Found
     requires counted { counted.now ≡ inc.now }
     requires made { IsMadeFor inc.now work }
     requires assigned { IsAssignment inc.now (by_place work.assignment) }
     requires all { CoversAll inc.now (by_place work.assignment) }
-    ensures { IfOk result (λ r. IsReportOn m.now inc.now r) }
+    ensures { IsFoundOf inc.now result }
 {
     if inc.equations() < inc.unknowns() {
         undetermined(inc, &mut work);
         offsets(counted, &mut work, steps);
         let Work { offsets, loose, .. } = work;
-        underdetermined_report(alloc, m, inc, offsets, loose)
+        with_fewer(alloc, inc, offsets, loose)
     } else {
         offsets(counted, &mut work, steps);
         reasons(inc, &mut work);
@@ -126,8 +128,99 @@ fn assigned_report<L>(
             reasons,
             ..
         } = work;
-        square_report(alloc, m, inc, offsets, reasons)
+        with_equal(alloc, inc, offsets, reasons)
     }
+}
+
+/// Where there are fewer equations than unknowns.
+fn with_fewer(alloc: Global, _inc: &Incidence, offsets: Offsets, loose: Vec<u32>) -> Found
+    requires fewer { equations _inc.now < _inc.now.unknowns }
+    requires least { AreLeastOffsets _inc.now offsets }
+    requires loose { ListsWhere (IsUndetermined _inc.now) _inc.now.unknowns loose.items }
+    ensures { IsFoundOf _inc.now result }
+{
+    Found {
+        deficit: None,
+        offsets: Some(offsets),
+        loose,
+        reasons: Vec::new(alloc),
+    }
+}
+
+/// Where there are as many equations as unknowns.
+fn with_equal(alloc: Global, _inc: &Incidence, offsets: Offsets, reasons: Vec<Reason>) -> Found
+    requires square { equations _inc.now ≡ _inc.now.unknowns }
+    requires least { AreLeastOffsets _inc.now offsets }
+    requires reasons { AreReasonsOf _inc.now (by_place offsets.c.items) (by_number offsets.d.items) (by_place offsets.pairs.items) reasons.items }
+    ensures { IsFoundOf _inc.now result }
+{
+    Found {
+        deficit: None,
+        offsets: Some(offsets),
+        loose: Vec::new(alloc),
+        reasons,
+    }
+}
+
+/// The report on a model by what is found of its incidence: in a square system with blocks, dummies, index and freedom.
+pub(crate) fn report_of(
+    alloc: Global,
+    m: &FlatModel,
+    inc: &Incidence,
+    found: Found,
+) -> Result<Report, NoMemory>
+    requires incidence { inc.now ≡ incidence_of m.now }
+    requires found { IsFoundOf inc.now found }
+    ensures right { IfOk result (λ r. IsRightReport m.now r) }
+    ensures offsets { IfOk result (λ r. r.offsets ≡ found.offsets) }
+{
+    let report = report_on(alloc, m, inc, found)?;
+    Ok(report)
+}
+
+/// What is found, with the names of a model.
+fn report_on(
+    alloc: Global,
+    m: &FlatModel,
+    inc: &Incidence,
+    found: Found,
+) -> Result<Report, NoMemory>
+    requires { IsFoundOf inc.now found }
+    ensures on { IfOk result (λ r. IsReportOn m.now inc.now r) }
+    ensures offsets { IfOk result (λ r. r.offsets ≡ found.offsets) }
+{
+    let Found {
+        deficit,
+        offsets,
+        loose,
+        reasons,
+    } = found;
+    match offsets {
+        None => singular_report(alloc, m, inc, deficit),
+        Some(offsets) => {
+            if inc.equations() < inc.unknowns() {
+                underdetermined_report(alloc, m, inc, offsets, loose)
+            } else {
+                square_report(alloc, m, inc, offsets, reasons)
+            }
+        }
+    }
+}
+
+/// The report where equations are left out.
+fn singular_report(
+    alloc: Global,
+    m: &FlatModel,
+    inc: &Incidence,
+    deficit: Option<Deficit>,
+) -> Result<Report, NoMemory>
+    requires { IsLeftOut inc.now deficit }
+    ensures on { IfOk result (λ r. IsReportOn m.now inc.now r) }
+    ensures offsets { IfOk result (λ r. r.offsets ≡ None) }
+{
+    let mut report = empty_report(alloc, m, inc)?;
+    report.deficit = deficit;
+    Ok(report)
 }
 
 /// The report where there are fewer equations than unknowns.
@@ -141,7 +234,8 @@ fn underdetermined_report(
     requires fewer { equations inc.now < inc.now.unknowns }
     requires least { AreLeastOffsets inc.now offsets }
     requires loose { ListsWhere (IsUndetermined inc.now) inc.now.unknowns loose.items }
-    ensures { IfOk result (λ r. IsReportOn m.now inc.now r) }
+    ensures on { IfOk result (λ r. IsReportOn m.now inc.now r) }
+    ensures offsets { IfOk result (λ r. r.offsets ≡ Some offsets) }
 {
     let mut report = empty_report(alloc, m, inc)?;
     report.orders = orders(alloc, inc, &offsets)?;
@@ -161,7 +255,8 @@ fn square_report(
     requires square { equations inc.now ≡ inc.now.unknowns }
     requires least { AreLeastOffsets inc.now offsets }
     requires reasons { AreReasonsOf inc.now (by_place offsets.c.items) (by_number offsets.d.items) (by_place offsets.pairs.items) reasons.items }
-    ensures { IfOk result (λ r. IsReportOn m.now inc.now r) }
+    ensures on { IfOk result (λ r. IsReportOn m.now inc.now r) }
+    ensures offsets { IfOk result (λ r. r.offsets ≡ Some offsets) }
 {
     let mut report = empty_report(alloc, m, inc)?;
     report.orders = orders(alloc, inc, &offsets)?;

@@ -2,12 +2,13 @@
 ghost use Rattle.std.specs.Prelude.{◌≡◌, ◌++◌, None, length, string_bytes, IfOk, OnOk};
 ghost use Rattle.mo_lexer.specs.Lexing.{IfBroken};
 ghost use Rattle.mo_flat.specs.Sound.{IsSoundModel};
-ghost use Rattle.mo_report.specs.Right.{IsRightReport};
+ghost use Rattle.mo_incidence.specs.Model.{incidence_of, refusal_of};
 ghost use Rattle.mo_front.specs.Emitted.{PhasesBreak, Refuses, asked_by};
+ghost use Rattle.mo_front.specs.Structure.{IsFoundOf};
 ghost use Rattle.mo_front.specs.Ladder.{IsSummary, counts_text, named_number, structure_text, summary_line};
 
 use crate::emit::passed;
-use crate::structure::analysis_of;
+use crate::structure::{Analysis, analysis_of, report_of};
 use crate::table::phases;
 use crate::words::Emit;
 use itoa::Buffer;
@@ -23,22 +24,26 @@ pub(crate) fn summary_of(alloc: Global, n: u32, m: &FlatModel) -> Result<Text, S
     ensures refused { IfBroken result (λ b. Refuses Emit.Report m.now b) }
 {
     match analysis_of(alloc, m) {
-        Ok(analysis) => summary_by(alloc, n, m, &analysis.report),
+        Ok(analysis) => match passed(alloc, m, &analysis.found.offsets, phases(Emit::Report)) {
+            Ok(_made) => Ok(summary_by(alloc, n, m, analysis)?),
+            Err(stop) => Err(stop),
+        },
         Err(stop) => Err(stop),
     }
 }
 
-/// The line by the report on the model, or the rule that the size of the report breaks.
-fn summary_by(alloc: Global, n: u32, m: &FlatModel, r: &Report) -> Result<Text, Stop>
-    requires right { IsRightReport m.now r.now }
-    ensures passed { OnOk result (PhasesBreak m.now r.now (asked_by Emit.Report).phases None) }
-    ensures line { IfOk result (λ text. text ≡ summary_line n m.now r.now) }
-    ensures refused { IfBroken result (λ b. PhasesBreak m.now r.now (asked_by Emit.Report).phases (Some b)) }
+/// The line by the report on the model.
+fn summary_by(alloc: Global, n: u32, m: &FlatModel, a: Analysis) -> Result<Text, NoMemory>
+    requires accepted { refusal_of m.now ≡ None }
+    requires incidence { a.incidence ≡ incidence_of m.now }
+    requires found { IsFoundOf (incidence_of m.now) a.found }
+    requires passed { PhasesBreak m.now a.found.offsets (asked_by Emit.Report).phases None }
+    ensures { IfOk result (IsSummary n m.now) }
 {
-    match passed(alloc, m, r, phases(Emit::Report)) {
-        Ok(_made) => Ok(line(alloc, n, m, r)?),
-        Err(stop) => Err(stop),
-    }
+    let Analysis { incidence, found } = a;
+    let report = report_of(alloc, m, &incidence, found)?;
+    let text = line(alloc, n, m, &report)?;
+    Ok(text)
 }
 
 fn line(alloc: Global, n: u32, m: &FlatModel, r: &Report) -> Result<Text, NoMemory>

@@ -20,8 +20,6 @@ pub(crate) enum Part {
     Flat,
     /// The text of the reduced model, where there is one.
     Reduced,
-    /// The text of the reduced model, or the report where there is none.
-    ReducedOrReport,
     /// The report on the structure.
     Report,
     /// The report as JSON, and a line feed.
@@ -44,14 +42,13 @@ pub(crate) fn phases(emit: Emit) -> &'static [Phase]
     }
 }
 
-/// The texts that go by the report, one behind the other.
+/// The texts that go by the report, one behind the other; for the reduced model those of a model that has none.
 pub(crate) fn parts(emit: Emit) -> &'static [Part]
     ensures { result.now ≡ (asked_by emit).parts }
 {
     match emit {
         Emit::Flat => &[Part::Flat],
-        Emit::Reduced => &[Part::ReducedOrReport],
-        Emit::Report => &[Part::Report],
+        Emit::Reduced | Emit::Report => &[Part::Report],
         Emit::All => &[Part::Flat, Part::Reduced, Part::Report],
         Emit::Json => &[Part::Json],
         Emit::States => &[Part::StatesOrReport],

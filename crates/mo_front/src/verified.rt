@@ -3,19 +3,19 @@ ghost use Rattle.std.specs.Prelude.{◌≡◌, ◌≤◌, ◌++◌, None, Some, 
 ghost use Rattle.mo_lexer.specs.Lexing.{IfBroken};
 ghost use Rattle.mo_flat.specs.Sound.{IsSoundModel};
 ghost use Rattle.mo_incidence.specs.Model.{refusal_of};
-ghost use Rattle.mo_report.specs.Right.{IsRightReport};
-ghost use Rattle.mo_front.specs.Emitted.{PhasesBreak, Refuses, asked_by, status_of};
+ghost use Rattle.mo_front.specs.Emitted.{PhasesBreak, Refuses, asked_by, least_status};
+ghost use Rattle.mo_front.specs.Least.{IsLeastOf};
 ghost use Rattle.mo_front.specs.Limits.{printed_limit};
 ghost use Rattle.mo_front.specs.Verified.{IsJudged, SaysVerdict, equation_word, line_word, said_of, verdict_line, verdict_status};
 
-use crate::emit::{passed, status_of};
+use crate::emit::{least_status, passed};
 use crate::status::Status;
 use crate::structure::analysis_of;
 use crate::table::phases;
 use crate::words::Emit;
 use itoa::Buffer;
 use mo_flat::FlatModel;
-use mo_report::Report;
+use mo_incidence::Offsets;
 use mo_syntax::{NoMemory, Stop, Text};
 use mo_verify::{Verdict, verify};
 use std::alloc::Global;
@@ -29,23 +29,28 @@ pub(crate) fn judged(alloc: Global, m: &FlatModel, bytes: &[u8]) -> Result<(Stat
     ensures refused { IfBroken result (λ b. Refuses Emit.Report m.now b) }
 {
     match analysis_of(alloc, m) {
-        Ok(analysis) => judged_by(alloc, m, &analysis.report, bytes),
+        Ok(analysis) => judged_by(alloc, m, &analysis.found.offsets, bytes),
         Err(stop) => Err(stop),
     }
 }
 
-/// The line by the report on the model, or the rule that the size of the report breaks.
-fn judged_by(alloc: Global, m: &FlatModel, r: &Report, bytes: &[u8]) -> Result<(Status, Text), Stop>
+/// The line by the least offsets of the model, or the rule that the size of a report breaks.
+fn judged_by(
+    alloc: Global,
+    m: &FlatModel,
+    least: &Option<Offsets>,
+    bytes: &[u8],
+) -> Result<(Status, Text), Stop>
     requires sound { IsSoundModel m.now }
     requires accepted { refusal_of m.now ≡ None }
-    requires right { IsRightReport m.now r.now }
+    requires least { IsLeastOf m.now least.now }
     requires few { length bytes.now ≤ printed_limit }
-    ensures passed { OnOk result (PhasesBreak m.now r.now (asked_by Emit.Report).phases None) }
-    ensures says { IfOk result (λ a. SaysVerdict m.now bytes.now (status_of r.now) a.0 a.1) }
-    ensures refused { IfBroken result (λ b. PhasesBreak m.now r.now (asked_by Emit.Report).phases (Some b)) }
+    ensures passed { OnOk result (PhasesBreak m.now least.now (asked_by Emit.Report).phases None) }
+    ensures says { IfOk result (λ a. SaysVerdict m.now bytes.now (least_status least.now) a.0 a.1) }
+    ensures refused { IfBroken result (λ b. PhasesBreak m.now least.now (asked_by Emit.Report).phases (Some b)) }
 {
-    match passed(alloc, m, r, phases(Emit::Report)) {
-        Ok(_made) => Ok(verdict_told(alloc, m, bytes, status_of(r))?),
+    match passed(alloc, m, least, phases(Emit::Report)) {
+        Ok(_made) => Ok(verdict_told(alloc, m, bytes, least_status(least))?),
         Err(stop) => Err(stop),
     }
 }

@@ -10,7 +10,6 @@ use Rattle.mo_symdiff.specs.Reduced.{differentiates_given, first_given, too_larg
 use Rattle.mo_incidence.specs.Model.{first_uncarried, incidence_of, refusal_of, refused}
 use Rattle.mo_incidence.specs.Signature.{entries}
 use Rattle.mo_incidence.specs.declared.findings.Offsets.{Offsets}
-use Rattle.mo_report.specs.declared.report.Report.{Report}
 use Rattle.mo_front.specs.declared.words.Emit.{Emit}
 use Rattle.mo_front.specs.declared.words.Emit.TheVariants as emit
 use Rattle.mo_front.specs.Emitted.{PhasesBreak, this_one, later, ReducedBreaks, no_offsets, given, large, nothing, Refuses, no_incidence, no_text, asked_by, report_refusal}
@@ -62,18 +61,18 @@ module _ (P : Written → Type 0) where
     reduced_stands (Some offsets) o (large none past) = stands.place
     reduced_stands (Some offsets) o (nothing none within) = tt
 
-    report_stands : (r : Report) (o : Option Broken) → report_refusal m r ≡ o → IfAny BrokenAt o
+    report_stands : (r : Option Offsets) (o : Option Broken) → report_refusal m r ≡ o → IfAny BrokenAt o
     report_stands r o is = subst (IfAny BrokenAt) is (size_stands _)
 
     -- the phases of each value, one by one
-    phases_stand : (asked : Emit) (r : Report) (b : Broken) → PhasesBreak m r (asked_by asked).phases (Some b) → BrokenAt b
+    phases_stand : (asked : Emit) (r : Option Offsets) (b : Broken) → PhasesBreak m r (asked_by asked).phases (Some b) → BrokenAt b
     phases_stand emit.Flat r b breaks = elim breaks [ ]
-    phases_stand emit.Reduced r b (this_one breaks) = reduced_stands r.offsets (Some b) breaks
+    phases_stand emit.Reduced r b (this_one breaks) = reduced_stands r (Some b) breaks
     phases_stand emit.Reduced r b (later passed more) = elim more [ ]
     phases_stand emit.Report r b (this_one breaks) = report_stands r (Some b) breaks
     phases_stand emit.Report r b (later passed more) = elim more [ ]
     phases_stand emit.All r b (this_one breaks) = report_stands r (Some b) breaks
-    phases_stand emit.All r b (later passed (this_one breaks)) = reduced_stands r.offsets (Some b) breaks
+    phases_stand emit.All r b (later passed (this_one breaks)) = reduced_stands r (Some b) breaks
     phases_stand emit.All r b (later passed (later others more)) = elim more [ ]
     phases_stand emit.Json r b (this_one breaks) = report_stands r (Some b) breaks
     phases_stand emit.Json r b (later passed more) = elim more [ ]

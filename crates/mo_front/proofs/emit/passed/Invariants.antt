@@ -5,4 +5,4 @@ use Rattle.mo_front.proofs.Emitting.{Passed}
 use Rattle.mo_front.proofs.emit.passed.Given as goal
 
 abbrev pub invariant-loop-phase : goal.invariant-loop-phase
-invariant-loop-phase l = Passed l.m l.r l.phases (drop l.phase-index l.phases) × IfSome l.made (λ part. part ≡ reduced_part l.m l.r.offsets)
+invariant-loop-phase l = Passed l.m l.least l.phases (drop l.phase-index l.phases) × IfSome l.made (λ part. part ≡ reduced_part l.m l.least)

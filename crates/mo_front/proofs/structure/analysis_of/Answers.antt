@@ -1,9 +1,10 @@
-use Rattle.std.proofs.Common.{◌≡◌}
+use Rattle.std.proofs.Common.{◌≡◌, subst}
 use Rattle.mo_incidence.specs.Model.{incidence_of}
-use Rattle.mo_front.proofs.Structuring.{right-report}
+use Rattle.mo_incidence.specs.Signature.{Signature}
+use Rattle.mo_front.specs.Structure.{IsFoundOf}
 use Rattle.mo_front.proofs.structure.analysis_of.Goals as goal
 
-pub returns-in_ok-report-in-Ok-clause-right : goal.returns-in_ok-report-in-Ok-clause-right
-returns-in_ok-report-in-Ok-clause-right c =
+pub returns-in_ok-found-in-Ok-clause-found : goal.returns-in_ok-found-in-Ok-clause-found
+returns-in_ok-found-in-Ok-clause-found c =
     let is : c.in-Ok.incidence ≡ incidence_of c.args.m.now = c.in-Ok.ensures.ok c.requires.sound in
-    right-report _ _ _ (cc) c.in_ok-report-in-Ok.ensures
+    subst (λ (g : Signature). IsFoundOf g c.in_ok-found-in-Ok.found) is c.in_ok-found-in-Ok.ensures

@@ -1,11 +1,11 @@
 -- The line by the right report.
-use Rattle.mo_front.proofs.Laddering.{report-refused, summed-up}
+use Rattle.mo_front.proofs.Laddering.{report-refused}
+use Rattle.mo_front.proofs.Structuring.{least-of-found}
 use Rattle.mo_front.proofs.summary.summary_of.Goals as goal
 
-pub returns-in-Ok-clause-sums : goal.returns-in-Ok-clause-sums
-returns-in-Ok-clause-sums c =
-    summed-up _ _ c.in-Ok.analysis.report c.in-Ok.ensures.accepted c.in-Ok.ensures.right c.summary_by.result c.summary_by.ensures.passed c.summary_by.ensures.line
+pub passed-requires : goal.passed-requires
+passed-requires c = least-of-found _ _ c.in-Ok.ensures.found
 
-pub returns-in-Ok-clause-refused : goal.returns-in-Ok-clause-refused
-returns-in-Ok-clause-refused c =
-    report-refused c.args.n _ c.in-Ok.analysis.report c.in-Ok.ensures.accepted c.in-Ok.ensures.right c.summary_by.result c.summary_by.ensures.refused
+pub returns-in-Err-passed-clause-refused : goal.returns-in-Err-passed-clause-refused
+returns-in-Err-passed-clause-refused c =
+    report-refused _ c.in-Ok.analysis.found.offsets c.passed.result _ c.in-Err-passed.is c.in-Ok.ensures.accepted (least-of-found _ _ c.in-Ok.ensures.found) (rw c.phases.ensures at c.passed.ensures.refused)

@@ -1,10 +1,10 @@
 use Rattle.std.proofs.Common.{◌≤◌, arith}
 use Rattle.mo_incidence.specs.Signature.{equations}
 use Rattle.mo_front.proofs.Structuring.{few-equations}
-use Rattle.mo_front.proofs.structure.assigned_report.Goals as goal
+use Rattle.mo_front.proofs.structure.assigned.Goals as goal
 
-pub square_report-requires-clause-square : goal.square_report-requires-clause-square
-square_report-requires-clause-square g c =
+pub with_equal-requires-clause-square : goal.with_equal-requires-clause-square
+with_equal-requires-clause-square g c =
     let few : equations c.args.inc.now ≤ c.args.inc.now.unknowns =
     few-equations _ _ c.equations.ensures.sound c.requires.assigned c.requires.all in
     omega arith
