@@ -106,13 +106,6 @@ outwards_step table asking bare near (In class sources outer at owner) place nam
     by_here (Some met) = refl
     by_here None = sym (closed_or_not (is_closed table (In class sources outer at owner)) table asking place name outer)
 
--- what one frame gives for the walk outwards
-pub here_or_past : (table : Table) (asking : Asking) (bare near : Bool) (frame : Frame) (place : Place) (name : List ℕ) (here : Option Met) (all : Outcome Met) → is_top frame ≡ false →
-    found_from table asking bare near frame place name ≡ all → found_in table asking bare near frame place name ≡ Ok here → or_on here (and_then (past table place frame name) (go_on table asking place name)) ≡ all
-here_or_past table asking bare near frame place name here all no_top left is =
-    then_ok (found_in table asking bare near frame place name) (λ h. or_on h (and_then (past table place frame name) (go_on table asking place name))) here all
-    (outwards_step table asking bare near frame place name no_top ∙ left) is
-
 -- how many frames are around one
 abbrev pub depth : Frame → ℕ
 depth Top = 0

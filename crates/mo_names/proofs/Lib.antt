@@ -4,6 +4,7 @@ pub mod Children
 pub mod Circling
 pub mod Counting
 pub mod Ends
+pub mod HandedOn
 pub mod Joining
 pub mod Later
 pub mod Listing

@@ -1,7 +1,6 @@
 -- Outcomes, one after another, and answers that are told of them.
 use Rattle.std.proofs.Common.{◌≡◌, Result, Ok, Err, sym, subst, ◌∙◌}
 use Rattle.mo_syntax.specs.declared.place.Stop.{Stop}
-use Rattle.mo_syntax.specs.declared.place.Stop.TheVariants.{Broken as broken_by, NoMemory as no_memory}
 use Rattle.mo_scope.specs.Outcome.{Outcome, Gives, and_then}
 use Rattle.mo_names.proofs.Circling.{err_on, then_ok}
 
@@ -17,11 +16,3 @@ gives_same view r o all same value = subst (Gives view r) same value
 -- what follows from a value
 pub then_same_ok : {A B : Type 0} (o o' : Outcome A) (f : A → Outcome B) (a : A) (all : Outcome B) → o ≡ o' → and_then o' f ≡ all → o ≡ Ok a → f a ≡ all
 then_same_ok o o' f a all same is ok = then_ok o' f a all is (sym same ∙ ok)
-
--- an answer that is no value stays
-pub exit_is : {T U A : Type 0} (view : T → A) (view' : U → A) (r : Result U Stop) (e : Stop) (o all : Outcome A) → r ≡ Err e → o ≡ all → Gives view (Err e) o → Gives view' r all
-exit_is view view' r e o all is same value = rw is (by e (subst (Gives view (Err e)) same value))
-  where
-    by : (e : Stop) → Gives view (Err e) all → Gives view' (Err e) all
-    by (broken_by b) told = told
-    by no_memory told = tt

@@ -7,7 +7,7 @@ use Rattle.mo_syntax.specs.declared.place.Place.{Place}
 use Rattle.mo_scope.specs.Outcome.{Outcome, and_then, breaks}
 use Rattle.mo_scope.specs.Rows.{Table, Row, Part, Element_of, Base_of, Declares, Clause, is_class, is_left_out}
 use Rattle.mo_scope.specs.Frames.{Frame, Scope, Member}
-use Rattle.mo_scope.specs.Lookup.{Found, Reached, Element, Met, Classed, Inherited, Walked, Asking, met, counted, behind_class, class_wanted, first_at_top, and_also, found_by_import, found_by_star, found_first, classed, base_frame, base_of, leaf_of, nothing_walked}
+use Rattle.mo_scope.specs.Lookup.{Found, Reached, Element, Other, Absent, Met, Classed, Inherited, Walked, Asking, met, counted, behind_class, class_wanted, first_at_top, and_also, found_by_import, found_by_star, found_first, classed, base_frame, base_of, leaf_of, nothing_walked}
 
 -- ---- a name behind a dot
 
@@ -18,6 +18,18 @@ open_element table place frame member = if member.hidden then breaks 17 place el
 abbrev pub element_behind : Table → Place → Option Place → Frame → Member → Outcome Found
 element_behind table place None frame member = open_element table place frame member
 element_behind table place (Some wrong) frame member = if is_class member.declares then open_element table place frame member else breaks 13 wrong
+
+-- what stands behind a class, of what was reached there and counts
+abbrev pub reached_behind : Table → Place → Option Place → Frame → Reached → Outcome Found
+reached_behind table place component frame (Element member) = element_behind table place component frame member
+reached_behind table place component frame (Other found) = Ok found
+reached_behind table place component frame Absent = breaks 12 place
+
+-- asks that an element that is reached counts
+abbrev pub counted_reached : Table → Asking → (ask : Place) → (place : Place) → Frame → Reached → Outcome Reached
+counted_reached table asking ask place frame (Element member) = and_then (counted table asking ask place frame member) (λ counted. Ok (Element counted))
+counted_reached table asking ask place frame (Other found) = Ok (Other found)
+counted_reached table asking ask place frame Absent = Ok Absent
 
 -- ---- imports
 
@@ -45,11 +57,17 @@ package_behind table asking ask place frame (name ∷ names) =
 abbrev pub package_at_top : Table → (place : Place) → List ℕ → Outcome Frame
 package_at_top table place name = and_then (first_at_top table place name) (class_wanted place)
 
--- an element that is reached through `.*`
-abbrev pub star_element : Table → Asking → (ask : Place) → (place : Place) → Frame → Member → Outcome (Option Found)
-star_element table asking ask place frame member =
-    if member.hidden then Ok None else
-    and_then (counted table asking ask place frame member) (λ counted. and_then (met table frame counted) (λ found. Ok (Some found)))
+-- what is reached through `.*`: a protected element is not there
+abbrev pub shown : Reached → Outcome Reached
+shown (Element member) = if member.hidden then Ok Absent else Ok (Element member)
+shown (Other found) = Ok (Other found)
+shown Absent = Ok Absent
+
+-- what a name finds through `.*`, of what was reached there and counts
+abbrev pub reached_by_star : Table → Frame → Reached → Outcome (Option Found)
+reached_by_star table frame (Element member) = and_then (met table frame member) (λ found. Ok (Some found))
+reached_by_star table frame (Other found) = Ok (Some found)
+reached_by_star table frame Absent = Ok None
 
 -- what an import clause finds, by its names or by its star
 abbrev pub found_by : Table → Asking → (ask : Place) → (star : Bool) → List ℕ → Import → Outcome (Option Found)
@@ -86,6 +104,11 @@ element_met table frame other = Ok None
 abbrev pub met_or : Bool → Option Found → Outcome (Option Met) → Outcome (Option Met)
 met_or near (Some found) others = Ok (Some (record { found = found; near = near }))
 met_or near None others = others
+
+-- all that is found is met
+abbrev pub all_met : Bool → Option Found → Outcome (Option Met)
+all_met near None = Ok None
+all_met near (Some found) = Ok (Some (record { found = found; near = near }))
 
 abbrev pub imported_met : Option Found → Option Met
 imported_met None = None

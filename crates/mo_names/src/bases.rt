@@ -17,12 +17,13 @@ ghost use Rattle.mo_names.specs.Steps.{base_at, class_step as classed_step, firs
 use crate::circle::{behind_class, found_in, walked};
 use crate::depth::depth_of_lookup;
 use crate::found::{Ask, Classed, Found, Met};
+use crate::given::{classed_given, classed_met, met_at_top};
 use crate::join::with_base;
 use crate::own_walk::own_walked;
 use crate::parts::{part_at, part_count};
-use crate::past::{Past, past_frame};
-use crate::reach::{classed, first_at_top, iteration};
-use crate::start::{base_entered, last_place, leaf_checked, started};
+use crate::past::{Next, next_past};
+use crate::reach::iteration;
+use crate::start::{base_entered, last_place, started, walk_checked};
 use crate::stops::stop;
 use crate::walk::Walk;
 use mo_scope::{Clause, Part, ScopeAt, Scopes};
@@ -49,13 +50,10 @@ fn found_from<'t>(
     let mut own = bare;
     let mut at_hand = near;
     loop {
-        let here = found_in(alloc, s, ask, own, at_hand, frame, name)?;
-        if let Some(met) = here {
-            return Ok(met);
-        }
-        match past_frame(alloc, s, ask.place, frame, name)? {
-            Past::Found(found) => return Ok(Met { found, near: false }),
-            Past::Around(outer) => {
+        let here = found_in(alloc, s, ask, own, at_hand, frame, name);
+        match next_past(alloc, s, ask.place, frame, name, &here) {
+            Next::Ends(met) => return met,
+            Next::Around(outer) => {
                 frame = outer;
                 own = false;
                 at_hand = false;
@@ -81,8 +79,7 @@ pub(crate) fn found_first<'t>(
     ensures stand { IfOk result (λ met. IsFound s.new met.found) }
 {
     if top {
-        let found = first_at_top(alloc, s, ask.place, name)?;
-        return Ok(Met { found, near: false });
+        return met_at_top(alloc, s, ask.place, name);
     }
     match iteration(scope.iters.as_slice(), name) {
         Some(value) => Ok(Met {
@@ -115,8 +112,8 @@ fn first_class(
         place: part.place,
         depth: ask.depth,
     };
-    let met = found_first(alloc, s, &here, bare, top, scope, &part.name)?;
-    classed(s, part.place, &met.found)
+    let met = found_first(alloc, s, &here, bare, top, scope, &part.name);
+    classed_met(s, part.place, &met)
 }
 
 /// The class that the first identifier of a name finds.
@@ -171,8 +168,8 @@ fn class_step(
         depth: ask.depth,
     };
     let place = part.place;
-    let found = behind_class(alloc, s, &here, place, Some(place), class.frame, &part.name)?;
-    classed(s, place, &found)
+    let found = behind_class(alloc, s, &here, place, Some(place), class.frame, &part.name);
+    classed_given(s, place, &found)
 }
 
 /// The class that further identifiers find.
@@ -383,7 +380,6 @@ pub(crate) fn walked_class<'t>(
     ensures stand { IfOk result (IsWalk s.new) }
 {
     let mut walk = started(alloc, s, frame)?;
-    walked_parts(alloc, s, ask, frame, &mut walk)?;
-    leaf_checked(s, &walk)?;
-    Ok(walk)
+    let done = walked_parts(alloc, s, ask, frame, &mut walk);
+    walk_checked(s, done, walk)
 }

@@ -3,25 +3,25 @@
 
 ghost use Rattle.std.specs.Prelude.{◌≡◌, ◌+◌, ◌<◌, ◌∷◌, drop, length, map, option_map, IfOk, IfSome, Some, None};
 ghost use Rattle.mo_scope.specs.Frames.{class_of};
-ghost use Rattle.mo_scope.specs.Lookup.{behind_class as found_behind_class, counted as counted_member, found_element as element_found, found_in as found_in_frame, found_by_import as found_by_clause, found_by_star as found_by_its_star, import_behind as names_behind, imported as found_imported, imported_package as package_imported, is_package as is_package_frame, reached as reached_of, through_star as found_through_star, walked as walked_of};
-ghost use Rattle.mo_scope.specs.Outcome.{Gives};
+ghost use Rattle.mo_scope.specs.Lookup.{Reached as ReachedSeen, behind_class as found_behind_class, counted as counted_member, found_element as element_found, found_in as found_in_frame, found_by_import as found_by_clause, found_by_star as found_by_its_star, import_behind as names_behind, imported as found_imported, imported_package as package_imported, is_package as is_package_frame, reached as reached_of, through_star as found_through_star, walked as walked_of};
+ghost use Rattle.mo_scope.specs.Outcome.{Gives, Outcome, and_then};
 ghost use Rattle.mo_scope.specs.Rows.{row_at};
 ghost use Rattle.mo_scope.specs.Worlds.{Grows, IsFrame, frame_at, frames_of, table_in};
 ghost use Rattle.mo_names.specs.Sights.{IsFound, IsMember, IsReached, IsWalk, asks, found_in as found_seen, member_of, met_seen, reached_seen, walk_seen};
 ghost use Rattle.mo_names.specs.Parts.{imports_of};
-ghost use Rattle.mo_names.specs.Steps.{also_found, before_dot as place_before, found_by as found_by_kind, found_by_all, found_by_names_or_stars, imports_met, import_step as found_step, package_at_top as top_package, package_behind as packages_behind, package_step as stepped_package, star_element as found_star_element};
+ghost use Rattle.mo_names.specs.Steps.{also_found, counted_reached as reached_counted, before_dot as place_before, found_by as found_by_kind, found_by_all, found_by_names_or_stars, imports_met, import_step as found_step, package_at_top as top_package, package_behind as packages_behind, package_step as stepped_package};
 
 use crate::bases::walked_class;
-use crate::class_element::met;
 use crate::depth::depth_inside;
 use crate::found::{Ask, Found, Met, Reached};
-use crate::importing::{import_at, import_count, imported_names};
-use crate::kept::{kept_package, kept_reached, walk_kept};
-use crate::own::{are_own_open, own_named};
-use crate::reach::{
-    and_also, are_all_open, behind_element, class_wanted, element_met, first_at_top, is_busy,
-    reached_in, reached_own,
+use crate::given::{
+    also_given, are_open_given, behind_given, class_given, element_given, met_given, own_met,
+    reached_given, star_given,
 };
+use crate::importing::{import_at, import_count, imported_names};
+use crate::kept::{kept_package, reached_at_hand, walk_given};
+use crate::own::are_own_open;
+use crate::reach::{class_wanted, first_at_top, is_busy, shown};
 use crate::start::busy_with;
 use crate::stops::stop;
 use crate::walk::Walk;
@@ -73,9 +73,8 @@ pub(crate) fn walked_and_kept<'t>(
     ensures value { Gives (walk_seen (frames_of s.new)) result (walked_of (table_in s.old) ask.now.left ask.now.busy.now ask.now.place (frame_at s.old frame.0)) }
     ensures stand { IfOk result (IsWalk s.new) }
 {
-    let walk = walked(alloc, s, ask, frame)?;
-    walk_kept(alloc, s, ask, frame, &walk)?;
-    Ok(walk)
+    let walk = walked(alloc, s, ask, frame);
+    walk_given(alloc, s, ask, frame, walk)
 }
 
 /// What a name reaches: among the elements of a frame the own ones come first, and its bases are found only where none of them
@@ -93,14 +92,13 @@ pub(crate) fn reached<'t>(
     ensures value { Gives (reached_seen (frames_of s.new)) result (reached_of (table_in s.old) (asks (table_in s.old) ask.now) ask.now.place (frame_at s.old frame.0) name.now) }
     ensures stand { IfOk result (IsReached s.new) }
 {
-    if let Some(known) = kept_reached(s, ask, frame, name) {
-        return Ok(known);
+    match reached_at_hand(s, ask, frame, name) {
+        Some(any) => any,
+        None => {
+            let walk = walked_and_kept(alloc, s, ask, frame);
+            reached_given(s, walk, name)
+        }
     }
-    if let Some(member) = own_named(s, frame, name)? {
-        return Ok(Reached::Element(member));
-    }
-    let walk = walked_and_kept(alloc, s, ask, frame)?;
-    Ok(reached_in(s, &walk, name)?)
 }
 
 /// Whether the class of a frame declares nothing but classes and constants.
@@ -116,8 +114,8 @@ fn is_package(alloc: Global, s: &mut Scopes, ask: &Ask, frame: FrameId) -> Resul
     if is_busy(ask.busy, s.class_of(frame)) {
         return Ok(are_own_open(s, frame));
     }
-    let walk = walked_and_kept(alloc, s, ask, frame)?;
-    Ok(are_all_open(walk.members.as_slice()))
+    let walk = walked_and_kept(alloc, s, ask, frame);
+    are_open_given(s, walk)
 }
 
 /// Asks that an element counts behind a class: in a class that is no package only encapsulated elements do.
@@ -144,6 +142,33 @@ fn counted<'t>(
     Err(stop(16, place))
 }
 
+/// What was reached in a frame, if it counts behind a class.
+#[cycle(names)]
+fn counted_given<'t>(
+    alloc: Global,
+    s: &mut Scopes<'t>,
+    ask: &Ask,
+    place: Place,
+    frame: FrameId,
+    any: &Result<Reached<'t>, Stop>,
+) -> Result<Reached<'t>, Stop>
+    requires frame { IsFrame s.old frame.0 }
+    requires any { IfOk any.now (IsReached s.old) }
+    ensures grows { Grows s.old s.new }
+    ensures value { (told : Outcome ReachedSeen) → Gives (reached_seen (frames_of s.old)) any.now told → Gives (reached_seen (frames_of s.new)) result (and_then told (reached_counted (table_in s.old) (asks (table_in s.old) ask.now) ask.now.place place (frame_at s.old frame.0))) }
+    ensures stand { IfOk result (IsReached s.new) }
+{
+    match any {
+        Ok(Reached::Element(member)) => {
+            counted(alloc, s, ask, place, frame, member)?;
+            Ok(Reached::Element(*member))
+        }
+        Ok(Reached::Other(found)) => Ok(Reached::Other(*found)),
+        Ok(Reached::Absent) => Ok(Reached::Absent),
+        Err(stop) => Err(*stop),
+    }
+}
+
 /// What stands behind a class.
 #[cycle(names)]
 pub(crate) fn behind_class<'t>(
@@ -160,14 +185,9 @@ pub(crate) fn behind_class<'t>(
     ensures value { Gives (found_seen (frames_of s.new)) result (found_behind_class (table_in s.old) (asks (table_in s.old) ask.now) ask.now.place place component (frame_at s.old frame.0) name.now) }
     ensures stand { IfOk result (IsFound s.new) }
 {
-    match reached(alloc, s, ask, frame, name)? {
-        Reached::Element(member) => {
-            counted(alloc, s, ask, place, frame, &member)?;
-            behind_element(alloc, s, place, component, frame, &member)
-        }
-        Reached::Other(found) => Ok(found),
-        Reached::Absent => Err(stop(12, place)),
-    }
+    let any = reached(alloc, s, ask, frame, name);
+    let counts = counted_given(alloc, s, ask, place, frame, &any);
+    behind_given(alloc, s, place, component, frame, &counts)
 }
 
 /// One name of an import.
@@ -263,8 +283,8 @@ fn package_step(
     ensures value { Gives (λ frame. frame_at s.new frame.0) result (stepped_package (table_in s.old) (asks (table_in s.old) ask.now) ask.now.place place (frame_at s.old frame.0) name.now) }
     ensures stand { IfOk result (λ frame. IsFrame s.new frame.0) }
 {
-    let found = behind_class(alloc, s, ask, place, Some(place), frame, name)?;
-    class_wanted(s, place, &found)
+    let found = behind_class(alloc, s, ask, place, Some(place), frame, name);
+    class_given(s, place, &found)
 }
 
 /// The package that further names before `.*` find.
@@ -295,8 +315,8 @@ fn package_at_top(alloc: Global, s: &mut Scopes, place: Place, name: &Text) -> R
     ensures value { Gives (λ frame. frame_at s.new frame.0) result (top_package (table_in s.old) place name.now) }
     ensures stand { IfOk result (λ frame. IsFrame s.new frame.0) }
 {
-    let found = first_at_top(alloc, s, place, name)?;
-    class_wanted(s, place, &found)
+    let found = first_at_top(alloc, s, place, name);
+    class_given(s, place, &found)
 }
 
 /// The package before `.*`, of a first name and those behind it.
@@ -336,29 +356,6 @@ fn imported_package(
     }
 }
 
-/// An element that is reached through `.*`.
-#[cycle(names)]
-fn star_element<'t>(
-    alloc: Global,
-    s: &mut Scopes<'t>,
-    ask: &Ask,
-    place: Place,
-    frame: FrameId,
-    member: &Member<'t>,
-) -> Result<Option<Found<'t>>, Stop>
-    requires frame { IsFrame s.old frame.0 }
-    requires member { IsMember s.old member.now }
-    ensures grows { Grows s.old s.new }
-    ensures value { Gives (option_map (found_seen (frames_of s.new))) result (found_star_element (table_in s.old) (asks (table_in s.old) ask.now) ask.now.place place (frame_at s.old frame.0) (member_of (frames_of s.old) member.now)) }
-    ensures stand { IfOk result (λ found. IfSome found (IsFound s.new)) }
-{
-    if member.hidden {
-        return Ok(None);
-    }
-    counted(alloc, s, ask, place, frame, member)?;
-    Ok(Some(met(alloc, s, frame, member)?))
-}
-
 /// What a name finds through `.*` of a package.
 #[cycle(names)]
 fn through_star<'t>(
@@ -374,11 +371,10 @@ fn through_star<'t>(
     ensures value { Gives (option_map (found_seen (frames_of s.new))) result (found_through_star (table_in s.old) (asks (table_in s.old) ask.now) ask.now.place place (frame_at s.old frame.0) name.now) }
     ensures stand { IfOk result (λ found. IfSome found (IsFound s.new)) }
 {
-    match reached(alloc, s, ask, frame, name)? {
-        Reached::Element(member) => star_element(alloc, s, ask, place, frame, &member),
-        Reached::Other(found) => Ok(Some(found)),
-        Reached::Absent => Ok(None),
-    }
+    let any = reached(alloc, s, ask, frame, name);
+    let public = shown(s, &any);
+    let counts = counted_given(alloc, s, ask, place, frame, &public);
+    star_given(alloc, s, frame, &counts)
 }
 
 /// What a qualified or renaming import finds for a name.
@@ -461,8 +457,8 @@ fn also_by<'t>(
     ensures value { Gives (option_map (found_seen (frames_of s.new))) result (also_found (table_in s.old) (asks (table_in s.old) ask.now) ask.now.place star name.now (option_map (found_seen (frames_of s.old)) so_far.entry) clause.now) }
     ensures stand { IfOk result (λ found. IfSome found (IsFound s.new)) }
 {
-    let found = found_by(alloc, s, ask, star, clause, name)?;
-    and_also(s, ask.place, &so_far, &found)
+    let found = found_by(alloc, s, ask, star, clause, name);
+    also_given(s, ask.place, &so_far, &found)
 }
 
 /// What the import clauses of a class find for a name, by their names or by their stars.
@@ -503,11 +499,11 @@ fn found_by_imports<'t>(
     ensures value { Gives (option_map (found_seen (frames_of s.new))) result (found_by_names_or_stars (table_in s.old) (asks (table_in s.old) ask.now) ask.now.place name.now (imports_of (row_at (table_in s.old) (class_of (frame_at s.old frame.0))))) }
     ensures stand { IfOk result (λ found. IfSome found (IsFound s.new)) }
 {
-    let found = found_by_each(alloc, s, ask, false, frame, name)?;
-    if found.is_some() {
-        return Ok(found);
+    match found_by_each(alloc, s, ask, false, frame, name) {
+        Ok(Some(found)) => Ok(Some(found)),
+        Ok(None) => found_by_each(alloc, s, ask, true, frame, name),
+        Err(stop) => Err(stop),
     }
-    found_by_each(alloc, s, ask, true, frame, name)
 }
 
 /// What a name finds among the elements of one frame; where it is bare, without the inherited ones.
@@ -526,11 +522,10 @@ fn found_element<'t>(
     ensures stand { IfOk result (λ found. IfSome found (IsFound s.new)) }
 {
     if bare {
-        let own = reached_own(s, frame, name)?;
-        return element_met(alloc, s, frame, &own);
+        return own_met(alloc, s, frame, name);
     }
-    let any = reached(alloc, s, ask, frame, name)?;
-    element_met(alloc, s, frame, &any)
+    let any = reached(alloc, s, ask, frame, name);
+    element_given(alloc, s, frame, &any)
 }
 
 /// What a name finds in one frame through the imports of its class.
@@ -547,10 +542,8 @@ fn met_by_imports<'t>(
     ensures value { Gives (option_map (met_seen (frames_of s.new))) result (imports_met (table_in s.old) (asks (table_in s.old) ask.now) ask.now.place name.now (imports_of (row_at (table_in s.old) (class_of (frame_at s.old frame.0))))) }
     ensures stand { IfOk result (λ met. IfSome met (λ met. IsFound s.new met.found)) }
 {
-    match found_by_imports(alloc, s, ask, frame, name)? {
-        Some(found) => Ok(Some(Met { found, near: false })),
-        None => Ok(None),
-    }
+    let found = found_by_imports(alloc, s, ask, frame, name);
+    met_given(s, false, &found)
 }
 
 /// What a name finds in one frame: elements, then imports.
@@ -569,8 +562,9 @@ pub(crate) fn found_in<'t>(
     ensures value { Gives (option_map (met_seen (frames_of s.new))) result (found_in_frame (table_in s.old) (asks (table_in s.old) ask.now) bare near (frame_at s.old frame.0) ask.now.place name.now) }
     ensures stand { IfOk result (λ met. IfSome met (λ met. IsFound s.new met.found)) }
 {
-    match found_element(alloc, s, ask, bare, frame, name)? {
-        Some(found) => Ok(Some(Met { found, near })),
-        None => met_by_imports(alloc, s, ask, frame, name),
+    match found_element(alloc, s, ask, bare, frame, name) {
+        Ok(Some(found)) => Ok(Some(Met { found, near })),
+        Ok(None) => met_by_imports(alloc, s, ask, frame, name),
+        Err(stop) => Err(stop),
     }
 }

@@ -1,16 +1,18 @@
 //! The tables that are kept of the elements of frames.
-ghost use Rattle.std.specs.Prelude.{◌≡◌, map, true, IfOk, IfSome, Ok};
-ghost use Rattle.mo_scope.specs.Lookup.{asking_of, is_package as is_package_frame, reached as reached_of, walked as walked_of};
+ghost use Rattle.std.specs.Prelude.{◌≡◌, map, true, IfOk, IfSome, None, Ok};
+ghost use Rattle.mo_scope.specs.Lookup.{asking_of, is_package as is_package_frame, named, own_members, reached as reached_of, walked as walked_of};
 ghost use Rattle.mo_scope.specs.Names.{elements_of};
+ghost use Rattle.mo_scope.specs.Outcome.{Gives};
 ghost use Rattle.mo_scope.specs.Places.{Every};
 ghost use Rattle.mo_scope.specs.Sights.{member_seen};
 ghost use Rattle.mo_scope.specs.Worlds.{AreHomes, Grows, IsFrame, frame_at, frames_of, member_in, table_in};
 ghost use Rattle.mo_names.specs.Sights.{IsMember, IsReached, IsWalk, asks, member_of, reached_seen, walk_seen};
 
 use crate::found::{Ask, Reached};
+use crate::own::own_named;
 use crate::walk::{Inherited, Walk};
 use mo_scope::{Member, MemberTable, Scopes};
-use mo_syntax::{FrameId, List, NoMemory, Text};
+use mo_syntax::{FrameId, List, NoMemory, Stop, Text};
 use std::alloc::Global;
 
 /// Whether no class is having its bases found.
@@ -60,6 +62,29 @@ pub(crate) fn kept_reached<'t>(
     match table.find(name) {
         Some(member) => Some(Reached::Element(*member)),
         None => Some(Reached::Absent),
+    }
+}
+
+/// What a name reaches among the elements of a frame, where its bases need not be found for it: where they were, or where the
+/// class declares an element of that name itself.
+pub(crate) fn reached_at_hand<'t>(
+    s: &Scopes<'t>,
+    ask: &Ask,
+    frame: FrameId,
+    name: &Text,
+) -> Option<Result<Reached<'t>, Stop>>
+    requires { IsFrame s.now frame.0 }
+    ensures is { IfSome result (λ any. Gives (reached_seen (frames_of s.now)) any (reached_of (table_in s.now) (asks (table_in s.now) ask.now) ask.now.place (frame_at s.now frame.0) name.now)) }
+    ensures stand { IfSome result (λ any. IfOk any (IsReached s.now)) }
+    ensures inherited { result ≡ None → named name.now (own_members (table_in s.now) (frame_at s.now frame.0)) ≡ None }
+{
+    if let Some(known) = kept_reached(s, ask, frame, name) {
+        return Some(Ok(known));
+    }
+    match own_named(s, frame, name) {
+        Ok(Some(member)) => Some(Ok(Reached::Element(member))),
+        Ok(None) => None,
+        Err(NoMemory) => Some(Err(Stop::NoMemory)),
     }
 }
 
@@ -137,4 +162,44 @@ pub(crate) fn walk_kept<'t>(
     }
     let members = members_held(alloc, walk.members.as_slice())?;
     elements_kept(alloc, s, frame, members.as_slice())
+}
+
+/// The elements of a frame that a walk has found, which are kept.
+fn kept_walk<'t>(
+    alloc: Global,
+    s: &mut Scopes<'t>,
+    ask: &Ask,
+    frame: FrameId,
+    walk: Walk<'t>,
+) -> Result<Walk<'t>, Stop>
+    requires frame { IsFrame s.old frame.0 }
+    requires is { walked_of (table_in s.old) ask.now.left ask.now.busy.now ask.now.place (frame_at s.old frame.0) ≡ Ok (walk_seen (frames_of s.old) walk) }
+    requires stands { IsWalk s.old walk }
+    ensures grows { Grows s.old s.new }
+    ensures value { Gives (walk_seen (frames_of s.new)) result (walked_of (table_in s.old) ask.now.left ask.now.busy.now ask.now.place (frame_at s.old frame.0)) }
+    ensures stand { IfOk result (IsWalk s.new) }
+{
+    walk_kept(alloc, s, ask, frame, &walk)?;
+    Ok(walk)
+}
+
+/// The same of the answer of a walk.
+pub(crate) fn walk_given<'t>(
+    alloc: Global,
+    s: &mut Scopes<'t>,
+    ask: &Ask,
+    frame: FrameId,
+    walk: Result<Walk<'t>, Stop>,
+) -> Result<Walk<'t>, Stop>
+    requires frame { IsFrame s.old frame.0 }
+    requires is { Gives (walk_seen (frames_of s.old)) walk (walked_of (table_in s.old) ask.now.left ask.now.busy.now ask.now.place (frame_at s.old frame.0)) }
+    requires stands { IfOk walk (IsWalk s.old) }
+    ensures grows { Grows s.old s.new }
+    ensures value { Gives (walk_seen (frames_of s.new)) result (walked_of (table_in s.old) ask.now.left ask.now.busy.now ask.now.place (frame_at s.old frame.0)) }
+    ensures stand { IfOk result (IsWalk s.new) }
+{
+    match walk {
+        Ok(walk) => kept_walk(alloc, s, ask, frame, walk),
+        Err(stop) => Err(stop),
+    }
 }

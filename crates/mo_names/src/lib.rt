@@ -23,6 +23,7 @@ mod element_list;
 mod entering;
 mod found;
 mod free;
+mod given;
 mod importing;
 mod join;
 mod kept;

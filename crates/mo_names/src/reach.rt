@@ -1,13 +1,13 @@
 //! What is found among elements that are known.
-ghost use Rattle.std.specs.Prelude.{◌≡◌, List as Seq, map, option_copied, option_map, IfOk, IfSome, Some, None};
+ghost use Rattle.std.specs.Prelude.{◌≡◌, List as Seq, map, option_copied, option_map, IfOk, IfSome, Some, None, Ok};
 ghost use Rattle.std.specs.List.{list_all};
 ghost use Rattle.mo_scope.specs.Frames.{Frame};
-ghost use Rattle.mo_scope.specs.Lookup.{and_also as joined_found, class_wanted as wanted_class, classed as wanted_classed, contains, counts_in_package, first_at_top as first_found, is_closed as is_closed_frame, iteration as iteration_value, named, or_absent, predefined as found_predefined, reached_in as reached_among, reached_own as own_reached};
-ghost use Rattle.mo_scope.specs.Outcome.{Gives};
+ghost use Rattle.mo_scope.specs.Lookup.{Found as FoundSeen, Reached as ReachedSeen, and_also as joined_found, class_wanted as wanted_class, classed as wanted_classed, contains, counts_in_package, first_at_top as first_found, is_closed as is_closed_frame, iteration as iteration_value, named, or_absent, predefined as found_predefined, reached_in as reached_among, reached_own as own_reached};
+ghost use Rattle.mo_scope.specs.Outcome.{Gives, Outcome, and_then};
 ghost use Rattle.mo_scope.specs.Places.{Every};
 ghost use Rattle.mo_scope.specs.Worlds.{Grows, IsFrame, frame_at, frames_of, table_in};
 ghost use Rattle.mo_names.specs.Sights.{IsFound, IsInherited, IsMember, IsReached, IsWalk, classed_seen, found_in, inherited_seen, member_of, reached_seen, walk_seen};
-ghost use Rattle.mo_names.specs.Steps.{element_behind, element_met as element_found, open_element as open_found};
+ghost use Rattle.mo_names.specs.Steps.{element_behind, element_met as element_found, open_element as open_found, reached_behind as found_behind, reached_by_star as found_by_star, shown as shown_reached};
 
 use crate::class_element::met;
 use crate::found::{Classed, Found, Reached};
@@ -135,6 +135,88 @@ pub(crate) fn behind_element<'t>(
     }
 }
 
+/// What stands behind a class, of what was reached there and counts.
+pub(crate) fn behind_reached<'t>(
+    alloc: Global,
+    s: &mut Scopes<'t>,
+    place: Place,
+    component: Option<Place>,
+    frame: FrameId,
+    reached: &Reached<'t>,
+) -> Result<Found<'t>, Stop>
+    requires frame { IsFrame s.old frame.0 }
+    requires reached { IsReached s.old reached.now }
+    ensures grows { Grows s.old s.new }
+    ensures value { Gives (found_in (frames_of s.new)) result (found_behind (table_in s.old) place component (frame_at s.old frame.0) (reached_seen (frames_of s.old) reached.now)) }
+    ensures stand { IfOk result (IsFound s.new) }
+{
+    match reached {
+        Reached::Element(member) => behind_element(alloc, s, place, component, frame, member),
+        Reached::Other(found) => Ok(*found),
+        Reached::Absent => Err(stop(12, place)),
+    }
+}
+
+/// What was found, as one that may be absent.
+fn some_given<'t>(
+    _s: &Scopes<'t>,
+    found: &Result<Found<'t>, Stop>,
+) -> Result<Option<Found<'t>>, Stop>
+    requires { IfOk found.now (IsFound _s.now) }
+    ensures value { (told : Outcome FoundSeen) → Gives (found_in (frames_of _s.now)) found.now told → Gives (option_map (found_in (frames_of _s.now))) result (and_then told (λ found. Ok (Some found))) }
+    ensures stand { IfOk result (λ found. IfSome found (IsFound _s.now)) }
+{
+    match found {
+        Ok(found) => Ok(Some(*found)),
+        Err(stop) => Err(*stop),
+    }
+}
+
+/// What is reached through `.*`: a protected element is not there.
+pub(crate) fn shown<'t>(
+    _s: &Scopes<'t>,
+    any: &Result<Reached<'t>, Stop>,
+) -> Result<Reached<'t>, Stop>
+    requires { IfOk any.now (IsReached _s.now) }
+    ensures value { (told : Outcome ReachedSeen) → Gives (reached_seen (frames_of _s.now)) any.now told → Gives (reached_seen (frames_of _s.now)) result (and_then told shown_reached) }
+    ensures stand { IfOk result (IsReached _s.now) }
+{
+    match any {
+        Ok(Reached::Element(member)) => {
+            if member.hidden {
+                return Ok(Reached::Absent);
+            }
+            Ok(Reached::Element(*member))
+        }
+        Ok(Reached::Other(found)) => Ok(Reached::Other(*found)),
+        Ok(Reached::Absent) => Ok(Reached::Absent),
+        Err(stop) => Err(*stop),
+    }
+}
+
+/// What a name finds through `.*`, of what was reached there and counts.
+pub(crate) fn star_reached<'t>(
+    alloc: Global,
+    s: &mut Scopes<'t>,
+    frame: FrameId,
+    reached: &Reached<'t>,
+) -> Result<Option<Found<'t>>, Stop>
+    requires frame { IsFrame s.old frame.0 }
+    requires reached { IsReached s.old reached.now }
+    ensures grows { Grows s.old s.new }
+    ensures value { Gives (option_map (found_in (frames_of s.new))) result (found_by_star (table_in s.old) (frame_at s.old frame.0) (reached_seen (frames_of s.old) reached.now)) }
+    ensures stand { IfOk result (λ found. IfSome found (IsFound s.new)) }
+{
+    match reached {
+        Reached::Element(member) => {
+            let found = met(alloc, s, frame, member);
+            some_given(s, &found)
+        }
+        Reached::Other(found) => Ok(Some(*found)),
+        Reached::Absent => Ok(None),
+    }
+}
+
 /// An element that is reached, entered.
 pub(crate) fn element_met<'t>(
     alloc: Global,
@@ -149,7 +231,10 @@ pub(crate) fn element_met<'t>(
     ensures stand { IfOk result (λ found. IfSome found (IsFound s.new)) }
 {
     match reached {
-        Reached::Element(member) => Ok(Some(met(alloc, s, frame, member)?)),
+        Reached::Element(member) => {
+            let found = met(alloc, s, frame, member);
+            some_given(s, &found)
+        }
         Reached::Other(_) => Ok(None),
         Reached::Absent => Ok(None),
     }

@@ -2,8 +2,8 @@
 ghost use Rattle.std.specs.Prelude.{◌≡◌, ◌∷◌, ◌++◌, [], true, Some, None, List as Seq, map, option_map, IfOk};
 ghost use Rattle.mo_scope.specs.Entries.{names_of as path_names, number_of};
 ghost use Rattle.mo_scope.specs.Frames.{Frame, In, Top, at_of, class_of, gathered, outer_of, owner_of_base};
-ghost use Rattle.mo_scope.specs.Lookup.{last_place as place_of_last, leaf_checked as checked_leaf, nothing_walked};
-ghost use Rattle.mo_scope.specs.Outcome.{Gives};
+ghost use Rattle.mo_scope.specs.Lookup.{Walked, last_place as place_of_last, leaf_checked as checked_leaf, nothing_walked};
+ghost use Rattle.mo_scope.specs.Outcome.{Gives, Outcome, and_then};
 ghost use Rattle.mo_scope.specs.Rows.{form_in, is_left_out as is_row_left_out, is_other_form, is_record, row_at};
 ghost use Rattle.mo_scope.specs.Sights.{clause_seen, row_seen, source_seen};
 ghost use Rattle.mo_scope.specs.Worlds.{AreFrames, Grows, IsFrame, IsFrameOrNone, World, frame_at, frame_in, frame_or_top, frames_of, sources_in, table_in};
@@ -151,6 +151,21 @@ pub(crate) fn leaf_checked(s: &Scopes, walk: &Walk) -> Result<(), Stop>
         Some(leaf) => elements_checked(s, leaf, walk),
         None => Ok(()),
     }
+}
+
+/// The elements of a frame whose parts were gone through, asked for those of a leaf type.
+pub(crate) fn walk_checked<'t>(
+    s: &Scopes<'t>,
+    done: Result<(), Stop>,
+    walk: Walk<'t>,
+) -> Result<Walk<'t>, Stop>
+    requires { IfOk done (λ _. IsWalk s.now walk) }
+    ensures value { (told : Outcome Walked) → Gives (λ _. walk_seen (frames_of s.now) walk.entry) done told → Gives (walk_seen (frames_of s.now)) result (and_then told checked_leaf) }
+    ensures stand { IfOk result (IsWalk s.now) }
+{
+    done?;
+    leaf_checked(s, &walk)?;
+    Ok(walk)
 }
 
 /// A copy of the names of an instance path.

@@ -1,20 +1,21 @@
 -- One step further.
-use Rattle.mo_names.proofs.Circling.{is_busy_still, none_left, walked_further, drop_map, left_from, loop_err, names_step, then_ok, told_of, package_names_step, exit_err, later_gives, package_is, star_is, left_read, in_frame_is, around_less, go_on, here_or_past, or_on, outwards_step, class_names_step, class_is}
+use Rattle.mo_names.proofs.Circling.{is_busy_still, none_left, walked_further, drop_map, left_from, loop_err, names_step, then_ok, told_of, package_names_step, exit_err, later_gives, package_is, star_is, left_read, in_frame_is, around_less, err_on, class_names_step, class_is}
+use Rattle.mo_names.proofs.HandedOn.{any_met_told, behind_told, ends_give, go_next, goes_on_around, imported_is, inherited_told, open_told, option_later, outwards_told, through_star_told, walked_told}
 use Rattle.mo_names.proofs.Later.{grows_trans, grows_refl, table_later, is_frame_later, is_walk_later}
 use Rattle.mo_names.proofs.Naming.{class_named_is}
-use Rattle.mo_names.proofs.Outcomes.{gives_same, exit_same, then_same_ok, exit_is}
+use Rattle.mo_names.proofs.Outcomes.{gives_same, exit_same, then_same_ok}
 use Rattle.mo_names.proofs.OwnElements.{counted_next, own_part, own_part_later}
-use Rattle.mo_names.proofs.Outwards.{imports_told, here_told, past_told}
+use Rattle.mo_names.proofs.Outwards.{imports_told, past_told}
 use Rattle.mo_names.proofs.Walking.{part_read, part_told}
 use Rattle.mo_names.specs.Bases.{first_of_parts, part_walked, parts_walked}
 use Rattle.mo_names.specs.Parts.{imports_of, parts_of}
-use Rattle.mo_names.specs.Past.{Around, Found_past, past, past_seen}
+use Rattle.mo_names.specs.Past.{Goes_on}
 use Rattle.mo_names.specs.Sights.{asking_at, walk_seen, asks, found_in, met_seen, classed_seen}
-use Rattle.mo_names.specs.Steps.{before_dot, import_step, package_behind, package_step, package_at_top, also_found, found_by_all, imports_met, met_or, class_step, next_item, started}
+use Rattle.mo_names.specs.Steps.{before_dot, import_step, package_behind, package_step, package_at_top, also_found, found_by, found_by_all, imports_met, met_or, class_step, next_item, started}
 use Rattle.mo_scope.proofs.Numbered.{is_no_top}
 use Rattle.mo_scope.specs.Frames.{Frame, class_of, Scope}
-use Rattle.mo_scope.specs.Lookup.{contains, walked_class, Found, import_behind, through_star, Asking, found_element, Met, found_from, found_in as in_one_frame, Classed, class_behind, Walked, leaf_checked}
-use Rattle.mo_scope.specs.Outcome.{and_then, Outcome}
+use Rattle.mo_scope.specs.Lookup.{and_also, contains, walked_class, Found, import_behind, through_star, Asking, found_element, Classed, class_behind, Walked, leaf_checked}
+use Rattle.mo_scope.specs.Outcome.{and_then}
 use Rattle.mo_scope.specs.Rows.{row_at, Part, Row}
 use Rattle.mo_scope.specs.Sights.{part_seen}
 use Rattle.mo_scope.specs.Worlds.{frame_at, frames_of, table_in, scope_in}
@@ -47,8 +48,32 @@ circle::walked-returns-clause-value t c =
     (ap (contains c.args.ask.now.busy.now) (sym c.class_of-class.ensures.is) ∙ sym c.is_busy.ensures ∙ c.if-is_busy.false))
     c.walked_class.ensures.value
 
-pub circle::walked_and_kept-returns-clause-stand : goal.circle::walked_and_kept-returns-clause-stand
-circle::walked_and_kept-returns-clause-stand t c = is_walk_later c.walked.new.s c.walk_kept.new.s c.in_ok-walk.walk c.walk_kept.ensures.grows c.in_ok-walk.ensures.stand
+pub circle::walked_and_kept-walk_given-requires-clause-is : goal.circle::walked_and_kept-walk_given-requires-clause-is
+circle::walked_and_kept-walk_given-requires-clause-is t c =
+    gives_same _ c.walked-walk.result _ _ (sym (walked_told c.args.s.now c.walked-walk.new.s c.args.ask.now c.args.frame.0 c.walked-walk.ensures.grows c.requires)) c.walked-walk.ensures.value
+
+pub circle::walked_and_kept-returns-clause-value : goal.circle::walked_and_kept-returns-clause-value
+circle::walked_and_kept-returns-clause-value t c =
+    gives_same _ c.walk_given.result _ _ (walked_told c.args.s.now c.walked-walk.new.s c.args.ask.now c.args.frame.0 c.walked-walk.ensures.grows c.requires) c.walk_given.ensures.value
+
+pub circle::reached-returns-in-None-clause-value : goal.circle::reached-returns-in-None-clause-value
+circle::reached-returns-in-None-clause-value t c =
+    gives_same _ c.reached_given.result _ _
+    (inherited_told c.args.s.now c.walked_and_kept-walk.new.s c.args.ask.now c.args.frame.0 c.args.name.now c.walked_and_kept-walk.ensures.grows (c.reached_at_hand.ensures.inherited c.in-None.is))
+    (c.reached_given.ensures.value _ c.walked_and_kept-walk.ensures.value)
+
+pub circle::is_package-returns-clause-value : goal.circle::is_package-returns-clause-value
+circle::is_package-returns-clause-value t c =
+    gives_same _ c.are_open_given.result _ _
+    (open_told (table_in c.args.s.now) c.args.ask.now (frame_at c.args.s.now c.args.frame.0)
+    (ap (contains c.args.ask.now.busy.now) (sym c.class_of.ensures.is) ∙ sym c.is_busy.ensures ∙ c.if-is_busy.false))
+    (c.are_open_given.ensures _ c.walked_and_kept-walk.ensures.value)
+
+pub circle::behind_class-returns-clause-value : goal.circle::behind_class-returns-clause-value
+circle::behind_class-returns-clause-value t c =
+    gives_same _ c.behind_given.result _ _
+    (behind_told c.args.s.now c.reached-any.new.s c.counted_given-counts.new.s c.args.ask.now c.args.place c.args.component c.args.frame.0 c.args.name.now c.reached-any.ensures.grows c.counted_given-counts.ensures.grows c.requires)
+    (c.behind_given.ensures.value _ (c.counted_given-counts.ensures.value _ c.reached-any.ensures.value))
 
 pub circle::import_behind-returns-in_err-found-clause-value : goal.circle::import_behind-returns-in_err-found-clause-value
 circle::import_behind-returns-in_err-found-clause-value t c =
@@ -80,6 +105,9 @@ circle::import_behind-loop-at-preserved t c =
           (ap (λ (b : Option Place). import_step (table_in c.args.s.now) (asks (table_in c.args.s.now) c.args.ask.now) c.args.ask.now.place c.args.place b F c.index-names-at.result.now) (sym before)
           ∙ told_of (λ t. import_step t (asks t c.args.ask.now) c.args.ask.now.place c.args.place c.before_dot-before.result F c.index-names-at.result.now) c.args.s.now c.loop-at.s _ c.loop-at.invariant.grows c.in_ok-found.ensures.value);
     }
+
+pub circle::package_step-returns-clause-value : goal.circle::package_step-returns-clause-value
+circle::package_step-returns-clause-value t c = c.class_given.ensures.value _ c.behind_class-found.ensures.value
 
 pub circle::package_behind-returns-in_err-frame-clause-value : goal.circle::package_behind-returns-in_err-frame-clause-value
 circle::package_behind-returns-in_err-frame-clause-value t c =
@@ -126,6 +154,12 @@ circle::package_named-returns-clause-value t c =
     (package_is (table_in c.args.s.now) (asks (table_in c.args.s.now) c.args.ask.now) c.args.ask.now.place c.args.place c.args.name.now c.args.names.now)
     c.in_ok-first.ensures.value)
 
+pub circle::through_star-returns-clause-value : goal.circle::through_star-returns-clause-value
+circle::through_star-returns-clause-value t c =
+    gives_same _ c.star_given.result _ _
+    (through_star_told c.args.s.now c.reached-any.new.s c.counted_given-counts.new.s c.args.ask.now c.args.place c.args.frame.0 c.args.name.now c.reached-any.ensures.grows c.counted_given-counts.ensures.grows c.requires)
+    (c.star_given.ensures.value _ (c.counted_given-counts.ensures.value _ (c.shown-public.ensures.value _ c.reached-any.ensures.value)))
+
 pub circle::found_by_star-returns-in_ok-frame-in-All-clause-value : goal.circle::found_by_star-returns-in_ok-frame-in-All-clause-value
 circle::found_by_star-returns-in_ok-frame-in-All-clause-value t c =
     later_gives (option_map (found_in (frames_of c.through_star.new.s))) c.through_star.result c.args.s.now c.imported_package.new.s
@@ -133,6 +167,13 @@ circle::found_by_star-returns-in_ok-frame-in-All-clause-value t c =
     c.in_ok-frame-in-All.ensures.grows c.through_star.ensures.value
     (star_is (table_in c.args.s.now) (asks (table_in c.args.s.now) c.args.ask.now) c.args.ask.now.place c.in-All.place c.in-All.path c.as_slice.result.now c.args.name.now c.args.clause.now
     (frame_at c.imported_package.new.s c.in_ok-frame-in-All.frame.0) c.in-All.is c.as_slice.ensures c.in_ok-frame-in-All.ensures.value)
+
+pub circle::also_by-returns-clause-value : goal.circle::also_by-returns-clause-value
+circle::also_by-returns-clause-value t c =
+    gives_same _ c.also_given.result _ _
+    (ap (λ so_far. and_then (found_by (table_in c.args.s.now) (asks (table_in c.args.s.now) c.args.ask.now) c.args.ask.now.place c.args.star c.args.name.now c.args.clause.now) (and_also c.args.ask.now.place so_far))
+    (option_later c.args.s.now c.found_by-found.new.s c.args.so_far c.found_by-found.ensures.grows c.requires))
+    (c.also_given.ensures.value _ c.found_by-found.ensures.value)
 
 pub circle::found_by_each-returns-in_err-found-clause-value : goal.circle::found_by_each-returns-in_err-found-clause-value
 circle::found_by_each-returns-in_err-found-clause-value t c =
@@ -163,119 +204,80 @@ circle::found_by_each-loop-at-preserved t c =
           (told_of (λ t. also_found t (asks t c.args.ask.now) c.args.ask.now.place c.args.star c.args.name.now F c.import_at-clause.result.now) c.args.s.now c.loop-at.s _ c.loop-at.invariant.grows c.in_ok-found.ensures.value);
     }
 
-pub circle::found_in-returns-in_err-found-clause-value : goal.circle::found_in-returns-in_err-found-clause-value
-circle::found_in-returns-in_err-found-clause-value t c =
-    let p = err_from_is_err_and c.from_residual.result c.from_residual.ensures.1 in
+pub circle::found_element-returns-clause-value : goal.circle::found_element-returns-clause-value
+circle::found_element-returns-clause-value t c =
+    gives_same _ c.element_given.result _ _
+    (any_met_told c.args.s.now c.reached-any.new.s c.args.ask.now c.args.bare c.args.frame.0 c.args.name.now c.reached-any.ensures.grows c.requires c.if-bare.false)
+    (c.element_given.ensures.value _ c.reached-any.ensures.value)
+
+pub circle::met_by_imports-returns-clause-value : goal.circle::met_by_imports-returns-clause-value
+circle::met_by_imports-returns-clause-value t c =
+    gives_same _ c.met_given.result _ _ (imported_is _) (c.met_given.ensures.value _ c.found_by_imports-found.ensures.value)
+
+pub circle::found_in-returns-in-Err-clause-value : goal.circle::found_in-returns-in-Err-clause-value
+circle::found_in-returns-in-Err-clause-value t c =
     let A : Asking = asks (table_in c.args.s.now) c.args.ask.now in
     let F : Frame = frame_at c.args.s.now c.args.frame.0 in
-    exit_err (option_map (found_in (frames_of c.found_element.new.s))) _ c.from_residual.result c.in_err-found.field-0.0 c.args.s.now c.args.s.now
-    (λ t. found_element t (asks t c.args.ask.now) c.args.bare F c.args.ask.now.place c.args.name.now)
-    (λ found. met_or c.args.near found (imports_met (table_in c.args.s.now) A c.args.ask.now.place c.args.name.now (imports_of (row_at (table_in c.args.s.now) (class_of F))))) _ (p.1 ∙ ap Err p.2)
-    (grows_refl c.args.s.now) c.in_err-found.ensures.value
+    err_on (option_map (found_in (frames_of c.found_element.new.s))) (option_map (met_seen (frames_of c.found_element.new.s))) c.in-Err.stop (found_element (table_in c.args.s.now) A c.args.bare F c.args.ask.now.place c.args.name.now)
+    (λ found. met_or c.args.near found (imports_met (table_in c.args.s.now) A c.args.ask.now.place c.args.name.now (imports_of (row_at (table_in c.args.s.now) (class_of F))))) _
+    c.in-Err.ensures.value
     (in_frame_is (table_in c.args.s.now) A c.args.bare c.args.near F c.args.ask.now.place c.args.name.now)
 
-pub circle::found_in-returns-in-Some-clause-value : goal.circle::found_in-returns-in-Some-clause-value
-circle::found_in-returns-in-Some-clause-value t c =
+pub circle::found_in-returns-in-Ok-Some-clause-value : goal.circle::found_in-returns-in-Ok-Some-clause-value
+circle::found_in-returns-in-Ok-Some-clause-value t c =
     let A : Asking = asks (table_in c.args.s.now) c.args.ask.now in
     let F : Frame = frame_at c.args.s.now c.args.frame.0 in
     sym (then_ok (found_element (table_in c.args.s.now) A c.args.bare F c.args.ask.now.place c.args.name.now)
     (λ found. met_or c.args.near found (imports_met (table_in c.args.s.now) A c.args.ask.now.place c.args.name.now (imports_of (row_at (table_in c.args.s.now) (class_of F)))))
-    (Some (found_in (frames_of c.found_element.new.s) c.in-Some.found)) _
+    (Some (found_in (frames_of c.found_element.new.s) c.in-Ok-Some.found)) _
     (in_frame_is (table_in c.args.s.now) A c.args.bare c.args.near F c.args.ask.now.place c.args.name.now)
-    (c.in_ok-found.ensures.value ∙ ap (λ o. Ok (option_map (found_in (frames_of c.found_element.new.s)) o)) c.in-Some.is))
+    (c.in-Ok-Some.ensures.value ∙ ap (λ o. Ok (option_map (found_in (frames_of c.found_element.new.s)) o)) c.in-Ok-Some.field-0-is))
 
-pub circle::found_in-returns-in-None-clause-value : goal.circle::found_in-returns-in-None-clause-value
-circle::found_in-returns-in-None-clause-value t c =
+pub circle::found_in-returns-in-Ok-None-clause-value : goal.circle::found_in-returns-in-Ok-None-clause-value
+circle::found_in-returns-in-Ok-None-clause-value t c =
     let A : Asking = asks (table_in c.args.s.now) c.args.ask.now in
     let F : Frame = frame_at c.args.s.now c.args.frame.0 in
     gives_same _ c.met_by_imports.result _ _
-    (imports_told c.args.s.now c.found_element.new.s c.args.ask.now c.args.frame.0 c.args.name.now c.in_ok-found.ensures.grows c.requires
+    (imports_told c.args.s.now c.found_element.new.s c.args.ask.now c.args.frame.0 c.args.name.now c.in-Ok-None.ensures.grows c.requires
     ∙ then_ok (found_element (table_in c.args.s.now) A c.args.bare F c.args.ask.now.place c.args.name.now)
     (λ found. met_or c.args.near found (imports_met (table_in c.args.s.now) A c.args.ask.now.place c.args.name.now (imports_of (row_at (table_in c.args.s.now) (class_of F)))))
     None _
     (in_frame_is (table_in c.args.s.now) A c.args.bare c.args.near F c.args.ask.now.place c.args.name.now)
-    (c.in_ok-found.ensures.value ∙ ap (λ o. Ok (option_map (found_in (frames_of c.found_element.new.s)) o)) c.in-None.is))
+    (c.in-Ok-None.ensures.value ∙ ap (λ o. Ok (option_map (found_in (frames_of c.found_element.new.s)) o)) c.in-Ok-None.field-0-is))
     c.met_by_imports.ensures.value
 
-pub bases::found_from-returns-in_err-here-clause-value : goal.bases::found_from-returns-in_err-here-clause-value
-bases::found_from-returns-in_err-here-clause-value t c =
-    let p = err_from_is_err_and c.from_residual.result c.from_residual.ensures.1 in
+pub bases::found_from-returns-in-Ends-clause-value : goal.bases::found_from-returns-in-Ends-clause-value
+bases::found_from-returns-in-Ends-clause-value t c =
     let A : Asking = asks (table_in c.args.s.now) c.args.ask.now in
-    let F : Frame = frame_at c.loop-here.s c.loop-here.frame.0 in
-    exit_same (option_map (met_seen (frames_of c.found_in.new.s))) _ c.from_residual.result c.in_err-here.field-0.0 _ (in_one_frame (table_in c.args.s.now) A c.loop-here.own c.loop-here.at_hand F c.args.ask.now.place c.args.name.now)
-    (λ here. or_on here (and_then (past (table_in c.args.s.now) c.args.ask.now.place F c.args.name.now) (go_on (table_in c.args.s.now) A c.args.ask.now.place c.args.name.now))) _
-    (p.1 ∙ ap Err p.2) (here_told c.args.s.now c.loop-here.s c.args.ask.now c.loop-here.own c.loop-here.at_hand c.loop-here.frame.0 c.args.name.now c.loop-here.invariant.grows) c.in_err-here.ensures.value
-    (outwards_step (table_in c.args.s.now) A c.loop-here.own c.loop-here.at_hand F c.args.ask.now.place c.args.name.now (is_no_top c.loop-here.s c.loop-here.frame.0 c.loop-here.invariant.stand) ∙ c.loop-here.invariant.left)
+    ends_give (frames_of c.next_past.new.s) c.in-Ends.met _ (go_next (table_in c.args.s.now) A c.args.ask.now.place c.args.name.now) _ (λ met. refl)
+    (rw c.in-Ends.is at (c.next_past.ensures.value _ c.found_in-here.ensures.value))
+    (outwards_told c.args.s.now c.loop-met.s c.found_in-here.new.s c.args.ask.now c.loop-met.own c.loop-met.at_hand c.loop-met.frame.0 c.args.name.now _
+    c.loop-met.invariant.grows c.found_in-here.ensures.grows c.loop-met.invariant.stand (is_no_top c.loop-met.s c.loop-met.frame.0 c.loop-met.invariant.stand) c.loop-met.invariant.left)
 
-pub bases::found_from-returns-in-Some-clause-value : goal.bases::found_from-returns-in-Some-clause-value
-bases::found_from-returns-in-Some-clause-value t c =
-    let A : Asking = asks (table_in c.args.s.now) c.args.ask.now in
-    let F : Frame = frame_at c.loop-here.s c.loop-here.frame.0 in
-    sym (here_or_past (table_in c.args.s.now) A c.loop-here.own c.loop-here.at_hand F c.args.ask.now.place c.args.name.now (Some (met_seen (frames_of c.found_in.new.s) c.in-Some.met)) _
-    (is_no_top c.loop-here.s c.loop-here.frame.0 c.loop-here.invariant.stand) c.loop-here.invariant.left
-    (sym (here_told c.args.s.now c.loop-here.s c.args.ask.now c.loop-here.own c.loop-here.at_hand c.loop-here.frame.0 c.args.name.now c.loop-here.invariant.grows)
-    ∙ c.in_ok-here.ensures.value ∙ ap (λ o. Ok (option_map (met_seen (frames_of c.found_in.new.s)) o)) c.in-Some.is))
+pub bases::found_from-loop-met-preserved : goal.bases::found_from-loop-met-preserved
+bases::found_from-loop-met-preserved t c = record {
+  grows = grows_trans c.args.s.now c.loop-met.s c.next_past.new.s c.loop-met.invariant.grows (grows_trans c.loop-met.s c.found_in-here.new.s c.next_past.new.s c.found_in-here.ensures.grows c.next_past.ensures.grows);
+  stand = rw c.in-Around.is at c.next_past.ensures.stand;
+  left =
+      let A : Asking = asks (table_in c.args.s.now) c.args.ask.now in
+      then_ok _ (go_next (table_in c.args.s.now) A c.args.ask.now.place c.args.name.now) (Goes_on (frame_at c.next_past.new.s c.in-Around.outer.0)) _
+      (outwards_told c.args.s.now c.loop-met.s c.found_in-here.new.s c.args.ask.now c.loop-met.own c.loop-met.at_hand c.loop-met.frame.0 c.args.name.now _
+      c.loop-met.invariant.grows c.found_in-here.ensures.grows c.loop-met.invariant.stand (is_no_top c.loop-met.s c.loop-met.frame.0 c.loop-met.invariant.stand) c.loop-met.invariant.left)
+      (rw c.in-Around.is at (c.next_past.ensures.value _ c.found_in-here.ensures.value));
+}
 
-pub bases::found_from-returns-in_err-found-clause-value : goal.bases::found_from-returns-in_err-found-clause-value
-bases::found_from-returns-in_err-found-clause-value t c =
-    let p = err_from_is_err_and c.from_residual-in_err-found.result c.from_residual-in_err-found.ensures.1 in
-    let A : Asking = asks (table_in c.args.s.now) c.args.ask.now in
-    let F : Frame = frame_at c.loop-here.s c.loop-here.frame.0 in
-    let all : Outcome Met = found_from (table_in c.args.s.now) A c.args.bare c.args.near (frame_at c.args.s.now c.args.first.0) c.args.ask.now.place c.args.name.now in
-    let further : and_then (past (table_in c.args.s.now) c.args.ask.now.place F c.args.name.now) (go_on (table_in c.args.s.now) A c.args.ask.now.place c.args.name.now) ≡ all =
-    here_or_past (table_in c.args.s.now) A c.loop-here.own c.loop-here.at_hand F c.args.ask.now.place c.args.name.now None all
-    (is_no_top c.loop-here.s c.loop-here.frame.0 c.loop-here.invariant.stand) c.loop-here.invariant.left
-    (sym (here_told c.args.s.now c.loop-here.s c.args.ask.now c.loop-here.own c.loop-here.at_hand c.loop-here.frame.0 c.args.name.now c.loop-here.invariant.grows)
-    ∙ c.in_ok-here.ensures.value ∙ ap (λ o. Ok (option_map (met_seen (frames_of c.found_in.new.s)) o)) c.in_default.is) in
-    let told : past (table_in c.found_in.new.s) c.args.ask.now.place (frame_at c.found_in.new.s c.loop-here.frame.0) c.args.name.now ≡ past (table_in c.args.s.now) c.args.ask.now.place F c.args.name.now =
-    past_told c.args.s.now c.loop-here.s c.found_in.new.s c.args.ask.now.place c.loop-here.frame.0 c.args.name.now c.loop-here.invariant.grows c.in_ok-here.ensures.grows c.loop-here.invariant.stand in
-    exit_same (past_seen (frames_of c.past_frame.new.s)) _ c.from_residual-in_err-found.result c.in_err-found.field-0.0 _ (past (table_in c.args.s.now) c.args.ask.now.place F c.args.name.now) (go_on (table_in c.args.s.now) A c.args.ask.now.place c.args.name.now) all
-    (p.1 ∙ ap Err p.2) told c.in_err-found.ensures.value further
+pub bases::found_from-loop-met-smaller : goal.bases::found_from-loop-met-smaller
+bases::found_from-loop-met-smaller t c =
+    let F : Frame = frame_at c.loop-met.s c.loop-met.frame.0 in
+    around_less (table_in c.args.s.now) c.args.ask.now.place F (frame_at c.next_past.new.s c.in-Around.outer.0) c.args.name.now (is_no_top c.loop-met.s c.loop-met.frame.0 c.loop-met.invariant.stand)
+    (sym (past_told c.args.s.now c.loop-met.s c.found_in-here.new.s c.args.ask.now.place c.loop-met.frame.0 c.args.name.now c.loop-met.invariant.grows c.found_in-here.ensures.grows c.loop-met.invariant.stand)
+    ∙ goes_on_around _ _ _ (rw c.in-Around.is at (c.next_past.ensures.value _ c.found_in-here.ensures.value)))
 
-pub bases::found_from-returns-in-Found-clause-value : goal.bases::found_from-returns-in-Found-clause-value
-bases::found_from-returns-in-Found-clause-value t c =
-    let A : Asking = asks (table_in c.args.s.now) c.args.ask.now in
-    let F : Frame = frame_at c.loop-here.s c.loop-here.frame.0 in
-    let all : Outcome Met = found_from (table_in c.args.s.now) A c.args.bare c.args.near (frame_at c.args.s.now c.args.first.0) c.args.ask.now.place c.args.name.now in
-    let further : and_then (past (table_in c.args.s.now) c.args.ask.now.place F c.args.name.now) (go_on (table_in c.args.s.now) A c.args.ask.now.place c.args.name.now) ≡ all =
-    here_or_past (table_in c.args.s.now) A c.loop-here.own c.loop-here.at_hand F c.args.ask.now.place c.args.name.now None all
-    (is_no_top c.loop-here.s c.loop-here.frame.0 c.loop-here.invariant.stand) c.loop-here.invariant.left
-    (sym (here_told c.args.s.now c.loop-here.s c.args.ask.now c.loop-here.own c.loop-here.at_hand c.loop-here.frame.0 c.args.name.now c.loop-here.invariant.grows)
-    ∙ c.in_ok-here.ensures.value ∙ ap (λ o. Ok (option_map (met_seen (frames_of c.found_in.new.s)) o)) c.in_default.is) in
-    let told : past (table_in c.found_in.new.s) c.args.ask.now.place (frame_at c.found_in.new.s c.loop-here.frame.0) c.args.name.now ≡ past (table_in c.args.s.now) c.args.ask.now.place F c.args.name.now =
-    past_told c.args.s.now c.loop-here.s c.found_in.new.s c.args.ask.now.place c.loop-here.frame.0 c.args.name.now c.loop-here.invariant.grows c.in_ok-here.ensures.grows c.loop-here.invariant.stand in
-    sym (then_ok (past (table_in c.args.s.now) c.args.ask.now.place F c.args.name.now) (go_on (table_in c.args.s.now) A c.args.ask.now.place c.args.name.now)
-    (Found_past (found_in (frames_of c.past_frame.new.s) c.in-Found.found)) all further
-    (sym told ∙ c.in_ok-found.ensures.value ∙ ap (λ o. Ok (past_seen (frames_of c.past_frame.new.s) o)) c.in-Found.is))
+pub bases::first_class-returns-clause-value : goal.bases::first_class-returns-clause-value
+bases::first_class-returns-clause-value t c = c.classed_met.ensures.value _ c.found_first-met.ensures.value
 
-pub bases::found_from-loop-here-preserved : goal.bases::found_from-loop-here-preserved
-bases::found_from-loop-here-preserved t c =
-    let A : Asking = asks (table_in c.args.s.now) c.args.ask.now in
-    let F : Frame = frame_at c.loop-here.s c.loop-here.frame.0 in
-    let all : Outcome Met = found_from (table_in c.args.s.now) A c.args.bare c.args.near (frame_at c.args.s.now c.args.first.0) c.args.ask.now.place c.args.name.now in
-    let further : and_then (past (table_in c.args.s.now) c.args.ask.now.place F c.args.name.now) (go_on (table_in c.args.s.now) A c.args.ask.now.place c.args.name.now) ≡ all =
-    here_or_past (table_in c.args.s.now) A c.loop-here.own c.loop-here.at_hand F c.args.ask.now.place c.args.name.now None all
-    (is_no_top c.loop-here.s c.loop-here.frame.0 c.loop-here.invariant.stand) c.loop-here.invariant.left
-    (sym (here_told c.args.s.now c.loop-here.s c.args.ask.now c.loop-here.own c.loop-here.at_hand c.loop-here.frame.0 c.args.name.now c.loop-here.invariant.grows)
-    ∙ c.in_ok-here.ensures.value ∙ ap (λ o. Ok (option_map (met_seen (frames_of c.found_in.new.s)) o)) c.in_default.is) in
-    let told : past (table_in c.found_in.new.s) c.args.ask.now.place (frame_at c.found_in.new.s c.loop-here.frame.0) c.args.name.now ≡ past (table_in c.args.s.now) c.args.ask.now.place F c.args.name.now =
-    past_told c.args.s.now c.loop-here.s c.found_in.new.s c.args.ask.now.place c.loop-here.frame.0 c.args.name.now c.loop-here.invariant.grows c.in_ok-here.ensures.grows c.loop-here.invariant.stand in
-    let seen : past (table_in c.args.s.now) c.args.ask.now.place F c.args.name.now ≡ Ok (Around (frame_at c.past_frame.new.s c.in-Around.outer.0)) =
-    sym told ∙ c.in_ok-found.ensures.value ∙ ap (λ o. Ok (past_seen (frames_of c.past_frame.new.s) o)) c.in-Around.is in
-    record {
-      grows = grows_trans c.args.s.now c.loop-here.s c.past_frame.new.s c.loop-here.invariant.grows (grows_trans c.loop-here.s c.found_in.new.s c.past_frame.new.s c.in_ok-here.ensures.grows c.in_ok-found.ensures.grows);
-      stand = rw c.in-Around.is at c.in_ok-found.ensures.stand;
-      left = then_ok (past (table_in c.args.s.now) c.args.ask.now.place F c.args.name.now) (go_on (table_in c.args.s.now) A c.args.ask.now.place c.args.name.now) (Around (frame_at c.past_frame.new.s c.in-Around.outer.0)) all further seen;
-    }
-
-pub bases::found_from-loop-here-smaller : goal.bases::found_from-loop-here-smaller
-bases::found_from-loop-here-smaller t c =
-    let F : Frame = frame_at c.loop-here.s c.loop-here.frame.0 in
-    let told : past (table_in c.found_in.new.s) c.args.ask.now.place (frame_at c.found_in.new.s c.loop-here.frame.0) c.args.name.now ≡ past (table_in c.args.s.now) c.args.ask.now.place F c.args.name.now =
-    past_told c.args.s.now c.loop-here.s c.found_in.new.s c.args.ask.now.place c.loop-here.frame.0 c.args.name.now c.loop-here.invariant.grows c.in_ok-here.ensures.grows c.loop-here.invariant.stand in
-    let seen : past (table_in c.args.s.now) c.args.ask.now.place F c.args.name.now ≡ Ok (Around (frame_at c.past_frame.new.s c.in-Around.outer.0)) =
-    sym told ∙ c.in_ok-found.ensures.value ∙ ap (λ o. Ok (past_seen (frames_of c.past_frame.new.s) o)) c.in-Around.is in
-    around_less (table_in c.args.s.now) c.args.ask.now.place F (frame_at c.past_frame.new.s c.in-Around.outer.0) c.args.name.now (is_no_top c.loop-here.s c.loop-here.frame.0 c.loop-here.invariant.stand) seen
+pub bases::class_step-returns-clause-value : goal.bases::class_step-returns-clause-value
+bases::class_step-returns-clause-value t c = c.classed_given.ensures.value _ c.behind_class-found.ensures.value
 
 pub bases::class_behind-returns-in_err-class-clause-value : goal.bases::class_behind-returns-in_err-class-clause-value
 bases::class_behind-returns-in_err-class-clause-value t c =
@@ -396,39 +398,12 @@ bases::walked_class-returns-in_err-walk-clause-value t c =
     (λ w. and_then (parts_walked (table_in c.args.s.now) A F row 0 (parts_of row) w) leaf_checked) _ (p.1 ∙ ap Err p.2) refl c.in_err-walk.ensures.value
     (class_is (table_in c.args.s.now) A F row)
 
-pub bases::walked_class-returns-in_err-walked_parts-clause-value : goal.bases::walked_class-returns-in_err-walked_parts-clause-value
-bases::walked_class-returns-in_err-walked_parts-clause-value t c =
-    let p = err_from_is_err_and c.from_residual-in_err-walked_parts.result c.from_residual-in_err-walked_parts.ensures.1 in
-    let A : Asking = asks (table_in c.args.s.now) c.args.ask.now in
-    let F : Frame = frame_at c.args.s.now c.args.frame.0 in
-    let row : Option Row = row_at (table_in c.args.s.now) (class_of F) in
-    let W : Walked = walk_seen (frames_of c.args.s.now) c.in_ok-walk.walk in
-    exit_same (λ (w : Walked). w) _ c.from_residual-in_err-walked_parts.result c.in_err-walked_parts.field-0.0 (parts_walked (table_in c.args.s.now) A F row 0 (parts_of row) W) (parts_walked (table_in c.args.s.now) A F row 0 (parts_of row) W)
-    leaf_checked _ (p.1 ∙ ap Err p.2) refl c.in_err-walked_parts.ensures.value
-    (then_ok (started F row) (λ w. and_then (parts_walked (table_in c.args.s.now) A F row 0 (parts_of row) w) leaf_checked) W _ (class_is (table_in c.args.s.now) A F row) c.in_ok-walk.ensures.value)
-
-pub bases::walked_class-returns-in_err-leaf_checked-clause-value : goal.bases::walked_class-returns-in_err-leaf_checked-clause-value
-bases::walked_class-returns-in_err-leaf_checked-clause-value t c =
-    let p = err_from_is_err_and c.from_residual-in_err-leaf_checked.result c.from_residual-in_err-leaf_checked.ensures.1 in
-    let A : Asking = asks (table_in c.args.s.now) c.args.ask.now in
-    let F : Frame = frame_at c.args.s.now c.args.frame.0 in
-    let row : Option Row = row_at (table_in c.args.s.now) (class_of F) in
-    let W : Walked = walk_seen (frames_of c.args.s.now) c.in_ok-walk.walk in
-    let V : Walked = walk_seen (frames_of c.walked_parts.new.s) c.walked_parts.new.so_far in
-    exit_is (λ (w : Walked). w) _ c.from_residual-in_err-leaf_checked.result c.in_err-leaf_checked.field-0.0 (leaf_checked V) _ (p.1 ∙ ap Err p.2)
-    (then_ok (parts_walked (table_in c.args.s.now) A F row 0 (parts_of row) W) leaf_checked V _
-    (then_ok (started F row) (λ w. and_then (parts_walked (table_in c.args.s.now) A F row 0 (parts_of row) w) leaf_checked) W _ (class_is (table_in c.args.s.now) A F row) c.in_ok-walk.ensures.value)
-    c.in_ok-walked_parts.ensures.value)
-    c.in_err-leaf_checked.ensures
-
 pub bases::walked_class-returns-clause-value : goal.bases::walked_class-returns-clause-value
 bases::walked_class-returns-clause-value t c =
     let A : Asking = asks (table_in c.args.s.now) c.args.ask.now in
     let F : Frame = frame_at c.args.s.now c.args.frame.0 in
     let row : Option Row = row_at (table_in c.args.s.now) (class_of F) in
     let W : Walked = walk_seen (frames_of c.args.s.now) c.in_ok-walk.walk in
-    let V : Walked = walk_seen (frames_of c.walked_parts.new.s) c.walked_parts.new.so_far in
-    sym (then_ok (parts_walked (table_in c.args.s.now) A F row 0 (parts_of row) W) leaf_checked V _
+    gives_same _ c.walk_checked.result _ _
     (then_ok (started F row) (λ w. and_then (parts_walked (table_in c.args.s.now) A F row 0 (parts_of row) w) leaf_checked) W _ (class_is (table_in c.args.s.now) A F row) c.in_ok-walk.ensures.value)
-    c.in_ok-walked_parts.ensures.value)
-    ∙ c.in_ok-leaf_checked.ensures
+    (c.walk_checked.ensures.value _ c.walked_parts-done.ensures.value)

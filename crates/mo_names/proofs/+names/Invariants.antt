@@ -37,16 +37,16 @@ invariant-circle::found_by_each-loop-at l = record {
       ≡ found_by_all (table_in l.initial.s) (asks (table_in l.initial.s) l.ask) l.ask.place l.star l.name None (imports_of (row_at (table_in l.initial.s) l.class.0));
 }
 
-abbrev pub invariant-bases::found_from-loop-here : goal.invariant-bases::found_from-loop-here
-invariant-bases::found_from-loop-here l = record {
+abbrev pub invariant-bases::found_from-loop-met : goal.invariant-bases::found_from-loop-met
+invariant-bases::found_from-loop-met l = record {
   grows : Grows l.initial.s l.s;
   stand : IsFrame l.s l.frame.0;
   left : found_from (table_in l.initial.s) (asks (table_in l.initial.s) l.ask) l.own l.at_hand (frame_at l.s l.frame.0) l.ask.place l.name
       ≡ found_from (table_in l.initial.s) (asks (table_in l.initial.s) l.ask) l.bare l.near (frame_at l.initial.s l.initial.frame.0) l.ask.place l.name;
 }
 
-abbrev pub decreases-bases::found_from-loop-here : goal.decreases-bases::found_from-loop-here
-decreases-bases::found_from-loop-here l = depth (frame_at l.s l.frame.0)
+abbrev pub decreases-bases::found_from-loop-met : goal.decreases-bases::found_from-loop-met
+decreases-bases::found_from-loop-met l = depth (frame_at l.s l.frame.0)
 
 abbrev pub invariant-bases::class_behind-loop-part : goal.invariant-bases::class_behind-loop-part
 invariant-bases::class_behind-loop-part l = record {
@@ -80,32 +80,32 @@ decreases-circle::is_package l = 40 * l.ask.now.left + 2
 abbrev pub decreases-circle::counted : goal.decreases-circle::counted
 decreases-circle::counted l = 40 * l.ask.now.left + 3
 
+abbrev pub decreases-circle::counted_given : goal.decreases-circle::counted_given
+decreases-circle::counted_given l = 40 * l.ask.now.left + 4
+
 abbrev pub decreases-circle::behind_class : goal.decreases-circle::behind_class
-decreases-circle::behind_class l = 40 * l.ask.now.left + 4
+decreases-circle::behind_class l = 40 * l.ask.now.left + 5
 
 abbrev pub decreases-circle::import_step : goal.decreases-circle::import_step
-decreases-circle::import_step l = 40 * l.ask.now.left + 5
+decreases-circle::import_step l = 40 * l.ask.now.left + 6
 
 abbrev pub decreases-circle::import_behind : goal.decreases-circle::import_behind
-decreases-circle::import_behind l = 40 * l.ask.now.left + 6
+decreases-circle::import_behind l = 40 * l.ask.now.left + 7
 
 abbrev pub decreases-circle::imported : goal.decreases-circle::imported
-decreases-circle::imported l = 40 * l.ask.now.left + 7
+decreases-circle::imported l = 40 * l.ask.now.left + 8
 
 abbrev pub decreases-circle::package_step : goal.decreases-circle::package_step
-decreases-circle::package_step l = 40 * l.ask.now.left + 8
+decreases-circle::package_step l = 40 * l.ask.now.left + 9
 
 abbrev pub decreases-circle::package_behind : goal.decreases-circle::package_behind
-decreases-circle::package_behind l = 40 * l.ask.now.left + 9
+decreases-circle::package_behind l = 40 * l.ask.now.left + 10
 
 abbrev pub decreases-circle::package_named : goal.decreases-circle::package_named
-decreases-circle::package_named l = 40 * l.ask.now.left + 10
+decreases-circle::package_named l = 40 * l.ask.now.left + 11
 
 abbrev pub decreases-circle::imported_package : goal.decreases-circle::imported_package
-decreases-circle::imported_package l = 40 * l.ask.now.left + 11
-
-abbrev pub decreases-circle::star_element : goal.decreases-circle::star_element
-decreases-circle::star_element l = 40 * l.ask.now.left + 12
+decreases-circle::imported_package l = 40 * l.ask.now.left + 12
 
 abbrev pub decreases-circle::through_star : goal.decreases-circle::through_star
 decreases-circle::through_star l = 40 * l.ask.now.left + 13
