@@ -175,10 +175,11 @@ pub fn child<'t>(
     ensures stand { IfOk result (IsChild s.new) }
 {
     let nowhere = Place { file: 0, byte: 0 };
-    match find_element(alloc, s, frame, name, nowhere)? {
-        Reached::Element(member) => child_of_member(alloc, s, &member, index),
-        Reached::Other(_) => Err(stop(12, nowhere)),
-        Reached::Absent => Err(stop(12, nowhere)),
+    match find_element(alloc, s, frame, name, nowhere) {
+        Ok(Reached::Element(member)) => child_of_member(alloc, s, &member, index),
+        Ok(Reached::Other(_)) => Err(stop(12, nowhere)),
+        Ok(Reached::Absent) => Err(stop(12, nowhere)),
+        Err(stop) => Err(stop),
     }
 }
 

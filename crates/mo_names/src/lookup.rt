@@ -103,8 +103,10 @@ pub fn find_first<'t>(
     ensures value { Gives (found_in (frames_of s.new)) result (first_found (table_in s.old) top (scope_in (frames_of s.old) at.now.frame.0 at.now.iters) name.now place) }
     ensures stand { IfOk result (IsFound s.new) }
 {
-    let met = first_at(alloc, s, at, top, name, place)?;
-    taken(alloc, s, met.near, &met.found, place)
+    match first_at(alloc, s, at, top, name, place) {
+        Ok(met) => taken(alloc, s, met.near, &met.found, place),
+        Err(stop) => Err(stop),
+    }
 }
 
 /// What the first identifier of a name finds as it is declared: a component need be no constant, and one that is declared
@@ -122,5 +124,8 @@ pub fn find_declared<'t>(
     ensures value { Gives (found_in (frames_of s.new)) result (first_declared (table_in s.old) top (scope_in (frames_of s.old) at.now.frame.0 at.now.iters) name.now place) }
     ensures stand { IfOk result (IsFound s.new) }
 {
-    Ok(first_at(alloc, s, at, top, name, place)?.found)
+    match first_at(alloc, s, at, top, name, place) {
+        Ok(met) => Ok(met.found),
+        Err(stop) => Err(stop),
+    }
 }

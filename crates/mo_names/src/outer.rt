@@ -166,11 +166,11 @@ pub fn inner_of<'t>(
 {
     let mut frame = outer.home;
     while let Some(owner) = s.owner(frame) {
-        let inner = inner_in(alloc, s, outer, owner, place)?;
-        if let Some(member) = inner {
-            return Ok((owner, member));
+        match inner_in(alloc, s, outer, owner, place) {
+            Ok(Some(member)) => return Ok((owner, member)),
+            Ok(None) => frame = owner,
+            Err(stop) => return Err(stop),
         }
-        frame = owner;
     }
     Err(stop(45, outer.declares.place))
 }
@@ -214,6 +214,8 @@ fn component_for<'t>(
     if !member.declares.flags.outer {
         return Ok(Found::Component(frame, *member));
     }
-    let (owner, inner) = inner_of(alloc, s, member, place)?;
-    Ok(Found::Component(owner, inner))
+    match inner_of(alloc, s, member, place) {
+        Ok((owner, inner)) => Ok(Found::Component(owner, inner)),
+        Err(stop) => Err(stop),
+    }
 }

@@ -54,10 +54,11 @@ fn find_in_component<'t>(
     ensures value { Gives (found_in (frames_of s.new)) result (reached_in_component (table_in s.old) place (frame_at s.old frame.0) name.now) }
     ensures stand { IfOk result (IsFound s.new) }
 {
-    match find_element(alloc, s, frame, name, place)? {
-        Reached::Element(part) => part_of_component(alloc, s, frame, &part, place),
-        Reached::Other(_) => Err(stop(12, place)),
-        Reached::Absent => Err(stop(12, place)),
+    match find_element(alloc, s, frame, name, place) {
+        Ok(Reached::Element(part)) => part_of_component(alloc, s, frame, &part, place),
+        Ok(Reached::Other(_)) => Err(stop(12, place)),
+        Ok(Reached::Absent) => Err(stop(12, place)),
+        Err(stop) => Err(stop),
     }
 }
 
@@ -108,8 +109,10 @@ fn find_behind_class<'t>(
     ensures value { Gives (found_in (frames_of s.new)) result (class_next (table_in s.old) (frame_at s.old frame.0) name.now place) }
     ensures stand { IfOk result (IsFound s.new) }
 {
-    let found = behind_class_at(alloc, s, frame, name, place)?;
-    taken(alloc, s, false, &found, place)
+    match behind_class_at(alloc, s, frame, name, place) {
+        Ok(found) => taken(alloc, s, false, &found, place),
+        Err(stop) => Err(stop),
+    }
 }
 
 /// What an identifier of an expression finds behind a dot. Behind a class stands an element of it, of which a component is a
@@ -165,7 +168,10 @@ fn find_all_behind<'t>(
 {
     let mut found = first;
     for at in 1..parts.len() {
-        found = find_next(alloc, s, &found, &parts[at])?;
+        match find_next(alloc, s, &found, &parts[at]) {
+            Ok(next) => found = next,
+            Err(stop) => return Err(stop),
+        }
     }
     Ok(found)
 }

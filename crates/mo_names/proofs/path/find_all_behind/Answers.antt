@@ -1,6 +1,5 @@
 -- One identifier further.
-use Rattle.std.proofs.Common.{◌≡◌, ◌+◌, drop, ap, sym, ◌∙◌}
-use Rattle.std.proofs.lemmas.Result.{err_from_is_err_and}
+use Rattle.std.proofs.Common.{◌+◌, drop, ◌∙◌}
 use Rattle.mo_scope.specs.Lookup.{Found}
 use Rattle.mo_scope.specs.Names.{behind_found, found_behind}
 use Rattle.mo_scope.specs.Worlds.{frames_of, table_in}
@@ -10,28 +9,27 @@ use Rattle.mo_names.proofs.Later.{grows_trans}
 use Rattle.mo_names.proofs.Paths.{behind_step}
 use Rattle.mo_names.proofs.path.find_all_behind.Goals as goal
 
-pub returns-in_err-found-clause-value : goal.returns-in_err-found-clause-value
-returns-in_err-found-clause-value c =
-    let p = err_from_is_err_and c.from_residual.result c.from_residual.ensures.1 in
+pub returns-in-Err-clause-value : goal.returns-in-Err-clause-value
+returns-in-Err-clause-value c =
     let F : Found = found_in (frames_of c.loop-at.s) c.loop-at.found in
-    rw (p.1, p.2) (loop_err (found_in (frames_of c.find_next.new.s)) (found_in (frames_of c.find_next.new.s)) c.in_err-found.field-0.0 c.args.s.now c.loop-at.s
+    loop_err (found_in (frames_of c.find_next.new.s)) (found_in (frames_of c.find_next.new.s)) c.in-Err.stop c.args.s.now c.loop-at.s
     (λ t. behind_found t F c.index-parts-at.result)
     (λ next. found_behind (table_in c.args.s.now) next (drop (c.loop-at.at + 1) c.args.parts.now)) _
-    c.loop-at.invariant.grows c.in_err-found.ensures.value
+    c.loop-at.invariant.grows c.in-Err.ensures.value
     (behind_step (table_in c.args.s.now) F c.index-parts-at.result (drop (c.loop-at.at + 1) c.args.parts.now)
-    ∙ left_from (found_behind (table_in c.args.s.now) F) c.args.parts.now c.loop-at.at c.index-parts-at.result _ c.loop-at-test.true c.index-parts-at.is c.loop-at.invariant.left))
+    ∙ left_from (found_behind (table_in c.args.s.now) F) c.args.parts.now c.loop-at.at c.index-parts-at.result _ c.loop-at-test.true c.index-parts-at.is c.loop-at.invariant.left)
 
 pub loop-at-preserved : goal.loop-at-preserved
 loop-at-preserved c =
     let F : Found = found_in (frames_of c.loop-at.s) c.loop-at.found in
     record {
-      grows = grows_trans c.args.s.now c.loop-at.s c.find_next.new.s c.loop-at.invariant.grows c.in_ok-found.ensures.grows;
-      stand = c.in_ok-found.ensures.stand;
+      grows = grows_trans c.args.s.now c.loop-at.s c.find_next.new.s c.loop-at.invariant.grows c.in-Ok.ensures.grows;
+      stand = c.in-Ok.ensures.stand;
       left =
           then_ok (behind_found (table_in c.args.s.now) F c.index-parts-at.result)
           (λ next. found_behind (table_in c.args.s.now) next (drop (c.loop-at.at + 1) c.args.parts.now))
-          (found_in (frames_of c.find_next.new.s) c.in_ok-found.found) _
+          (found_in (frames_of c.find_next.new.s) c.in-Ok.next) _
           (behind_step (table_in c.args.s.now) F c.index-parts-at.result (drop (c.loop-at.at + 1) c.args.parts.now)
           ∙ left_from (found_behind (table_in c.args.s.now) F) c.args.parts.now c.loop-at.at c.index-parts-at.result _ c.loop-at-test.true c.index-parts-at.is c.loop-at.invariant.left)
-          (told_of (λ t. behind_found t F c.index-parts-at.result) c.args.s.now c.loop-at.s _ c.loop-at.invariant.grows c.in_ok-found.ensures.value);
+          (told_of (λ t. behind_found t F c.index-parts-at.result) c.args.s.now c.loop-at.s _ c.loop-at.invariant.grows c.in-Ok.ensures.value);
     }
