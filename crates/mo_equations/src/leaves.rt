@@ -1,6 +1,6 @@
 //! The leaves of a tree of instances by number and by path.
 ghost use Rattle.std.specs.Prelude.{◌≡◌, ◌++◌, ◌∷◌, [], ℕ, List as Seq, Some, map, is_some, if◌then◌else◌, option_copied, slice_get, string_bytes, IfOk, OnOk};
-ghost use Rattle.std.specs.BTreeMap.{get_by_text};
+ghost use Rattle.std.specs.HashMap.{get_by_text};
 ghost use Rattle.std.specs.List.{list_any};
 ghost use Rattle.std.specs.Str.{bytes_eq};
 ghost use Rattle.mo_scope.specs.Places.{Every};
@@ -18,7 +18,7 @@ use crate::table::PathTable;
 use mo_scope::{Instance, Leaf, Scopes};
 use mo_syntax::{ClassId, ClassKind, List, NoMemory, Role};
 use std::alloc::Global;
-use std::collections::BTreeMap;
+use std::collections::HashMap;
 
 /// The instances of a class, and the variables among them by number.
 #[derive(Drop)]
@@ -33,7 +33,7 @@ pub(crate) struct Leaves<'i, 't> {
     /// Whether each is the flow of a connector.
     pub flows: List<bool>,
     /// The numbers of the variables at a path or below it that are leaves of connectors, ascending, by the path's text.
-    pub below: BTreeMap<String, List<u32>>,
+    pub below: HashMap<String, List<u32>>,
 }
 
 /// Whether a leaf of that role is a leaf of a connector.
@@ -272,7 +272,7 @@ fn with_one(alloc: Global, numbers: Option<List<u32>>, number: u32) -> Result<Li
 /// Puts a number under a text, behind those before, if it does not stand there.
 fn put(
     alloc: Global,
-    below: &mut BTreeMap<String, List<u32>>,
+    below: &mut HashMap<String, List<u32>>,
     text: String,
     number: u32,
 ) -> Result<(), NoMemory>
@@ -287,7 +287,7 @@ fn put(
 /// Puts the number of a variable under each path that is its path or leads to it.
 fn put_around(
     alloc: Global,
-    below: &mut BTreeMap<String, List<u32>>,
+    below: &mut HashMap<String, List<u32>>,
     path: &[Step],
     number: u32,
 ) -> Result<(), NoMemory>
@@ -303,7 +303,7 @@ fn put_around(
 /// Puts the number of a variable under each path at and around it, if it is a leaf of a connector.
 fn put_variable<'t>(
     alloc: Global,
-    below: &mut BTreeMap<String, List<u32>>,
+    below: &mut HashMap<String, List<u32>>,
     variable: &Instance<'t>,
     number: u32,
 ) -> Result<(), NoMemory>
@@ -320,10 +320,10 @@ fn put_variable<'t>(
 fn numbers_below<'t>(
     alloc: Global,
     instances: &[Instance<'t>],
-) -> Result<BTreeMap<String, List<u32>>, NoMemory>
+) -> Result<HashMap<String, List<u32>>, NoMemory>
     ensures { IfOk result (λ made. (text : Seq ℕ) → numbers_or_none (get_by_text made text) ≡ numbers_at (leaves_in instances.now) text) }
 {
-    let mut made = BTreeMap::new(alloc);
+    let mut made = HashMap::new(alloc);
     let mut number: u32 = 1;
     for instance in instances {
         if instance.leaf.is_none() {

@@ -8,13 +8,13 @@ ghost use Rattle.mo_equations.specs.steps.Tables.{IsPathTable, paths_seen, place
 use crate::paths::{Step, text_of_path};
 use mo_syntax::{InstancePath, List, NoMemory};
 use std::alloc::Global;
-use std::collections::BTreeMap;
+use std::collections::HashMap;
 
 /// Paths in their order, and the place of the first one of each text.
 #[derive(Drop)]
 pub(crate) struct PathTable<'i> {
     pub paths: List<&'i InstancePath>,
-    pub places: BTreeMap<String, u32>,
+    pub places: HashMap<String, u32>,
 }
 
 fn same_numbers(a: &[u32], b: &[u32]) -> bool
@@ -57,7 +57,7 @@ impl<'i> PathTable<'i> {
     {
         PathTable {
             paths: List::new(alloc),
-            places: BTreeMap::new(alloc),
+            places: HashMap::new(alloc),
         }
     }
 

@@ -1,6 +1,6 @@
 -- Tables of paths: the first place of a path, and of a text.
 use Rattle.std.specs.Prelude.{◌≡◌, ℕ, ◌+◌, ◌<◌, ◌^◌, ◌-◌, Bool, ◌&&◌, List, [], ◌∷◌, length, map, Option, Some, None, option_map, if◌then◌else◌}
-use Rattle.std.specs.BTreeMap.{get_by_text}
+use Rattle.std.specs.HashMap.{get_by_text}
 use Rattle.std.specs.Str.{bytes_eq}
 use Rattle.mo_scope.specs.Frames.{Indexed, indexed_eq, numbers_eq}
 use Rattle.mo_equations.specs.declared.table.PathTable.{PathTable}

@@ -1,6 +1,6 @@
 -- The numbers under the text of a path are those of the leaves below it.
 use Rattle.std.proofs.Common.{◌≡◌, ℕ, [], List, None, Some, flat_map, ap, sym, ◌∙◌}
-use Rattle.std.specs.BTreeMap.{get_by_text}
+use Rattle.std.specs.HashMap.{get_by_text}
 use Rattle.mo_flat.specs.declared.connect.EndLeaf.{EndLeaf}
 use Rattle.mo_scope.specs.Worlds.{frames_of, table_in}
 use Rattle.mo_equations.specs.Connectors.{leaves_below}

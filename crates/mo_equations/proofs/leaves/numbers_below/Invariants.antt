@@ -1,6 +1,6 @@
 -- With the numbers of the variables that are left it is that of all.
 use Rattle.std.proofs.Common.{◌≡◌, ℕ, List, drop}
-use Rattle.std.specs.BTreeMap.{get_by_text}
+use Rattle.std.specs.HashMap.{get_by_text}
 use Rattle.mo_equations.specs.steps.LeafTables.{leaves_in, numbers_at, numbers_from, numbers_or_none}
 use Rattle.mo_equations.proofs.leaves.numbers_below.Given as goal
 

@@ -1,6 +1,6 @@
 -- The number stands under the texts of the prefixes so far.
 use Rattle.std.proofs.Common.{◌≡◌, ℕ, List, take, if◌then◌else◌}
-use Rattle.std.specs.BTreeMap.{get_by_text}
+use Rattle.std.specs.HashMap.{get_by_text}
 use Rattle.std.specs.List.{list_any}
 use Rattle.mo_equations.specs.steps.LeafTables.{has_text, numbers_or_none, prefixes, with_number}
 use Rattle.mo_equations.proofs.leaves.put_around.Given as goal

@@ -2,8 +2,8 @@
 use Rattle.std.proofs.Common.{◌≡◌, ◌+◌, ◌<◌, ◌^◌, ◌++◌, ◌∷◌, [], ℕ, suc, Bool, true, false, List, Option, None, Some, is_some, length, map, refl, ap, sym, ◌∙◌, arith, length-append}
 use Rattle.std.specs.Prelude.{string_bytes}
 use Rattle.std.specs.Borrow.{Bor}
-use Rattle.std.specs.BTreeMap.{get_by_text}
-use Rattle.std.proofs.lemmas.Map.Text.{btree_map_updates_text}
+use Rattle.std.specs.HashMap.{get_by_text}
+use Rattle.std.proofs.lemmas.Map.Text.{hash_map_updates_text}
 use Rattle.mo_syntax.specs.declared.meaning.InstancePath.{InstancePath}
 use Rattle.mo_equations.specs.declared.table.PathTable.{PathTable}
 use Rattle.mo_scope.specs.Frames.{Indexed}
@@ -59,7 +59,7 @@ returns-clause-is c =
             places = λ other.
                 placed_new paths (map path c.push.new.self) (path c.args.path) text other c.len-place.result (get_by_text table.places other) (get_by_text c.if-not-contains_key.self.places other)
                 (seen_more path table.paths c.push.new.self c.args.path all) is (c.len-place.ensures ∙ sym (length_map path table.paths)) new
-                (ap (λ (t : PathTable). get_by_text t.places other) w.self-is ∙ btree_map_updates_text text table.places w.insert.new.self (Some c.len-place.result) w.in_ok-insert.ensures.updates other)
+                (ap (λ (t : PathTable). get_by_text t.places other) w.self-is ∙ hash_map_updates_text text table.places w.insert.new.self (Some c.len-place.result) w.in_ok-insert.ensures.updates other)
                 (c.requires.is.places other);
           })
           c.push.ensures.ok
