@@ -222,10 +222,11 @@ fn declared_behind<'t>(
     ensures exists { IfOk result (IsMember s.new) }
 {
     let frame = enter_component(alloc, s, member, &[])?;
-    match find_element(alloc, s, frame, &part.name, part.place)? {
-        Reached::Element(next) => component_only(next, part.place),
-        Reached::Other(_) => Err(stop(12, part.place)),
-        Reached::Absent => Err(stop(12, part.place)),
+    match find_element(alloc, s, frame, &part.name, part.place) {
+        Ok(Reached::Element(next)) => component_only(next, part.place),
+        Ok(Reached::Other(_)) => Err(stop(12, part.place)),
+        Ok(Reached::Absent) => Err(stop(12, part.place)),
+        Err(stop) => Err(stop),
     }
 }
 

@@ -76,8 +76,10 @@ pub(crate) fn function_named<'t>(
     ensures grows { Grows s.old s.new }
     ensures exact { Gives result (function_named (table_in s.old) (scope_of s.old site.now) place (as_reference (part_in s.old site.now) reference.now)) }
 {
-    let found = find_path(alloc, s, site.at, reference, false)?;
-    answer(function_found(place, reference, &found))
+    match find_path(alloc, s, site.at, reference, false) {
+        Ok(found) => answer(function_found(place, reference, &found)),
+        Err(stop) => Err(stop),
+    }
 }
 
 fn are_values(args: &[Arg]) -> bool

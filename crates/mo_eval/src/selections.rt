@@ -163,13 +163,14 @@ fn standing<'t>(
     ensures there { IfOk result (IsMember s.new) }
     ensures exact { GivesSeen (member_of (frames_of s.new)) result (component_standing (table_in s.old) place (frame_at s.old frame.0) (member_of (frames_of s.old) part.now)) }
 {
-    match stands_for(alloc, s, &Found::Component(frame, *part), place)? {
-        Found::Component(_, member) => Ok(member),
-        Found::Class(_, _) => Err(Stop::Broken(broken(12, place))),
-        Found::Literal(_, _) => Err(Stop::Broken(broken(12, place))),
-        Found::Iteration(_) => Err(Stop::Broken(broken(12, place))),
-        Found::Function(_) => Err(Stop::Broken(broken(12, place))),
-        Found::Time => Err(Stop::Broken(broken(12, place))),
+    match stands_for(alloc, s, &Found::Component(frame, *part), place) {
+        Ok(Found::Component(_, member)) => Ok(member),
+        Ok(Found::Class(_, _)) => Err(Stop::Broken(broken(12, place))),
+        Ok(Found::Literal(_, _)) => Err(Stop::Broken(broken(12, place))),
+        Ok(Found::Iteration(_)) => Err(Stop::Broken(broken(12, place))),
+        Ok(Found::Function(_)) => Err(Stop::Broken(broken(12, place))),
+        Ok(Found::Time) => Err(Stop::Broken(broken(12, place))),
+        Err(stop) => Err(stop),
     }
 }
 
@@ -186,10 +187,11 @@ fn component_in<'t>(
     ensures there { IfOk result (IsMember s.new) }
     ensures exact { GivesSeen (member_of (frames_of s.new)) result (component_in (table_in s.old) place (frame_at s.old frame.0) name.now) }
 {
-    match find_element(alloc, s, frame, name, place)? {
-        Reached::Element(part) => standing(alloc, s, place, frame, &part),
-        Reached::Other(_) => Err(Stop::Broken(broken(12, place))),
-        Reached::Absent => Err(Stop::Broken(broken(12, place))),
+    match find_element(alloc, s, frame, name, place) {
+        Ok(Reached::Element(part)) => standing(alloc, s, place, frame, &part),
+        Ok(Reached::Other(_)) => Err(Stop::Broken(broken(12, place))),
+        Ok(Reached::Absent) => Err(Stop::Broken(broken(12, place))),
+        Err(stop) => Err(stop),
     }
 }
 

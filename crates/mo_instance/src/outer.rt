@@ -244,6 +244,8 @@ pub(crate) fn outer_checked<'t>(
     if wrongly {
         return Err(stop(34, place));
     }
-    let found = inner_of(alloc, s, member, place)?;
-    inner_checked(alloc, s, member, &found.1)
+    match inner_of(alloc, s, member, place) {
+        Ok(found) => inner_checked(alloc, s, member, &found.1),
+        Err(stop) => Err(stop),
+    }
 }

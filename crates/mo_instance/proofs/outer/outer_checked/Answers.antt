@@ -1,6 +1,5 @@
 -- What the outer component may not have, then the inner one.
 use Rattle.std.proofs.Common.{subst}
-use Rattle.std.proofs.lemmas.Result.{err_from_is_err_and}
 use Rattle.mo_scope.specs.Names.{inner_of}
 use Rattle.mo_scope.specs.Outcome.{Gives}
 use Rattle.mo_scope.specs.Worlds.{frame_at, frames_of, table_in}
@@ -15,17 +14,16 @@ pub returns-then-wrongly-clause-value : goal.returns-then-wrongly-clause-value
 returns-then-wrongly-clause-value c =
     rw c.stop.ensures (wrongly_is (table_in c.args.s.now) (member_of (frames_of c.args.s.now) c.args.member.now) c.in_ok-wrongly.wrongly c.in_ok-wrongly.ensures c.if-wrongly.true)
 
-pub returns-in_err-found-clause-value : goal.returns-in_err-found-clause-value
-returns-in_err-found-clause-value c =
-    let p = err_from_is_err_and c.from_residual-in_err-found.result c.from_residual-in_err-found.ensures.1 in
+pub returns-in-Err-clause-value : goal.returns-in-Err-clause-value
+returns-in-Err-clause-value c =
     let T = table_in c.args.s.now in
     let m = member_of (frames_of c.args.s.now) c.args.member.now in
-    rw (p.1, p.2) (broken_on {U = Unit {0}} (component_seen (frames_of c.inner_of.new.s)) (λ _. tt) c.in_err-found.field-0.0 (inner_of T m.declares.place m) (λ inner. inner_asked T m inner.1) _
-    c.in_err-found.ensures.value (rightly_is T m c.in_ok-wrongly.wrongly c.in_ok-wrongly.ensures c.if-wrongly.false))
+    broken_on {U = Unit {0}} (component_seen (frames_of c.inner_of.new.s)) (λ _. tt) c.in-Err.stop (inner_of T m.declares.place m) (λ inner. inner_asked T m inner.1) _
+    c.in-Err.ensures.value (rightly_is T m c.in_ok-wrongly.wrongly c.in_ok-wrongly.ensures c.if-wrongly.false)
 
-pub returns-clause-value : goal.returns-clause-value
-returns-clause-value c =
+pub returns-in-Ok-clause-value : goal.returns-in-Ok-clause-value
+returns-in-Ok-clause-value c =
     subst (Gives {T = Unit {0}} {A = Unit {0}} (λ _. tt) c.inner_checked.result)
-    (inner_is c.args.s.now c.inner_of.new.s c.args.member.now c.in_ok-found.found.1 (frame_at c.inner_of.new.s c.in_ok-found.found.0.0) c.in_ok-wrongly.wrongly
-    c.in_ok-found.ensures.grows c.requires c.in_ok-wrongly.ensures c.if-wrongly.false c.in_ok-found.ensures.value)
+    (inner_is c.args.s.now c.inner_of.new.s c.args.member.now c.in-Ok.found.1 (frame_at c.inner_of.new.s c.in-Ok.found.0.0) c.in_ok-wrongly.wrongly
+    c.in-Ok.ensures.grows c.requires c.in_ok-wrongly.ensures c.if-wrongly.false c.in-Ok.ensures.value)
     c.inner_checked.ensures.value
