@@ -1,0 +1,448 @@
+-- What is answered of the calls of calls.rt.
+use Rattle.mo_eval.proofs.Arguing.{called_partly, called_plain, derived_partly, derived_plain, fill_by, no_lone, number_alone, number_halts, number_more, number_more_halts, plain_parts, read_halts}
+use Rattle.mo_eval.proofs.Calling.{each_more, from_halts, none_by, plain_at, plain_length}
+use Rattle.mo_eval.proofs.Growing.{behind_made as behind_made_of_growing, each_go_on, each_halt, given_made, gives_as, gives_halt, halts_through, made_as, same_asked, same_elements, same_made, same_part}
+use Rattle.mo_eval.proofs.Grown.{frame_stays, grows_on, kept_still, same_virtuals, there_still}
+use Rattle.mo_eval.proofs.Sizing.{same_plain, size_by}
+use Rattle.mo_values.specs.Asked.{argument_of_size, operand}
+use Rattle.mo_values.specs.Made.{derivative_of, takes}
+use Rattle.mo_eval.specs.Calls.{function_named, made_function, make_arguments, read_size, read_sizes}
+use Rattle.mo_eval.specs.Seen.{virtuals_seen}
+use Rattle.mo_eval.specs.Sites.{ask_of, elements_in, part_in, scope_of}
+use Rattle.mo_eval.specs.steps.Calling.{filled_with, number_of_size}
+use Rattle.mo_eval.specs.steps.Parts.{as_part, as_reference, made_arguments}
+use Rattle.mo_flat.specs.declared.array.ArrayNode.TheVariants.{Size, Sized}
+use Rattle.mo_scope.specs.Worlds.{frames_of, table_in}
+use Rattle.mo_syntax.specs.declared.expr.Args.{out-Args}
+use Rattle.mo_typing.specs.Outcome.{and_then}
+use Rattle.std.proofs.Common.{Err, None, Ok, Some, [], add-one, ap, arith, drop, false, length, refl, rules, suc, sym, true, ◌++◌, ◌∙◌, ◌∷◌, ◌≡◌}
+use Rattle.std.proofs.lemmas.List.{append-nil, drop_all}
+use Rattle.mo_eval.proofs.+resolving.Goals as goal
+
+pub arguments-returns-in_err-one-clause-exact : goal.calls::arguments-returns-in_err-one-clause-exact
+arguments-returns-in_err-one-clause-exact t c = λ parts all.
+    let e = c.in-Value.e in
+    let i = c.loop-arg.arg-index in
+    let context = c.args.site.now.context in
+    let f = part_in c.args.s.now c.args.site.now in
+    let before = virtuals_seen (frames_of c.loop-arg.s) c.loop-arg.virtuals in
+    let same = same_part c.args.s.now c.loop-arg.s c.args.site.now c.loop-arg.invariant.0 c.requires.frame e in
+    let first = plain_at (table_in c.args.s.now) (ask_of c.args.s.now c.args.site.now) (scope_of c.args.s.now c.args.site.now) c.args.args.now parts i e all c.loop-arg-test.true (rw c.in-Value.is at c.arg-item.is) in
+    let p : c.from_residual.result ≡ Err c.in_err-one.field-0.0 = search rules in
+    rw p (made_as _ _ _ _ _
+    (ap (λ xs. and_then (make_arguments context xs before) (behind_made_of_growing c.loop-arg.made)) (sym first) ∙ c.loop-arg.invariant.2 parts all)
+    (each_halt _ c.in_err-one.field-0.0 _ (λ argument. argument.1 (operand context)) c.loop-arg.made (f e) (drop (suc i) parts) before (same_made _ _ _ context _ _ _ same c.in_err-one.ensures.exact)))
+
+pub arguments-loop-arg-preserved : goal.calls::arguments-loop-arg-preserved
+arguments-loop-arg-preserved t c =
+    let e = c.in-Value.e in
+    let i = c.loop-arg.arg-index in
+    let context = c.args.site.now.context in
+    let f = part_in c.args.s.now c.args.site.now in
+    let before = virtuals_seen (frames_of c.loop-arg.s) c.loop-arg.virtuals in
+    let after = virtuals_seen (frames_of c.operand.new.s) c.operand.new.virtuals in
+    let same = same_part c.args.s.now c.loop-arg.s c.args.site.now c.loop-arg.invariant.0 c.requires.frame e in
+    let one = (same_made _ _ _ context _ _ _ same c.in_ok-one.ensures.exact).is in
+    let pushed : c.push.new.self ≡ c.loop-arg.made ++ c.in_ok-one.one ∷ [] = search rules in (
+      grows_on _ _ _ c.loop-arg.invariant.0 c.operand.ensures.grows,
+      c.operand.ensures.there,
+      λ parts all.
+          let first = plain_at (table_in c.args.s.now) (ask_of c.args.s.now c.args.site.now) (scope_of c.args.s.now c.args.site.now) c.args.args.now parts i e all c.loop-arg-test.true (rw c.in-Value.is at c.arg-item.is) in
+          rw (pushed, add-one)
+          (sym (each_go_on (λ argument. argument.1 (operand context)) c.loop-arg.made (f e) (drop (suc i) parts) before c.in_ok-one.one after one)
+          ∙ (ap (λ xs. and_then (make_arguments context xs before) (behind_made_of_growing c.loop-arg.made)) (sym first) ∙ c.loop-arg.invariant.2 parts all)),
+      c.operand.ensures.kept,
+    )
+
+pub arguments-returns-clause-exact : goal.calls::arguments-returns-clause-exact
+arguments-returns-clause-exact t c = λ parts all.
+    let i = c.loop-arg.arg-index in
+    let before = virtuals_seen (frames_of c.loop-arg.s) c.loop-arg.virtuals in
+    let counted = plain_length (table_in c.args.s.now) (ask_of c.args.s.now c.args.site.now) (scope_of c.args.s.now c.args.site.now) c.args.args.now parts all in
+    let none : drop i parts ≡ [] = drop_all i parts (omega arith) in
+    let ending = ap (λ xs. and_then (make_arguments c.args.site.now.context xs before) (behind_made_of_growing c.loop-arg.made)) (sym none) ∙ c.loop-arg.invariant.2 parts all in
+    record { is = sym ending ∙ ap (λ xs. Ok (xs, before)) (append-nil c.loop-arg.made) }
+
+pub sizes-returns-in_err-one-clause-exact : goal.calls::sizes-returns-in_err-one-clause-exact
+sizes-returns-in_err-one-clause-exact t c = λ parts all.
+    let e = c.in-Value.e in
+    let i = c.loop-arg.arg-index in
+    let context = c.args.site.now.context in
+    let read = elements_in c.args.s.now c.args.site.now.left in
+    let f = part_in c.args.s.now c.args.site.now in
+    let stop = c.in_err-one.field-0.0 in
+    let same = same_asked (λ read part. read_size read context (part e)) c.args.s.now c.loop-arg.s c.args.site.now c.loop-arg.invariant.0 c.requires.frame in
+    let first = plain_at (table_in c.args.s.now) (ask_of c.args.s.now c.args.site.now) (scope_of c.args.s.now c.args.site.now) c.args.args.now parts i e all c.loop-arg-test.true (rw c.in-Value.is at c.arg-item.is) in
+    let p : c.from_residual.result ≡ Err stop = search rules in
+    rw p (gives_as (Err stop) _ _
+    (ap (λ xs. and_then (read_sizes read context xs) (λ more. Ok (c.loop-arg.made ++ more))) (sym first) ∙ c.loop-arg.invariant.1 parts all)
+    (gives_halt stop (read_sizes read context (f e ∷ drop (suc i) parts)) (λ more. Ok (c.loop-arg.made ++ more))
+    (gives_halt stop (read_size read context (f e)) (λ v. and_then (read_sizes read context (drop (suc i) parts)) (λ vs. Ok (v ∷ vs)))
+    (gives_as (Err stop) _ _ same c.in_err-one.ensures.exact))))
+
+pub sizes-loop-arg-preserved : goal.calls::sizes-loop-arg-preserved
+sizes-loop-arg-preserved t c =
+    let e = c.in-Value.e in
+    let i = c.loop-arg.arg-index in
+    let context = c.args.site.now.context in
+    let read = elements_in c.args.s.now c.args.site.now.left in
+    let f = part_in c.args.s.now c.args.site.now in
+    let same = same_asked (λ read part. read_size read context (part e)) c.args.s.now c.loop-arg.s c.args.site.now c.loop-arg.invariant.0 c.requires.frame in
+    let pushed : c.push.new.self ≡ c.loop-arg.made ++ c.in_ok-one.one ∷ [] = search rules in (
+      grows_on _ _ _ c.loop-arg.invariant.0 c.read_size.ensures.grows,
+      λ parts all.
+          let first = plain_at (table_in c.args.s.now) (ask_of c.args.s.now c.args.site.now) (scope_of c.args.s.now c.args.site.now) c.args.args.now parts i e all c.loop-arg-test.true (rw c.in-Value.is at c.arg-item.is) in
+          rw (pushed, add-one)
+          (sym (each_more (read_size read context) c.loop-arg.made (f e) (drop (suc i) parts) c.in_ok-one.one (sym same ∙ c.in_ok-one.ensures.exact))
+          ∙ (ap (λ xs. and_then (read_sizes read context xs) (λ more. Ok (c.loop-arg.made ++ more))) (sym first) ∙ c.loop-arg.invariant.1 parts all)),
+      c.read_size.ensures.kept,
+    )
+
+pub sizes-returns-clause-exact : goal.calls::sizes-returns-clause-exact
+sizes-returns-clause-exact t c = λ parts all.
+    let i = c.loop-arg.arg-index in
+    let counted = plain_length (table_in c.args.s.now) (ask_of c.args.s.now c.args.site.now) (scope_of c.args.s.now c.args.site.now) c.args.args.now parts all in
+    let none : drop i parts ≡ [] = drop_all i parts (omega arith) in
+    let read = elements_in c.args.s.now c.args.site.now.left in
+    let ending = ap (λ xs. and_then (read_sizes read c.args.site.now.context xs) (λ more. Ok (c.loop-arg.made ++ more))) (sym none) ∙ c.loop-arg.invariant.1 parts all in
+    sym ending ∙ ap Ok (append-nil c.loop-arg.made)
+
+pub number-returns-in_default-clause-exact : goal.calls::number-returns-in_default-clause-exact
+number-returns-in_default-clause-exact t c = λ parts all.
+    let none : parts ≡ [] = c.in_default.ensures (table_in c.args.s.now) (ask_of c.args.s.now c.args.site.now) (scope_of c.args.s.now c.args.site.now) parts all in
+    rw none (record { is = refl })
+
+pub number-returns-in_err-n-clause-there : goal.calls::number-returns-in_err-n-clause-there
+number-returns-in_err-n-clause-there t c = there_still _ _ c.read_size.ensures.grows _ c.requires.there
+
+pub number-returns-in_err-n-clause-exact : goal.calls::number-returns-in_err-n-clause-exact
+number-returns-in_err-n-clause-exact t c = λ parts all.
+    let first = c.in-Some.ensures (table_in c.args.s.now) (ask_of c.args.s.now c.args.site.now) (scope_of c.args.s.now c.args.site.now) parts all in
+    let p : c.from_residual.result ≡ Err c.in_err-n.field-0.0 = search rules in
+    rw (p, first.is) (number_halts _ c.in_err-n.field-0.0 _ (elements_in c.args.s.now c.args.site.now.left) c.args.site.now.context c.args.place (part_in c.args.s.now c.args.site.now c.in-Some.e.now) first.others
+    (virtuals_seen (frames_of c.args.s.now) c.args.virtuals.now) c.in_err-n.ensures.exact)
+
+pub number-returns-in-None-clause-there : goal.calls::number-returns-in-None-clause-there
+number-returns-in-None-clause-there t c = there_still _ _ c.read_size.ensures.grows _ c.requires.there
+
+pub number-returns-in-None-clause-exact : goal.calls::number-returns-in-None-clause-exact
+number-returns-in-None-clause-exact t c = λ parts all.
+    let table = table_in c.args.s.now in
+    let ask = ask_of c.args.s.now c.args.site.now in
+    let scope = scope_of c.args.s.now c.args.site.now in
+    let first = c.in-Some.ensures table ask scope parts all in
+    let none : first.others ≡ [] = c.in-None.ensures table ask scope first.others first.rest in
+    let same = same_virtuals c.args.s.now c.read_size.new.s c.read_size.ensures.grows c.args.virtuals.now c.requires.there in
+    let read = elements_in c.args.s.now c.args.site.now.left in
+    let part = part_in c.args.s.now c.args.site.now c.in-Some.e.now in
+    let before = virtuals_seen (frames_of c.args.s.now) c.args.virtuals.now in
+    record {
+      is = ap (λ parts. number_of_size read c.args.site.now.context c.args.place parts before) (first.is ∙ ap (λ others. part ∷ others) none)
+          ∙ (number_alone read c.args.site.now.context c.args.place part before c.in_ok-n.n c.in_ok-n.ensures.exact
+          ∙ ap (λ seen. Ok (Some c.in_ok-n.n, seen)) (sym same));
+    }
+
+pub number-arguments-requires : goal.calls::number-arguments-requires
+number-arguments-requires t c = (
+  search rules,
+  (
+    frame_stays _ _ _ c.read_size.ensures.grows c.requires.frame,
+    (there_still _ _ c.read_size.ensures.grows _ c.requires.there, c.read_size.ensures.kept),
+  ),
+)
+
+pub number-returns-in_err-arguments-in-Some-split-clause-exact : goal.calls::number-returns-in_err-arguments-in-Some-split-clause-exact
+number-returns-in_err-arguments-in-Some-split-clause-exact t c = λ parts all.
+    let table = table_in c.args.s.now in
+    let ask = ask_of c.args.s.now c.args.site.now in
+    let scope = scope_of c.args.s.now c.args.site.now in
+    let context = c.args.site.now.context in
+    let mid = c.read_size.new.s in
+    let first = c.in-Some.ensures table ask scope parts all in
+    let second = c.in-Some-split.ensures table ask scope first.others first.rest in
+    let read = elements_in c.args.s.now c.args.site.now.left in
+    let part = part_in c.args.s.now c.args.site.now c.in-Some.e.now in
+    let before = virtuals_seen (frames_of c.args.s.now) c.args.virtuals.now in
+    let rest = same_plain c.args.s.now mid c.args.site.now c.read_size.ensures.grows c.requires.frame c.in-Some.others.now ∙ first.rest in
+    let stop = c.in_err-arguments-in-Some-split.field-0.0 in
+    let p : c.from_residual-in_err-arguments-in-Some-split.result ≡ Err stop = search rules in
+    let same = ap (make_arguments context first.others) (same_virtuals c.args.s.now mid c.read_size.ensures.grows c.args.virtuals.now c.requires.there) in
+    rw (p, first.is)
+    (number_more_halts _ stop _ read context c.args.place part first.others before c.in_ok-n.n second.is c.in_ok-n.ensures.exact
+    (made_as _ _ _ _ _ same (c.in_err-arguments-in-Some-split.ensures.exact first.others rest)))
+
+pub number-returns-in_ok-arguments-in-Some-split-clause-exact : goal.calls::number-returns-in_ok-arguments-in-Some-split-clause-exact
+number-returns-in_ok-arguments-in-Some-split-clause-exact t c = λ parts all.
+    let table = table_in c.args.s.now in
+    let ask = ask_of c.args.s.now c.args.site.now in
+    let scope = scope_of c.args.s.now c.args.site.now in
+    let context = c.args.site.now.context in
+    let mid = c.read_size.new.s in
+    let first = c.in-Some.ensures table ask scope parts all in
+    let second = c.in-Some-split.ensures table ask scope first.others first.rest in
+    let read = elements_in c.args.s.now c.args.site.now.left in
+    let part = part_in c.args.s.now c.args.site.now c.in-Some.e.now in
+    let before = virtuals_seen (frames_of c.args.s.now) c.args.virtuals.now in
+    let rest = same_plain c.args.s.now mid c.args.site.now c.read_size.ensures.grows c.requires.frame c.in-Some.others.now ∙ first.rest in
+    let same = ap (make_arguments context first.others) (same_virtuals c.args.s.now mid c.read_size.ensures.grows c.args.virtuals.now c.requires.there) in
+    let made = sym same ∙ (c.in_ok-arguments-in-Some-split.ensures.exact first.others rest).is in
+    rw (c.broken.ensures, first.is)
+    (record { is = number_more read context c.args.place part first.others before _ c.in_ok-n.n _ second.is c.in_ok-n.ensures.exact made })
+
+pub size-returns-in_default-clause-exact : goal.calls::size-returns-in_default-clause-exact
+size-returns-in_default-clause-exact t c = λ parts all.
+    let table = table_in c.args.s.now in
+    let ask = ask_of c.args.s.now c.args.site.now in
+    let scope = scope_of c.args.s.now c.args.site.now in
+    let none : parts ≡ [] = c.in_default.ensures table ask scope parts all in
+    rw (none, c.broken.ensures) (record { is = refl })
+
+pub size-returns-in_err-inner-clause-exact : goal.calls::size-returns-in_err-inner-clause-exact
+size-returns-in_err-inner-clause-exact t c = λ parts all.
+    let table = table_in c.args.s.now in
+    let ask = ask_of c.args.s.now c.args.site.now in
+    let scope = scope_of c.args.s.now c.args.site.now in
+    let first = c.in-Some.ensures table ask scope parts all in
+    let read = elements_in c.args.s.now c.args.site.now.left in
+    let context = c.args.site.now.context in
+    let part = as_part table ask scope c.in-Some.e.now in
+    let before = virtuals_seen (frames_of c.args.s.now) c.args.virtuals.now in
+    let p : c.from_residual.result ≡ Err c.in_err-inner.field-0.0 = search rules in
+    rw (p, first.is) (made_as _ _ _ _ _ (sym (size_by read context c.args.place part first.others before))
+    (halts_through _ c.in_err-inner.field-0.0 _ (part.1 (argument_of_size context) before) _ c.in_err-inner.ensures.exact))
+
+pub size-returns-in_err-at-clause-exact : goal.calls::size-returns-in_err-at-clause-exact
+size-returns-in_err-at-clause-exact t c = λ parts all.
+    let table = table_in c.args.s.now in
+    let ask = ask_of c.args.s.now c.args.site.now in
+    let scope = scope_of c.args.s.now c.args.site.now in
+    let first = c.in-Some.ensures table ask scope parts all in
+    let read = elements_in c.args.s.now c.args.site.now.left in
+    let context = c.args.site.now.context in
+    let part = as_part table ask scope c.in-Some.e.now in
+    let before = virtuals_seen (frames_of c.args.s.now) c.args.virtuals.now in
+    let mid = c.array.new.s in
+    let after = virtuals_seen (frames_of mid) c.array.new.virtuals in
+    let rest = same_plain c.args.s.now mid c.args.site.now c.array.ensures.grows c.requires.frame c.in-Some.others.now ∙ first.rest in
+    let same = ap (λ read. number_of_size read context c.args.place first.others after) (same_elements c.args.s.now mid c.args.site.now.left c.array.ensures.grows) in
+    let p : c.from_residual-in_err-at.result ≡ Err c.in_err-at.field-0.0 = search rules in
+    let opening = size_by read context c.args.place part first.others before ∙ ap (λ o. and_then o (λ a. and_then (number_of_size read context c.args.place first.others a.1) (λ n. Ok (Size a.0 n.0, n.1)))) c.in_ok-inner.ensures.exact.is in
+    rw (p, first.is) (made_as _ _ _ _ _ (sym opening)
+    (halts_through _ c.in_err-at.field-0.0 _ (number_of_size read context c.args.place first.others after) _ (made_as _ _ _ _ _ same (c.in_err-at.ensures.exact first.others rest))))
+
+pub size-returns-clause-exact : goal.calls::size-returns-clause-exact
+size-returns-clause-exact t c = λ parts all.
+    let table = table_in c.args.s.now in
+    let ask = ask_of c.args.s.now c.args.site.now in
+    let scope = scope_of c.args.s.now c.args.site.now in
+    let first = c.in-Some.ensures table ask scope parts all in
+    let read = elements_in c.args.s.now c.args.site.now.left in
+    let context = c.args.site.now.context in
+    let part = as_part table ask scope c.in-Some.e.now in
+    let before = virtuals_seen (frames_of c.args.s.now) c.args.virtuals.now in
+    let mid = c.array.new.s in
+    let after = virtuals_seen (frames_of mid) c.array.new.virtuals in
+    let rest = same_plain c.args.s.now mid c.args.site.now c.array.ensures.grows c.requires.frame c.in-Some.others.now ∙ first.rest in
+    let same = ap (λ read. number_of_size read context c.args.place first.others after) (same_elements c.args.s.now mid c.args.site.now.left c.array.ensures.grows) in
+    let opening = size_by read context c.args.place part first.others before ∙ ap (λ o. and_then o (λ a. and_then (number_of_size read context c.args.place first.others a.1) (λ n. Ok (Size a.0 n.0, n.1)))) c.in_ok-inner.ensures.exact.is in
+    let at = (made_as _ _ _ _ _ same (c.in_ok-at.ensures.exact first.others rest)).is in
+    rw first.is (record { is = opening ∙ ap (λ o. and_then o (λ n. Ok (Size c.in_ok-inner.inner n.0, n.1))) at })
+
+pub ndims-returns-clause-exact : goal.calls::ndims-returns-clause-exact
+ndims-returns-clause-exact t c = λ parts all.
+    let one = c.in-Some.ensures (table_in c.args.s.now) (ask_of c.args.s.now c.args.site.now) (scope_of c.args.s.now c.args.site.now) parts all in
+    rw one (c.ndims_of.ensures _ _ _ c.array.ensures.exact)
+
+pub ndims-returns-in_err-arguments-clause-exact : goal.calls::ndims-returns-in_err-arguments-clause-exact
+ndims-returns-in_err-arguments-clause-exact t c = λ parts all.
+    let none = c.in_default.ensures (table_in c.args.s.now) (ask_of c.args.s.now c.args.site.now) (scope_of c.args.s.now c.args.site.now) parts all in
+    let stop = c.in_err-arguments.field-0.0 in
+    let p : c.from_residual.result ≡ Err stop = search rules in
+    let before = virtuals_seen (frames_of c.args.s.now) c.args.virtuals.now in
+    rw (p, no_lone c.args.site.now.context c.args.place parts before none)
+    (halts_through _ stop _ (make_arguments c.args.site.now.context parts before) _ (c.in_err-arguments.ensures.exact parts all))
+
+pub ndims-returns-in_default-clause-exact : goal.calls::ndims-returns-in_default-clause-exact
+ndims-returns-in_default-clause-exact t c = λ parts all.
+    let none = c.in_default.ensures (table_in c.args.s.now) (ask_of c.args.s.now c.args.site.now) (scope_of c.args.s.now c.args.site.now) parts all in
+    let before = virtuals_seen (frames_of c.args.s.now) c.args.virtuals.now in
+    rw (c.broken.ensures, no_lone c.args.site.now.context c.args.place parts before none, (c.in_ok-arguments.ensures.exact parts all).is) (record { is = refl })
+
+pub fill-returns-in_default-clause-exact : goal.calls::fill-returns-in_default-clause-exact
+fill-returns-in_default-clause-exact t c = λ parts all.
+    let none : parts ≡ [] = c.in_default.ensures (table_in c.args.s.now) (ask_of c.args.s.now c.args.site.now) (scope_of c.args.s.now c.args.site.now) parts all in
+    rw (none, c.broken.ensures) (record { is = refl })
+
+pub fill-returns-in_err-filling-clause-exact : goal.calls::fill-returns-in_err-filling-clause-exact
+fill-returns-in_err-filling-clause-exact t c = λ parts all.
+    let first = c.in-Some.ensures (table_in c.args.s.now) (ask_of c.args.s.now c.args.site.now) (scope_of c.args.s.now c.args.site.now) parts all in
+    let read = elements_in c.args.s.now c.args.site.now.left in
+    let context = c.args.site.now.context in
+    let part = part_in c.args.s.now c.args.site.now c.in-Some.e.now in
+    let before = virtuals_seen (frames_of c.args.s.now) c.args.virtuals.now in
+    let p : c.from_residual.result ≡ Err c.in_err-filling.field-0.0 = search rules in
+    rw (p, first.is) (made_as _ _ _ _ _ (sym (fill_by read context c.args.place part first.others before))
+    (halts_through _ c.in_err-filling.field-0.0 _ (part.1 (operand context) before) _ c.in_err-filling.ensures.exact))
+
+pub fill-returns-in_err-numbers-clause-there : goal.calls::fill-returns-in_err-numbers-clause-there
+fill-returns-in_err-numbers-clause-there t c = there_still _ _ c.sizes.ensures.grows _ c.operand.ensures.there
+
+pub fill-returns-in_err-numbers-clause-exact : goal.calls::fill-returns-in_err-numbers-clause-exact
+fill-returns-in_err-numbers-clause-exact t c = λ parts all.
+    let first = c.in-Some.ensures (table_in c.args.s.now) (ask_of c.args.s.now c.args.site.now) (scope_of c.args.s.now c.args.site.now) parts all in
+    let read = elements_in c.args.s.now c.args.site.now.left in
+    let context = c.args.site.now.context in
+    let part = part_in c.args.s.now c.args.site.now c.in-Some.e.now in
+    let before = virtuals_seen (frames_of c.args.s.now) c.args.virtuals.now in
+    let mid = c.operand.new.s in
+    let stop = c.in_err-numbers.field-0.0 in
+    let rest = same_plain c.args.s.now mid c.args.site.now c.operand.ensures.grows c.requires.frame c.in-Some.others.now ∙ first.rest in
+    let same = ap (λ read. read_sizes read context first.others) (same_elements c.args.s.now mid c.args.site.now.left c.operand.ensures.grows) in
+    let p : c.from_residual-in_err-numbers.result ≡ Err stop = search rules in
+    let told = gives_as (Err stop) _ _ same (c.in_err-numbers.ensures.exact first.others rest) in
+    let opening = fill_by read context c.args.place part first.others before ∙ ap (λ o. and_then o (λ made. and_then (read_sizes read context first.others) (λ numbers. and_then (filled_with c.args.place made.0 numbers) (λ node. Ok (node, made.1))))) c.in_ok-filling.ensures.exact.is in
+    rw (p, first.is) (made_as _ _ _ _ _ (sym opening) (read_halts _ stop _ (read_sizes read context first.others) _ told))
+
+pub fill-returns-clause-there : goal.calls::fill-returns-clause-there
+fill-returns-clause-there t c = there_still _ _ c.sizes.ensures.grows _ c.operand.ensures.there
+
+pub fill-returns-clause-exact : goal.calls::fill-returns-clause-exact
+fill-returns-clause-exact t c = λ parts all.
+    let first = c.in-Some.ensures (table_in c.args.s.now) (ask_of c.args.s.now c.args.site.now) (scope_of c.args.s.now c.args.site.now) parts all in
+    let read = elements_in c.args.s.now c.args.site.now.left in
+    let context = c.args.site.now.context in
+    let part = part_in c.args.s.now c.args.site.now c.in-Some.e.now in
+    let before = virtuals_seen (frames_of c.args.s.now) c.args.virtuals.now in
+    let mid = c.operand.new.s in
+    let rest = same_plain c.args.s.now mid c.args.site.now c.operand.ensures.grows c.requires.frame c.in-Some.others.now ∙ first.rest in
+    let same = ap (λ read. read_sizes read context first.others) (same_elements c.args.s.now mid c.args.site.now.left c.operand.ensures.grows) in
+    let told = sym same ∙ c.in_ok-numbers.ensures.exact first.others rest in
+    let seen = same_virtuals mid c.sizes.new.s c.sizes.ensures.grows c.operand.new.virtuals c.operand.ensures.there in
+    let opening = fill_by read context c.args.place part first.others before
+    ∙ (ap (λ o. and_then o (λ made. and_then (read_sizes read context first.others) (λ numbers. and_then (filled_with c.args.place made.0 numbers) (λ node. Ok (node, made.1))))) c.in_ok-filling.ensures.exact.is
+    ∙ (ap (λ o. and_then o (λ numbers. and_then (filled_with c.args.place c.in_ok-filling.filling numbers) (λ node. Ok (node, virtuals_seen (frames_of mid) c.operand.new.virtuals)))) told
+    ∙ ap (λ v. and_then (filled_with c.args.place c.in_ok-filling.filling c.in_ok-numbers.numbers) (λ node. Ok (node, v))) (sym seen))) in
+    rw first.is (made_as _ _ _ _ _ (sym opening) (given_made _ c.answer.result _ (filled_with c.args.place c.in_ok-filling.filling c.in_ok-numbers.numbers) (rw c.filled_with.ensures at c.answer.ensures)))
+
+pub sized-returns-in_err-numbers-clause-there : goal.calls::sized-returns-in_err-numbers-clause-there
+sized-returns-in_err-numbers-clause-there t c = there_still _ _ c.sizes.ensures.grows _ c.requires.there
+
+pub sized-returns-in_err-numbers-clause-exact : goal.calls::sized-returns-in_err-numbers-clause-exact
+sized-returns-in_err-numbers-clause-exact t c = λ parts all.
+    let p : c.from_residual.result ≡ Err c.in_err-numbers.field-0.0 = search rules in
+    rw p (from_halts _ c.in_err-numbers.field-0.0 _ (read_sizes (elements_in c.args.s.now c.args.site.now.left) c.args.site.now.context parts) (virtuals_seen (frames_of c.args.s.now) c.args.virtuals.now) _ (c.in_err-numbers.ensures.exact parts all))
+
+pub sized-returns-then-not-takes-clause-there : goal.calls::sized-returns-then-not-takes-clause-there
+sized-returns-then-not-takes-clause-there t c = there_still _ _ c.sizes.ensures.grows _ c.requires.there
+
+pub sized-returns-then-not-takes-clause-exact : goal.calls::sized-returns-then-not-takes-clause-exact
+sized-returns-then-not-takes-clause-exact t c = λ parts all.
+    let n = c.in_ok-numbers.ensures.exact parts all in
+    let not : c.takes.result ≡ false = search rules in
+    let t : takes c.args.called.function (length c.in_ok-numbers.numbers) ≡ false = search rules in
+    rw c.broken.ensures (record { is = rw (n, t) refl })
+
+pub sized-returns-clause-there : goal.calls::sized-returns-clause-there
+sized-returns-clause-there t c = there_still _ _ c.sizes.ensures.grows _ c.requires.there
+
+pub sized-returns-clause-exact : goal.calls::sized-returns-clause-exact
+sized-returns-clause-exact t c = λ parts all.
+    let n = c.in_ok-numbers.ensures.exact parts all in
+    let same = same_virtuals c.args.s.now c.sizes.new.s c.sizes.ensures.grows c.args.virtuals.now c.requires.there in
+    let t : takes c.args.called.function (length c.in_ok-numbers.numbers) ≡ true = search rules in
+    record { is = rw (n, t) (ap (λ v. Ok (Sized c.args.called.function None c.in_ok-numbers.numbers, v)) (sym same)) }
+
+pub derivative-returns-in_err-operands-clause-exact : goal.calls::derivative-returns-in_err-operands-clause-exact
+derivative-returns-in_err-operands-clause-exact t c = λ parts all.
+    let p : c.from_residual.result ≡ Err c.in_err-operands.field-0.0 = search rules in
+    rw p (halts_through _ c.in_err-operands.field-0.0 _ (make_arguments c.args.site.now.context parts (virtuals_seen (frames_of c.args.s.now) c.args.virtuals.now)) _ (c.in_err-operands.ensures.exact parts all))
+
+pub derivative-returns-clause-exact : goal.calls::derivative-returns-clause-exact
+derivative-returns-clause-exact t c = λ parts all.
+    rw (c.in_ok-operands.ensures.exact parts all).is
+    (given_made _ c.answer.result _ (derivative_of c.args.place c.in_ok-operands.operands) (rw c.derivative_of.ensures at c.answer.ensures))
+
+pub call-returns-in_err-function_code-in-Named-clause-there : goal.calls::call-returns-in_err-function_code-in-Named-clause-there
+call-returns-in_err-function_code-in-Named-clause-there t c = there_still _ _ c.function_named.ensures.grows _ c.requires.there
+
+pub call-returns-in_err-function_code-in-Named-clause-exact : goal.calls::call-returns-in_err-function_code-in-Named-clause-exact
+call-returns-in_err-function_code-in-Named-clause-exact t c =
+    let stop = c.in_err-function_code-in-Named.field-0.0 in
+    let reference = as_reference (part_in c.args.s.now c.args.site.now) c.in-Named.reference in
+    let p : c.from_residual.result ≡ Err stop = search rules in
+    rw (p, c.in-Named.is)
+    (from_halts _ stop _ (function_named (table_in c.args.s.now) (scope_of c.args.s.now c.args.site.now) c.args.place reference) (virtuals_seen (frames_of c.args.s.now) c.args.virtuals.now) _ c.in_err-function_code-in-Named.ensures.exact)
+
+pub call-returns-in_err-function_code-in-Named-clause-kept : goal.calls::call-returns-in_err-function_code-in-Named-clause-kept
+call-returns-in_err-function_code-in-Named-clause-kept t c = kept_still _ _ c.function_named.ensures.grows _ c.requires.kept
+
+pub call-returns-then-not-are_plain-clause-there : goal.calls::call-returns-then-not-are_plain-clause-there
+call-returns-then-not-are_plain-clause-there t c = there_still _ _ c.function_named.ensures.grows _ c.requires.there
+
+pub call-returns-then-not-are_plain-clause-exact : goal.calls::call-returns-then-not-are_plain-clause-exact
+call-returns-then-not-are_plain-clause-exact t c =
+    let table = table_in c.args.s.now in
+    let ask = ask_of c.args.s.now c.args.site.now in
+    let scope = scope_of c.args.s.now c.args.site.now in
+    let reference = as_reference (part_in c.args.s.now c.args.site.now) c.in-Named.reference in
+    let no : c.are_plain.result ≡ false = search rules in
+    rw (c.broken.ensures, c.in-Named.is)
+    (record {
+      is = called_partly table scope (elements_in c.args.s.now c.args.site.now.left) c.args.site.now.context c.args.place reference c.in_ok-function_code-in-Named.function_code (made_arguments table ask scope c.args.args.now) (virtuals_seen (frames_of c.args.s.now) c.args.virtuals.now)
+          c.in_ok-function_code-in-Named.ensures.exact (sym (none_by _ (sym (c.are_plain.ensures table ask scope) ∙ no)));
+    })
+
+pub call-returns-then-not-are_plain-clause-kept : goal.calls::call-returns-then-not-are_plain-clause-kept
+call-returns-then-not-are_plain-clause-kept t c = kept_still _ _ c.function_named.ensures.grows _ c.requires.kept
+
+pub call-function-requires : goal.calls::call-function-requires
+call-function-requires t c = (
+  search rules,
+  (
+    frame_stays _ _ _ c.function_named.ensures.grows c.requires.frame,
+    (there_still _ _ c.function_named.ensures.grows _ c.requires.there, kept_still _ _ c.function_named.ensures.grows _ c.requires.kept),
+  ),
+)
+
+pub call-returns-else-not-are_plain-clause-exact : goal.calls::call-returns-else-not-are_plain-clause-exact
+call-returns-else-not-are_plain-clause-exact t c =
+    let table = table_in c.args.s.now in
+    let ask = ask_of c.args.s.now c.args.site.now in
+    let scope = scope_of c.args.s.now c.args.site.now in
+    let mid = c.function_named.new.s in
+    let left = c.args.site.now.left in
+    let context = c.args.site.now.context in
+    let reference = as_reference (part_in c.args.s.now c.args.site.now) c.in-Named.reference in
+    let code = c.in_ok-function_code-in-Named.function_code in
+    let yes : c.are_plain.result ≡ true = search rules in
+    let plain = plain_parts table ask scope c.args.args.now (sym (c.are_plain.ensures table ask scope) ∙ yes) in
+    let rest = same_plain c.args.s.now mid c.args.site.now c.function_named.ensures.grows c.requires.frame (out-Args c.args.args.now).plain ∙ plain.is in
+    let before = virtuals_seen (frames_of c.args.s.now) c.args.virtuals.now in
+    let read = ap (λ read. made_function read context c.args.place code plain.parts (virtuals_seen (frames_of mid) c.args.virtuals.now)) (same_elements c.args.s.now mid left c.function_named.ensures.grows) in
+    let seen = ap (made_function (elements_in c.args.s.now left) context c.args.place code plain.parts) (same_virtuals c.args.s.now mid c.function_named.ensures.grows c.args.virtuals.now c.requires.there) in
+    rw c.in-Named.is
+    (made_as _ _ _ _ _ (read ∙ (seen ∙ sym (called_plain table scope (elements_in c.args.s.now left) context c.args.place reference code (made_arguments table ask scope c.args.args.now) plain.parts before c.in_ok-function_code-in-Named.ensures.exact plain.made)))
+    ((rw c.as_slice.ensures at c.function.ensures.exact) plain.parts rest))
+
+pub call-returns-then-not-are_plain-2-clause-exact : goal.calls::call-returns-then-not-are_plain-2-clause-exact
+call-returns-then-not-are_plain-2-clause-exact t c =
+    let table = table_in c.args.s.now in
+    let ask = ask_of c.args.s.now c.args.site.now in
+    let scope = scope_of c.args.s.now c.args.site.now in
+    let no : c.are_plain-in-Der.result ≡ false = search rules in
+    rw (c.broken-then-not-are_plain-2.ensures, c.in-Der.is)
+    (record {
+      is = derived_partly table scope (elements_in c.args.s.now c.args.site.now.left) c.args.site.now.context c.args.place (made_arguments table ask scope c.args.args.now) (virtuals_seen (frames_of c.args.s.now) c.args.virtuals.now)
+          (sym (none_by _ (sym (c.are_plain-in-Der.ensures table ask scope) ∙ no)));
+    })
+
+pub call-returns-else-not-are_plain-2-clause-exact : goal.calls::call-returns-else-not-are_plain-2-clause-exact
+call-returns-else-not-are_plain-2-clause-exact t c =
+    let table = table_in c.args.s.now in
+    let ask = ask_of c.args.s.now c.args.site.now in
+    let scope = scope_of c.args.s.now c.args.site.now in
+    let yes : c.are_plain-in-Der.result ≡ true = search rules in
+    let plain = plain_parts table ask scope c.args.args.now (sym (c.are_plain-in-Der.ensures table ask scope) ∙ yes) in
+    rw c.in-Der.is
+    (made_as _ _ _ _ _ (sym (derived_plain table scope (elements_in c.args.s.now c.args.site.now.left) c.args.site.now.context c.args.place (made_arguments table ask scope c.args.args.now) plain.parts (virtuals_seen (frames_of c.args.s.now) c.args.virtuals.now) plain.made))
+    ((rw c.as_slice-in-Der.ensures at c.derivative.ensures.exact) plain.parts plain.is))
