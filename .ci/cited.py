@@ -6,7 +6,7 @@
 - each path below crates/, docs/, examples/ or bench/ that is cited in backticks, or as a link, is there, apart from those
   with NAME and those that a build makes;
 - each block of text behind a line `<!-- examples/NAME -->` is that file, and the stored run of mofront is README.md's example;
-- the numbers and texts of the rules in docs/RULES.md are those of the definition, all of them, in order;
+- the numbers and texts of the rules in docs/RULES.md are those of the definition, and of the names of rules, all of them, in order;
 - the definitions that the program's contract stands on are those that the table of docs/PROVED.md lists.
 
 With --reading it prints these definitions instead, each behind those that it cites.
@@ -73,6 +73,9 @@ def faults_of_rules():
     rows = re.findall(r"^\| (\d+) \| ([^|]*) \|", (TOP / "docs/RULES.md").read_text(), re.M)
     if rows != [(str(k), text) for k, text in enumerate(texts, 1)]:
         yield "docs/RULES.md: the rules are not those of crates/mo_front/specs/Refusal.antt"
+    named = re.findall(r"^/// (.*)\.\npub const \w+: u8 = (\d+);", (TOP / "crates/mo_syntax/src/rules.rt").read_text(), re.M)
+    if [(number, text.lower()) for text, number in named] != [(number, text.lower()) for number, text in rows]:
+        yield "crates/mo_syntax/src/rules.rt: the rules are not those of docs/RULES.md"
 
 
 def definitions(roots, seen):

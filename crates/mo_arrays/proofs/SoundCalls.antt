@@ -2,6 +2,7 @@
 use Rattle.std.proofs.Common.{◌≡◌, ◌≤◌, ℕ, pos, Bool, true, false, ◌&&◌, ◌||◌, List, [], ◌∷◌, map, Option, Some, None, refl, ap, sym, ◌∙◌, subst, if◌then◌else◌, nat_eq, eqb-true}
 use Rattle.std.specs.Prelude.{Ok, Err}
 use Rattle.std.specs.List.{list_all, list_any}
+use Rattle.mo_syntax.specs.Outcome.{Outcome, and_then}
 use Rattle.mo_syntax.specs.declared.place.Place.{Place}
 use Rattle.mo_syntax.specs.declared.meaning.Kind.{Kind}
 use Rattle.mo_syntax.specs.declared.meaning.Kind.TheVariants.{Real, Whole as Integer, Truth as Boolean}
@@ -13,7 +14,6 @@ use Rattle.mo_flat.specs.declared.model.FlatVar.{FlatVar}
 use Rattle.mo_flat.specs.Sound.{FlatKind, real, is_among, is_numeric, kind_of as flat_kind_of, call_kind, takes, where_holds, number_kind, common_kind, kept_kind, one_argument, two_arguments}
 use Rattle.mo_flat.specs.SoundArray.{fits_kind, is_called}
 use Rattle.mo_flat.proofs.Good.{Each, IsGood, IsFine, IsNumber, Widens, number_widens, number_fits, common_fits, kept_number, kept_truth, widened, good_Whole, good_Sum, good_Product, good_Call}
-use Rattle.mo_typing.specs.Outcome.{Outcome, and_then}
 use Rattle.mo_typing.specs.Kinds.{call, call_of_one, call_of_two, real_of, kept, numeric, both_numeric}
 use Rattle.mo_typing.specs.Dims.{Dims, scalars, call_of_one as one_dims, call_of_two as two_dims}
 use Rattle.mo_typing.specs.Shape.{shape_of}

@@ -2,6 +2,7 @@
 use Rattle.std.proofs.Common.{◌≡◌, ◌≤◌, ◌-◌, ℕ, ℤ, pos, Bool, true, false, ◌&&◌, ◌||◌, List, [], ◌∷◌, ◌++◌, map, length, take, drop, Option, Some, None, refl, ap, sym, ◌∙◌, subst, if◌then◌else◌}
 use Rattle.std.specs.Prelude.{fold, Ok, Err, not}
 use Rattle.std.specs.List.{list_all, list_any}
+use Rattle.mo_syntax.specs.Outcome.{Outcome, and_then}
 use Rattle.mo_syntax.specs.declared.place.Place.{Place}
 use Rattle.mo_syntax.specs.declared.place.Broken.{Broken}
 use Rattle.mo_syntax.specs.declared.meaning.Kind.{Kind}
@@ -12,7 +13,6 @@ use Rattle.mo_flat.specs.declared.expr.FlatExpr.TheVariants.{Sum, Product}
 use Rattle.mo_flat.specs.declared.model.FlatVar.{FlatVar}
 use Rattle.mo_flat.specs.Sound.{begins_multiplied}
 use Rattle.mo_flat.proofs.Good.{Each, IsGood, IsNumber, Widens, good_Whole, good_Sum, good_Product, widened}
-use Rattle.mo_typing.specs.Outcome.{Outcome, and_then}
 use Rattle.mo_typing.specs.Dims.{Dims, Operand, is_scalar, spread, times, matrix_product, multiplied as asked, with_operand, or_scalar as asked_scalar}
 use Rattle.mo_typing.specs.Shape.{shape_of, is_matrix_factor, multiplied, or_scalar}
 use Rattle.mo_typing.specs.Indices.{Index, is_index, own, numbers_to, first_number}

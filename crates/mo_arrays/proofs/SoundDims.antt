@@ -4,13 +4,13 @@ use Rattle.std.specs.Prelude.{fold, Ok, Err, nat_le, slice_get}
 use Rattle.std.specs.List.{list_all}
 use Rattle.std.proofs.lemmas.Bool.{leb-true, le-leb}
 use Rattle.std.proofs.Math.Nat.{mul-le-mul_right, mul_assoc}
+use Rattle.mo_syntax.specs.Outcome.{Outcome, and_then, breaks}
 use Rattle.mo_syntax.specs.declared.place.Place.{Place}
 use Rattle.mo_syntax.specs.declared.place.Broken.{Broken}
 use Rattle.mo_flat.specs.declared.array.Subscript.{Subscript}
 use Rattle.mo_flat.specs.declared.array.Subscript.TheVariants.{All, One, Many}
 use Rattle.mo_flat.specs.SoundArray.{element_count, are_for_each}
 use Rattle.mo_flat.proofs.Good.{Each, both_true}
-use Rattle.mo_typing.specs.Outcome.{Outcome, and_then, breaks}
 use Rattle.mo_typing.specs.Dims.{Dims, Operand, is_scalar, matched, spread, added, with_operand, or_scalar, chain, with_alike, alike, scalar, with_scalar, scalars, matrix_product, inner_matched, transposed, crossed, kept, behind, subscripted}
 use Rattle.mo_typing.specs.Shape.{size_of, swapped}
 use Rattle.mo_typing.specs.Subscripts.{Checked, fine, both, within, is_within, subscript, subscripts}

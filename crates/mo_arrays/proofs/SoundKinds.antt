@@ -1,6 +1,7 @@
 -- What the kind of an operation accepts of the kinds of its operands.
 use Rattle.std.proofs.Common.{◌≡◌, ℕ, Bool, true, false, List, [], ◌∷◌, ◌++◌, map, Option, Some, None, refl, ap, sym, ◌∙◌, subst, if◌then◌else◌}
 use Rattle.std.specs.Prelude.{fold, Ok, Err, nat_eq}
+use Rattle.mo_syntax.specs.Outcome.{Outcome, and_then, breaks}
 use Rattle.mo_syntax.specs.declared.place.Place.{Place}
 use Rattle.mo_syntax.specs.declared.place.Broken.{Broken}
 use Rattle.mo_syntax.specs.declared.meaning.Kind.{Kind}
@@ -8,9 +9,9 @@ use Rattle.mo_syntax.specs.declared.meaning.Kind.TheVariants.{Real, Whole as Int
 use Rattle.mo_flat.specs.Sound.{FlatKind}
 use Rattle.mo_flat.specs.SoundArray.{fits_kind}
 use Rattle.mo_flat.proofs.Good.{Each, IsNumber, Widens, number_widens}
+use Rattle.mo_syntax.specs.declared.rules.TheConstants.{WRONG_ENUMERATION, WRONG_TYPE}
 use Rattle.mo_typing.specs.declared.agree.Shared.{Shared}
 use Rattle.mo_typing.specs.declared.agree.Shared.TheVariants.{Unseen, Alike, Different}
-use Rattle.mo_typing.specs.Outcome.{Outcome, and_then, breaks}
 use Rattle.mo_typing.specs.Kinds.{common, number, wider, with_number, arithmetic, truth, is_truth, with_truth, logical, joined, joined_by, settled, alike, relation, or_breaks, are_enumerations, numeric, is_number, real_of, kept, both_numeric}
 use Rattle.mo_typing.proofs.Agreeing.{ok_same, not_broken, after, under}
 
@@ -121,7 +122,7 @@ alike_widen place (a ∷ ks) k e = let r = alike_from place a ks k e in (r.0, r.
 pub related_kinds : (place : Place) (a b k : Kind) → relation place a b ≡ Ok k → (c : Kind) × (Widens a c × Widens b c) × (Boolean ≡ k)
 related_kinds place a b k e = step (common a b) refl e
   where
-    step : (o : Option Kind) → common a b ≡ o → and_then (or_breaks o (if are_enumerations a b then 39 else 33) place) (λ _. Ok Boolean) ≡ Ok k → (c : Kind) × (Widens a c × Widens b c) × (Boolean ≡ k)
+    step : (o : Option Kind) → common a b ≡ o → and_then (or_breaks o (if are_enumerations a b then WRONG_ENUMERATION else WRONG_TYPE) place) (λ _. Ok Boolean) ≡ Ok k → (c : Kind) × (Widens a c × Widens b c) × (Boolean ≡ k)
     step None is e = absurd (not_broken _ k e)
     step (Some c) is e = (c, common_widens a b c is, ok_same Boolean k e)
 

@@ -3,10 +3,12 @@ use Rattle.std.proofs.Common.{◌≡◌, ◌≤◌, ◌<◌, ◌+◌, ◌-◌, �
 use Rattle.std.specs.Prelude.{Ok, Err, nat_le, slice_get}
 use Rattle.std.specs.List.{list_all}
 use Rattle.std.proofs.lemmas.Bool.{leb-true}
+use Rattle.mo_syntax.specs.Outcome.{Outcome, and_then, breaks}
 use Rattle.mo_syntax.specs.declared.place.Place.{Place}
 use Rattle.mo_syntax.specs.declared.meaning.ClassId.{ClassId}
 use Rattle.mo_syntax.specs.declared.meaning.Kind.{Kind}
 use Rattle.mo_syntax.specs.declared.meaning.Kind.TheVariants.{Real, Whole as Integer, Truth as Boolean, Str as String, Enumeration}
+use Rattle.mo_syntax.specs.declared.rules.TheConstants.{WRONG_TYPE}
 use Rattle.mo_tables.specs.declared.functions.TheConstants.{IDENTITY, ONES}
 use Rattle.mo_flat.specs.declared.array.ArrayExpr.{ArrayExpr, ArrayExpr-F, roll-ArrayExpr, map-ArrayExpr, fold-roll-ArrayExpr, para-roll-ArrayExpr, ind-ArrayExpr}
 use Rattle.mo_flat.specs.declared.array.ArrayNode.{ArrayNode, ArrayNode-F, roll-ArrayNode, map-ArrayNode}
@@ -16,7 +18,6 @@ use Rattle.mo_flat.specs.declared.model.FlatVar.{FlatVar}
 use Rattle.mo_flat.specs.Sound.{is_nonempty}
 use Rattle.mo_flat.specs.SoundArray.{has_kind, is_sound_array, is_sound_array_node, array_node, array_part, nesting_of, nesting_of_node, nesting_node, nesting_part, greatest_by}
 use Rattle.mo_flat.proofs.Good.{Each, IsGood, IsNumber, Widens, widened, number_widens, good_Whole, good_Decimal, good_Str, good_Truth, good_Literal, good_Time, good_Der, good_If}
-use Rattle.mo_typing.specs.Outcome.{Outcome, and_then, breaks}
 use Rattle.mo_typing.specs.Kinds.{kind_of, kind_of_node, kind_node, kind_part, real_of, truth, alike, call, takes_sizes, kinds_of, kinds_of_branches, branch_kind, condition}
 use Rattle.mo_typing.specs.Kinds.{part_of as kind_part_of, Part as KindPart}
 use Rattle.mo_typing.specs.Dims.{Dims, dims_of, dims_of_node, dims_node, dims_part, scalar, dims_of_branches, branch_dims, dims_of_all, size_dims, sizes_of, filled, shaped}
@@ -205,7 +206,7 @@ law_Sized vars code None sizes place k d n ks ds ss sound deep i is =
     let t = under (takes_sizes code (length sizes)) (Ok Integer) _ k ks in
     of_kind (ok_same Integer k t.1) (constant_good vars n code i)
 law_Sized vars code (Some part) sizes place k d n ks ds ss sound deep i is =
-    let a = after (kind_of part.0) (λ kind. if takes_sizes code (length sizes) then Ok kind else breaks 33 place) k ks in
+    let a = after (kind_of part.0) (λ kind. if takes_sizes code (length sizes) then Ok kind else breaks WRONG_TYPE place) k ks in
     let t = under (takes_sizes code (length sizes)) (Ok a.0) _ k a.2 in
     let p = after (dims_of part.0) (λ dims. and_then (sizes_of sizes) (λ ns. filled place code dims ns)) d ds in
     let q = after (sizes_of sizes) (λ ns. filled place code p.0 ns) d p.2 in

@@ -2,6 +2,7 @@
 use Rattle.std.proofs.Common.{◌≡◌, ◌≤◌, ◌+◌, ◌-◌, ℕ, suc, zero, ℤ, pos, max, Bool, true, false, ◌&&◌, ◌||◌, List, [], ◌∷◌, ◌++◌, map, length, Option, Some, None, refl, ap, sym, ◌∙◌, subst, arith, if◌then◌else◌, nat_eq}
 use Rattle.std.specs.Prelude.{fold, Ok, Err, nat_le, slice_get, not}
 use Rattle.std.specs.List.{list_all, list_any}
+use Rattle.mo_syntax.specs.Outcome.{Outcome, and_then, breaks}
 use Rattle.mo_syntax.specs.declared.place.Place.{Place}
 use Rattle.mo_syntax.specs.declared.meaning.Kind.{Kind}
 use Rattle.mo_syntax.specs.declared.meaning.Kind.TheVariants.{Real, Whole as Integer, Truth as Boolean, Str as String, Enumeration}
@@ -16,7 +17,6 @@ use Rattle.mo_flat.specs.declared.model.FlatVar.{FlatVar}
 use Rattle.mo_flat.specs.Sound.{is_nonempty}
 use Rattle.mo_flat.specs.SoundArray.{has_kind, is_sound_array, is_sound_array_node, array_node, array_part, nesting_of, nesting_of_node, nesting_node, nesting_part, greatest_by, is_multiplied_first, is_called, fills, all_of_option, nesting_of_option}
 use Rattle.mo_flat.proofs.Good.{Each, IsGood, IsNumber, Widens, widened, good_Whole, good_Decimal, good_Str, good_Truth, good_Literal, good_Time, good_Var, good_Der, good_Sum, good_Power, good_Relation, good_Not, good_All, good_Any, good_If, number_widens}
-use Rattle.mo_typing.specs.Outcome.{Outcome, and_then, breaks}
 use Rattle.mo_typing.specs.Kinds.{kind_of, kind_of_node, kind_node, kind_part, arithmetic, raised, relation, truth, logical, real_of, alike, call, divided, takes_sizes, kinds_of, kinds_of_branches, branch_kind, condition, filling}
 use Rattle.mo_typing.specs.Kinds.{part_of as kind_part_of, Part as KindPart}
 use Rattle.mo_typing.specs.Dims.{Dims, Operand, dims_of, dims_of_node, dims_node, dims_part, added, multiplied, chain, operand, operands_of, scalar, scalars, spread, related, dims_of_branches, branch_dims, dims_of_all, subscripted, size_dims, sizes_of, filled, shaped, range, or_scalar, with_operand}

@@ -2,6 +2,7 @@
 use Rattle.std.proofs.Common.{◌≡◌, ◌≤◌, ℕ, max, Bool, true, false, ◌&&◌, List, [], ◌∷◌, ◌++◌, map, Option, Some, None, refl, ap, sym, ◌∙◌, subst, arith}
 use Rattle.std.specs.Prelude.{Ok, Err}
 use Rattle.std.specs.List.{list_all, list_any}
+use Rattle.mo_syntax.specs.Outcome.{Outcome, and_then}
 use Rattle.mo_syntax.specs.declared.place.Place.{Place}
 use Rattle.mo_syntax.specs.declared.meaning.Kind.{Kind}
 use Rattle.mo_syntax.specs.declared.meaning.Kind.TheVariants.{Real}
@@ -10,7 +11,7 @@ use Rattle.mo_flat.specs.declared.expr.FlatExpr.{FlatExpr}
 use Rattle.mo_flat.specs.declared.model.FlatVar.{FlatVar}
 use Rattle.mo_flat.specs.SoundArray.{has_kind, is_sound_array, nesting_of, greatest_by}
 use Rattle.mo_flat.proofs.Good.{Each, IsGood, Widens, widened}
-use Rattle.mo_typing.specs.Outcome.{Outcome, and_then, each}
+use Rattle.mo_typing.specs.Outcome.{each}
 use Rattle.mo_typing.specs.Kinds.{kind_of}
 use Rattle.mo_typing.specs.Dims.{Dims, dims_of}
 use Rattle.mo_typing.specs.Shape.{shape_of}

@@ -2,12 +2,13 @@
 -- one for each element, the last index fastest. First the kinds of both sides are asked, then their dimensions, then their
 -- subscripts, the left side before the right one.
 use Rattle.std.specs.Prelude.{Bool, true, false, ◌&&◌, List, map, Ok, if◌then◌else◌, nat_eq}
+use Rattle.mo_syntax.specs.Outcome.{Outcome, and_then, breaks}
 use Rattle.mo_syntax.specs.declared.place.Place.{Place}
 use Rattle.mo_syntax.specs.declared.meaning.Kind.{Kind}
 use Rattle.mo_syntax.specs.declared.meaning.Kind.TheVariants.{Truth, Str, Enumeration}
 use Rattle.mo_flat.specs.declared.array.ArrayExpr.{ArrayExpr}
 use Rattle.mo_flat.specs.declared.model.FlatEquation.{FlatEquation}
-use Rattle.mo_typing.specs.Outcome.{Outcome, and_then, breaks}
+use Rattle.mo_syntax.specs.declared.rules.TheConstants.{OUTSIDE_PROFILE, WRONG_TYPE}
 use Rattle.mo_typing.specs.Kinds.{kind_of, is_number}
 use Rattle.mo_typing.specs.Dims.{Dims, dims_of, matched}
 use Rattle.mo_typing.specs.Indices.{Index, indices}
@@ -23,7 +24,7 @@ are_one _ _ = false
 
 abbrev pub sides : Place → Kind → Kind → Checked
 sides place left right =
-    if are_one left right then breaks 34 place else (if is_number left && is_number right then fine else breaks 33 place)
+    if are_one left right then breaks OUTSIDE_PROFILE place else (if is_number left && is_number right then fine else breaks WRONG_TYPE place)
 
 abbrev pub kinds_of_sides : ArrayExpr → ArrayExpr → Place → Checked
 kinds_of_sides left right place = and_then (kind_of left) (λ a. and_then (kind_of right) (sides place a))

@@ -1,6 +1,7 @@
 //! The scalar equations of an equation between array expressions.
-ghost use Rattle.std.specs.Prelude.{◌≡◌, ◌≤◌, ◌++◌, ◌∷◌, map, IfOk, Ok, Err};
-ghost use Rattle.mo_typing.specs.Outcome.{breach, Gives, IfBroken};
+ghost use Rattle.std.specs.Prelude.{◌≡◌, ◌++◌, ◌∷◌, map, IfOk, Ok, Err};
+ghost use Rattle.mo_syntax.specs.Outcome.{IfBroken};
+ghost use Rattle.mo_typing.specs.Outcome.{Gives};
 ghost use Rattle.mo_typing.specs.Kinds.{is_number};
 ghost use Rattle.mo_typing.specs.Indices.{indices};
 ghost use Rattle.mo_arrays.specs.Elements.{element_of};
@@ -9,8 +10,8 @@ ghost use Rattle.mo_arrays.specs.Equations.{are_one, sides, kinds_of_sides, dims
 
 use crate::elements::element_at;
 use mo_flat::{ArrayExpr, FlatEquation, FlatExpr};
-use mo_syntax::{Broken, Kind, List, NoMemory, Place, Stop, both};
-use mo_typing::agree::{broken, is_number};
+use mo_syntax::{Broken, Kind, List, NoMemory, Place, Stop, both, broken, rules};
+use mo_typing::agree::is_number;
 use mo_typing::shapes::joined_lists;
 use mo_typing::{dims_of, kind_of, matched, subscripts};
 use std::alloc::Global;
@@ -72,12 +73,12 @@ fn sides(place: Place, left: Kind, right: Kind) -> Result<(), Broken>
     ensures { result ≡ sides place left right }
 {
     if are_one(left, right) {
-        return Err(broken(34, place));
+        return Err(broken(rules::OUTSIDE_PROFILE, place));
     }
     if is_number(left) && is_number(right) {
         return Ok(());
     }
-    Err(broken(33, place))
+    Err(broken(rules::WRONG_TYPE, place))
 }
 
 fn kinds_of_sides(left: &ArrayExpr, right: &ArrayExpr, place: Place) -> Result<(), Broken>

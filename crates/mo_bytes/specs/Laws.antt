@@ -1,10 +1,10 @@
 -- The place of each rule that is told of named files is a byte of one of them, from 0 to its length; only that no class has the asked path is told
 -- on the command line.
 use Rattle.std.specs.Prelude.{◌≡◌, ◌⊎◌, ℕ, ◌+◌, List, length}
+use Rattle.mo_syntax.specs.Outcome.{breach}
 use Rattle.mo_syntax.specs.declared.place.Broken.{Broken}
 use Rattle.mo_flat.specs.declared.model.FlatModel.{FlatModel}
 use Rattle.mo_ports.specs.Contents.{Contents}
-use Rattle.mo_scope.specs.Outcome.{breach}
 use Rattle.mo_front.specs.declared.words.Emit.{Emit}
 use Rattle.mo_front.specs.declared.words.Emit.TheVariants as emit
 use Rattle.mo_front.specs.Ladder.{ladder_path, ladder_texts}
@@ -14,10 +14,11 @@ use Rattle.mo_places.specs.MadeStands.{ModelStands}
 use Rattle.mo_front.specs.Verified.{FilesGiveWith, IsTooLong}
 use Rattle.mo_bytes.specs.Bytes.{IsByteOf, IsByteOfSome}
 use Rattle.mo_bytes.specs.Held.{HoldsAll}
+use Rattle.mo_syntax.specs.declared.rules.TheConstants.{CLASS_NOT_FOUND}
 
 -- at a byte of a named file; or it is rule 11, on the command line
 abbrev pub RefusalStands : Contents → List (List ℕ) → Broken → Type 0
-RefusalStands contents names b = IsByteOfSome 1 (bytes_of_all contents names) b.place ⊎ (b ≡ breach 11 nowhere)
+RefusalStands contents names b = IsByteOfSome 1 (bytes_of_all contents names) b.place ⊎ (b ≡ breach CLASS_NOT_FOUND nowhere)
 
 -- the first rule that the named files break, asked for a class
 abbrev pub RefusalsStand : Type 0
@@ -37,7 +38,7 @@ ToldRefusalsStand =
 -- and the first rule that is broken on the way to the line of a ladder, at a byte of its text
 abbrev pub LadderRefusalsStand : Type 0
 LadderRefusalsStand =
-    (n : ℕ) (b : Broken) → Breaks (TextsGive ladder_path (ladder_texts n)) emit.Report b → IsByteOfSome 1 (ladder_texts n) b.place ⊎ (b ≡ breach 11 nowhere)
+    (n : ℕ) (b : Broken) → Breaks (TextsGive ladder_path (ladder_texts n)) emit.Report b → IsByteOfSome 1 (ladder_texts n) b.place ⊎ (b ≡ breach CLASS_NOT_FOUND nowhere)
 
 -- and the first rule that is broken on the way to the verdict on a printed report behind them, where the report is within its limit
 abbrev pub VerdictRefusalsStand : Type 0

@@ -1,10 +1,11 @@
 -- When two connectors may be connected, and the rule that a connect breaks (Modelica Language Specification 3.5, section 9.3).
 use Rattle.std.specs.Prelude.{◌≡◌, ◌≢◌, ℕ, ◌<◌, List, length, slice_index_or, All, Any}
-use Rattle.mo_syntax.specs.declared.place.Place.{Place}
+use Rattle.mo_syntax.specs.Outcome.{breach}
 use Rattle.mo_syntax.specs.declared.place.Broken.{Broken}
 use Rattle.mo_flat.specs.declared.connect.Connect.{Connect}
 use Rattle.mo_flat.specs.declared.connect.EndLeaf.{EndLeaf}
 use Rattle.mo_flat.specs.declared.connect.Side.TheVariants.{Neither}
+use Rattle.mo_syntax.specs.declared.rules.TheConstants.{NOT_A_CONNECTOR, WRONG_SIZE, CONNECTORS_DIFFER}
 
 -- two leaves have the same name below their connectors and the same flow prefix
 pub record Corresponds (l r : EndLeaf) : Type 0 where
@@ -35,17 +36,14 @@ pub record IsConnectable (c : Connect) : Type 0 where
   pub sizes : c.left.dims ≡ c.right.dims
   pub alike : AllAlike c.left.elements c.right.elements
 
-abbrev pub breach : ℕ → Place → Broken
-breach rule place = record { rule = rule; place = place }
-
 -- the first rule that a connect breaks: 37 at an end that is no connector, 31 where the dimensions differ, 38 where the
 -- connectors do
 pub data Breaks (c : Connect) (b : Broken) : Type 0 where
-  left_end : c.left.side ≡ Neither → b ≡ breach 37 c.left.place → Breaks c b
-  right_end : c.left.side ≢ Neither → c.right.side ≡ Neither → b ≡ breach 37 c.right.place → Breaks c b
-  sizes : AreConnectors c → c.left.dims ≢ c.right.dims → b ≡ breach 31 c.place → Breaks c b
+  left_end : c.left.side ≡ Neither → b ≡ breach NOT_A_CONNECTOR c.left.place → Breaks c b
+  right_end : c.left.side ≢ Neither → c.right.side ≡ Neither → b ≡ breach NOT_A_CONNECTOR c.right.place → Breaks c b
+  sizes : AreConnectors c → c.left.dims ≢ c.right.dims → b ≡ breach WRONG_SIZE c.place → Breaks c b
   leaves : AreConnectors c → c.left.dims ≡ c.right.dims → (AllAlike c.left.elements c.right.elements → ⊥)
-      → b ≡ breach 38 c.place → Breaks c b
+      → b ≡ breach CONNECTORS_DIFFER c.place → Breaks c b
 
 -- the first broken rule of connects in their order
 pub record IsFirstBroken (connects : List Connect) (b : Broken) : Type 0 where

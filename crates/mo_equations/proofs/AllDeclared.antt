@@ -2,6 +2,7 @@
 use Rattle.std.proofs.Common.{◌≡◌, ℕ, suc, zero, ◌+◌, ◌<◌, ◌≤◌, List, [], ◌∷◌, ◌++◌, drop, get_or, length, length-append, map, take, Option, Some, None, Result, Ok, Err, refl, ap, sym, ◌∙◌, subst, arith}
 use Rattle.std.specs.Prelude.{option_map}
 use Rattle.std.proofs.lemmas.List.{append-nil, drop_more, map-append, take_all, take_more}
+use Rattle.mo_syntax.specs.Outcome.{Outcome, and_then, IfBroken}
 use Rattle.mo_syntax.specs.declared.place.Broken.{Broken}
 use Rattle.mo_syntax.specs.declared.place.Stop.{Stop}
 use Rattle.mo_syntax.specs.declared.place.Stop.TheVariants.{Broken as broken_by, NoMemory as no_memory}
@@ -9,12 +10,11 @@ use Rattle.mo_flat.specs.declared.expr.FlatExpr.{FlatExpr}
 use Rattle.mo_scope.specs.declared.instance.Chosen.{Chosen as ChosenAt}
 use Rattle.mo_scope.specs.declared.instance.Instance.{Instance as InstanceAt}
 use Rattle.mo_scope.specs.declared.instance.Leaf.{Leaf as LeafAt}
-use Rattle.mo_scope.specs.Outcome.{Outcome, and_then}
 use Rattle.mo_scope.specs.Frames.{Frame}
 use Rattle.mo_scope.specs.Instances.{Instance, Leaf}
 use Rattle.mo_scope.specs.Trees.{IsInstance, IsLeaf, attribute_in, chosen_in, instance_in, leaf_in}
 use Rattle.mo_scope.specs.Worlds.{World, Grows, frames_of}
-use Rattle.mo_typing.specs.Outcome.{Gives, IfBroken, each}
+use Rattle.mo_typing.specs.Outcome.{Gives, each}
 use Rattle.mo_equations.specs.declared.desk.Desk.{Desk}
 use Rattle.mo_equations.specs.declared.flat.Flat.{Flat}
 use Rattle.mo_equations.specs.declared.variables.Variable.{Variable as VariableAt}

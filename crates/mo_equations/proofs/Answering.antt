@@ -1,10 +1,10 @@
 -- Answers whose values stand for those of outcomes, one after another.
 use Rattle.std.proofs.Common.{◌≡◌, ℕ, Result, Ok, Err, refl, ap, sym, ◌∙◌, subst}
+use Rattle.mo_syntax.specs.Outcome.{Outcome, and_then}
 use Rattle.mo_syntax.specs.declared.place.Broken.{Broken}
 use Rattle.mo_syntax.specs.declared.place.Stop.{Stop}
 use Rattle.mo_syntax.specs.declared.place.Stop.TheVariants.{Broken as broken_by, NoMemory as no_memory}
 use Rattle.mo_scope.specs.Outcome as seen
-use Rattle.mo_scope.specs.Outcome.{Outcome, and_then}
 use Rattle.mo_typing.specs.Outcome as told
 use Rattle.mo_equations.specs.steps.Flats.{Answers}
 

@@ -1,12 +1,13 @@
 -- What replaces a constant does not depend on where the reference to it stands.
 use Rattle.std.proofs.Common.{◌≡◌, ℕ, zero, suc, ◌+◌, Bool, true, false, List, [], ◌∷◌, ◌++◌, Option, Some, None, Ok, Err, refl, ap, sym, ◌∙◌, subst, arith}
+use Rattle.mo_syntax.specs.Outcome.{Outcome, breaks}
 use Rattle.mo_syntax.specs.declared.meaning.Kind.{Kind}
 use Rattle.mo_syntax.specs.declared.place.Place.{Place}
 use Rattle.mo_flat.specs.declared.expr.FlatExpr.{FlatExpr}
-use Rattle.mo_scope.specs.Outcome.{Outcome, breaks}
 use Rattle.mo_scope.specs.Rows.{Table}
 use Rattle.mo_scope.specs.Frames.{Indexed, Member}
 use Rattle.mo_scope.specs.Parts.{Picked}
+use Rattle.mo_syntax.specs.declared.rules.TheConstants.{NO_VALUE, REFERENCE_CHAIN_TOO_LONG}
 use Rattle.mo_typing.specs.Indices.{Index}
 use Rattle.mo_eval.specs.Components.{binding_of}
 use Rattle.mo_values.specs.Scalars.{Known, has_values}
@@ -37,7 +38,7 @@ module _ (table : Table) (member : Member) (index : Index) (kind : Kind) (consta
     where
       go : (o : Outcome (Option Picked)) → binding_of table member index ≡ o → constant_expression table left replace at_q ≡ Ok e
       go (Err broken) is = absurd (let clash : ◌≡◌ {A = Outcome FlatExpr} (Err broken) (Ok e) = (rw is at h) in cc)
-      go (Ok None) is = absurd (let clash : ◌≡◌ {A = Outcome FlatExpr} (breaks 28 p) (Ok e) = (rw is at h) in cc)
+      go (Ok None) is = absurd (let clash : ◌≡◌ {A = Outcome FlatExpr} (breaks NO_VALUE p) (Ok e) = (rw is at h) in cc)
       go (Ok (Some binding)) is = rw is (rw is at h)
 
   by_anywhere : (left : ℕ) (replace : Replacing) (e : FlatExpr) → constant_by table left replace at_p ≡ Ok e → constant_by table left replace at_q ≡ Ok e
@@ -55,7 +56,7 @@ module _ (table : Table) (member : Member) (index : Index) (kind : Kind) (consta
 
   pub constant_anywhere : (number : Indexed → ℕ) (left : ℕ) (e : FlatExpr) → constant table number left at_p ≡ Ok e → constant table number left at_q ≡ Ok e
   constant_anywhere number zero e h =
-      absurd (let clash : ◌≡◌ {A = Outcome FlatExpr} (breaks 29 p) (Ok e) = sym (constant_none table number zero at_p refl) ∙ h in cc)
+      absurd (let clash : ◌≡◌ {A = Outcome FlatExpr} (breaks REFERENCE_CHAIN_TOO_LONG p) (Ok e) = sym (constant_none table number zero at_p refl) ∙ h in cc)
   constant_anywhere number (suc left) e h =
       let less : suc left ≡ left + 1 = omega arith in
       constant_some table number (suc left) left at_q less

@@ -1,10 +1,10 @@
 -- The first rule that replacing the variables of an expression breaks is the first one of its variables from left to right.
 use Rattle.std.proofs.Common.{◌≡◌, ℕ, zero, suc, ◌<◌, length, take, get_or, arith, Bool, List, [], ◌∷◌, ◌++◌, flat_map, map, Ok, Err, refl, ap, ◌∙◌, sym}
 use Rattle.std.proofs.lemmas.List.Folds.{flat_map-map}
+use Rattle.mo_syntax.specs.Outcome.{Outcome, and_then}
 use Rattle.mo_syntax.specs.declared.place.Broken.{Broken}
 use Rattle.mo_flat.specs.declared.expr.FlatExpr.{FlatExpr, FlatExpr-F, map-FlatExpr}
 use Rattle.mo_flat.specs.declared.expr.FlatExpr as flat
-use Rattle.mo_scope.specs.Outcome.{Outcome, and_then}
 use Rattle.mo_scope.specs.Places.{Every}
 use Rattle.mo_typing.specs.Outcome.{each}
 use Rattle.mo_equations.specs.Replacing.{branch_of, marked, replaced_node, with_variables}

@@ -1,5 +1,6 @@
 -- In a branch of an if-equation that no value decides there are no asserts (Modelica Language Specification 3.5, sections 8.3.4 and 8.3.7).
 use Rattle.std.proofs.Common.{◌≡◌, ℕ, ℤ, ◌+◌, Bool, true, false, ◌&&◌, not, List, [], ◌∷◌, ◌++◌, map, Option, Some, None, Ok, Err, if◌then◌else◌, nat_lt, refl, ap, sym, ◌∙◌, subst}
+use Rattle.mo_syntax.specs.Outcome.{Outcome, and_then, breach}
 use Rattle.mo_syntax.specs.declared.equation.EquationKind.{EquationKind, EquationKind-F, fold-roll-EquationKind, ind-EquationKind, map-EquationKind, roll-EquationKind}
 use Rattle.mo_syntax.specs.declared.equation.EquationOf.{EquationOf}
 use Rattle.mo_syntax.specs.declared.expr.Expr.{Expr}
@@ -8,8 +9,8 @@ use Rattle.mo_syntax.specs.declared.expr.ReferenceOf.{ReferenceOf}
 use Rattle.mo_syntax.specs.declared.place.Broken.{Broken}
 use Rattle.mo_syntax.specs.declared.place.Place.{Place}
 use Rattle.mo_flat.specs.declared.expr.FlatExpr.{FlatExpr}
-use Rattle.mo_scope.specs.Outcome.{Outcome, and_then, breach}
 use Rattle.mo_scope.specs.Places.{Every}
+use Rattle.mo_syntax.specs.declared.rules.TheConstants.{FLAT_MODEL_TOO_LARGE, BRANCH_COUNTS_DIFFER, OUTSIDE_PROFILE, CONNECT_UNDER_OPEN_CONDITION}
 use Rattle.mo_values.specs.declared.value.Scalar.{Scalar}
 use Rattle.mo_values.specs.declared.value.Scalar.TheVariants.{Whole, Truth, Literal}
 use Rattle.mo_values.specs.Scalars.{Known}
@@ -96,7 +97,7 @@ turn_bare asked turn h turns made later e = at (nat_lt turns 4000000) refl
   where
     at : (b : Bool) → nat_lt turns 4000000 ≡ b → made.asserts ≡ []
     at true is = h (turns + 1) made later (sym (rw is refl) ∙ e)
-    at false is = not_broken (breach 41 asked) (made, later) (sym (rw is refl) ∙ e)
+    at false is = not_broken (breach FLAT_MODEL_TOO_LARGE asked) (made, later) (sym (rw is refl) ∙ e)
 
 loop_bare : (tree : Tree) (place : Place) (indices : List (IndexOf Expr)) (body : Site → Turning Made) → ((site : Site) → site.undecided ≡ true → BareTurn (body site)) →
     (site : Site) → site.undecided ≡ true → BareTurn (made_loop tree place indices body site)
@@ -168,7 +169,7 @@ module _ (tree : Tree) where
     where
       at : (b : Bool) → have_equal_counts (branch ∷ branches) other ≡ b → Bare made
       at true is = subst Bare (same_ok (made_equations (map (joined_equation place) (joined_branches (branch ∷ branches) other))) made (sym (rw is refl) ∙ e)) refl
-      at false is = not_broken (breach 35 place) made (sym (rw is refl) ∙ e)
+      at false is = not_broken (breach BRANCH_COUNTS_DIFFER place) made (sym (rw is refl) ∙ e)
 
   -- ---- all forms
 
@@ -190,13 +191,13 @@ module _ (tree : Tree) where
       (joined_bare place site.undecided choice.value.0 one.value (choice_bare site branches others h.0 h.1 turns choice.value.0 choice.value.1 choice.is) u one.is)
   form_bare (EquationKind-F.For indices equations) h place site u turns made later e =
       loop_bare tree place indices (all_made equations) (λ site u. all_bare equations site h u) site u turns made later e
-  form_bare (EquationKind-F.When branches) h place site u turns made later e = not_broken (breach 34 place) (made, later) e
-  form_bare (EquationKind-F.Connect left right) h place site u turns made later e = not_broken (breach 36 place) (made, later) (sym (rw u refl) ∙ e)
+  form_bare (EquationKind-F.When branches) h place site u turns made later e = not_broken (breach OUTSIDE_PROFILE place) (made, later) e
+  form_bare (EquationKind-F.Connect left right) h place site u turns made later e = not_broken (breach CONNECT_UNDER_OPEN_CONDITION place) (made, later) (sym (rw u refl) ∙ e)
   form_bare (EquationKind-F.Call called arguments) h place site u turns made later e = at (is_assert called) refl
     where
       at : (b : Bool) → is_assert called ≡ b → made.asserts ≡ []
-      at true is = not_broken (breach 34 place) (made, later) (sym (rw (is, u) refl) ∙ e)
-      at false is = not_broken (breach 34 place) (made, later) (sym (rw is refl) ∙ e)
+      at true is = not_broken (breach OUTSIDE_PROFILE place) (made, later) (sym (rw (is, u) refl) ∙ e)
+      at false is = not_broken (breach OUTSIDE_PROFILE place) (made, later) (sym (rw is refl) ∙ e)
 
   abbrev P : EquationKind → Type 0
   P kind = BareFormer (made_kind tree kind)

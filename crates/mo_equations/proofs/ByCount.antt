@@ -2,13 +2,14 @@
 use Rattle.std.proofs.Common.{◌≡◌, ℕ, suc, zero, ◌+◌, List, [], ◌∷◌, get_or, length, Option, Some, None, refl, ap, sym, ◌∙◌, arith}
 use Rattle.std.specs.Borrow.{Bor}
 use Rattle.std.specs.Prelude.{option_map}
+use Rattle.mo_syntax.specs.Outcome.{breaks}
 use Rattle.mo_syntax.specs.declared.expr.Expr.{Expr}
 use Rattle.mo_syntax.specs.declared.place.Place.{Place}
-use Rattle.mo_scope.specs.Outcome.{breaks}
 use Rattle.mo_scope.specs.Frames.{Scope}
 use Rattle.mo_equations.specs.Asserts.{assert_of}
 use Rattle.mo_equations.specs.Leaves.{Tree}
 use Rattle.mo_equations.specs.steps.Asserts.{assert_with_level, values_seen}
+use Rattle.mo_syntax.specs.declared.rules.TheConstants.{OUTSIDE_PROFILE}
 
 module _ (tree : Tree) (scope : Scope) (place : Place) (given : Option (List Expr)) where
   pub two_values : (values : List (Bor Expr)) (a b : Bor Expr) → option_map values_seen (Some values) ≡ given → length values ≡ 2 → a ≡ get_or values 0 a → b ≡ get_or values 1 b →
@@ -29,12 +30,12 @@ module _ (tree : Tree) (scope : Scope) (place : Place) (given : Option (List Exp
       ∙ ap (λ (e : Bor Expr). assert_with_level tree scope x.now y.now (Some e.now)) r ∙ ap (assert_of tree scope place) is
   three_values (x ∷ y ∷ z ∷ w ∷ rest) a b d is long p q r = let h : suc (suc (suc (suc (length rest)))) ≡ 3 = long in absurd (omega (arith, h))
 
-  pub other_values : (values : List (Bor Expr)) → option_map values_seen (Some values) ≡ given → (length values ≡ 2 → ⊥) → (length values ≡ 3 → ⊥) → assert_of tree scope place given ≡ breaks 34 place
+  pub other_values : (values : List (Bor Expr)) → option_map values_seen (Some values) ≡ given → (length values ≡ 2 → ⊥) → (length values ≡ 3 → ⊥) → assert_of tree scope place given ≡ breaks OUTSIDE_PROFILE place
   other_values [] is two three = sym (ap (assert_of tree scope place) is)
   other_values (x ∷ []) is two three = sym (ap (assert_of tree scope place) is)
   other_values (x ∷ y ∷ []) is two three = absurd (two refl)
   other_values (x ∷ y ∷ z ∷ []) is two three = absurd (three refl)
   other_values (x ∷ y ∷ z ∷ w ∷ rest) is two three = sym (ap (assert_of tree scope place) is)
 
-  pub no_values : None ≡ given → assert_of tree scope place given ≡ breaks 34 place
+  pub no_values : None ≡ given → assert_of tree scope place given ≡ breaks OUTSIDE_PROFILE place
   no_values is = sym (ap (assert_of tree scope place) is)

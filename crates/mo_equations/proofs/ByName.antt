@@ -2,6 +2,7 @@
 use Rattle.std.specs.Prelude.{IfOk}
 use Rattle.std.proofs.Common.{◌≡◌, ℕ, ℤ, suc, ◌+◌, ◌-◌, ◌<◌, ◌≤◌, Bool, true, false, if◌then◌else◌, Result, List, [], ◌∷◌, ◌++◌, map, drop, length, get_or, Ok, Err, refl, ap, sym, subst, ◌∙◌, append_assoc, arith}
 use Rattle.std.proofs.lemmas.List.{drop_all, drop_more}
+use Rattle.mo_syntax.specs.Outcome.{Outcome, and_then, breaks}
 use Rattle.mo_syntax.specs.declared.expr.Expr.{Expr}
 use Rattle.mo_syntax.specs.declared.expr.PartOf.{PartOf}
 use Rattle.mo_syntax.specs.declared.expr.ReferenceOf.{ReferenceOf}
@@ -11,7 +12,7 @@ use Rattle.mo_syntax.specs.declared.place.Place.{Place}
 use Rattle.mo_syntax.specs.declared.place.Stop.{Stop}
 use Rattle.mo_syntax.specs.declared.place.Stop.TheVariants.{Broken as broken_by, NoMemory as no_memory}
 use Rattle.mo_scope.specs.declared.row.Member.{Member as MemberAt}
-use Rattle.mo_scope.specs.Outcome.{Outcome, Gives, and_then, breaks}
+use Rattle.mo_scope.specs.Outcome.{Gives}
 use Rattle.mo_scope.specs.Places.{Every}
 use Rattle.mo_scope.specs.Names.{Child, child_of_member, component_frame}
 use Rattle.mo_scope.specs.Rows.{Table, is_class}
@@ -26,6 +27,7 @@ use Rattle.mo_names.specs.declared.found.Found.TheVariants.{Component as compone
 use Rattle.mo_eval.specs.References.{last_of}
 use Rattle.mo_names.proofs.Later.{is_member_later, member_later}
 use Rattle.mo_typing.specs.Outcome as told
+use Rattle.mo_syntax.specs.declared.rules.TheConstants.{NAME_NOT_FOUND}
 use Rattle.mo_typing.specs.Outcome.{each}
 use Rattle.mo_flat.specs.declared.connect.Side.{Side}
 use Rattle.mo_flat.specs.declared.connect.Side.TheVariants.{Neither}
@@ -66,11 +68,11 @@ module _ (table : Table) where
 
     abbrev behind_first : PartOf Expr → List (PartOf Expr) → Found → Outcome (List Member)
     behind_first part parts (Component frame member) = declared_from table member parts
-    behind_first part parts found = breaks 12 part.place
+    behind_first part parts found = breaks NAME_NOT_FOUND part.place
 
     abbrev component_in : PartOf Expr → Found → Outcome Member
     component_in part (Component frame member) = Ok member
-    component_in part found = breaks 12 part.place
+    component_in part found = breaks NAME_NOT_FOUND part.place
 
     by_found : (part : PartOf Expr) (parts : List (PartOf Expr)) (found : Found) →
         behind_first part parts found ≡ and_then (component_in part found) (λ member. declared_from table member parts)
@@ -142,8 +144,8 @@ stops_then view seen no_memory o f h = tt
 
 module _ (table : Table) (member : Member) (part : PartOf Expr) where
   abbrev component_reached : Reached → Outcome Member
-  component_reached (Element next) = if is_class next.declares then breaks 12 part.place else Ok next
-  component_reached other = breaks 12 part.place
+  component_reached (Element next) = if is_class next.declares then breaks NAME_NOT_FOUND part.place else Ok next
+  component_reached other = breaks NAME_NOT_FOUND part.place
 
   abbrev behind_frame : Frame → Outcome Member
   behind_frame frame = and_then (reached table (asking_of table) part.place frame part.name) component_reached
@@ -172,10 +174,10 @@ module _ (table : Table) (member : Member) (part : PartOf Expr) where
       by_found_there : declared_behind table member part ≡ component_reached found
       by_found_there = by_reached ∙ ap (λ (o : Outcome Reached). and_then o component_reached) told
 
-    pub other_reached : (found : Found) → reached table (asking_of table) part.place frame part.name ≡ Ok (Other found) → declared_behind table member part ≡ breaks 12 part.place
+    pub other_reached : (found : Found) → reached table (asking_of table) part.place frame part.name ≡ Ok (Other found) → declared_behind table member part ≡ breaks NAME_NOT_FOUND part.place
     other_reached found told = by_found_there (Other found) told
 
-    pub none_reached : reached table (asking_of table) part.place frame part.name ≡ Ok Absent → declared_behind table member part ≡ breaks 12 part.place
+    pub none_reached : reached table (asking_of table) part.place frame part.name ≡ Ok Absent → declared_behind table member part ≡ breaks NAME_NOT_FOUND part.place
     none_reached told = by_found_there Absent told
 
     pub element_reached : (frames : List Frame) (next : MemberAt) (result : Result MemberAt Stop) → reached table (asking_of table) part.place frame part.name ≡ Ok (Element (member_of frames next)) →
@@ -183,7 +185,7 @@ module _ (table : Table) (member : Member) (part : PartOf Expr) where
     element_reached frames next result told h =
         subst (Gives (member_of frames) result) (mapped ∙ sym (by_found_there (Element (member_of frames next)) told)) (gives_mapped (member_of frames) result (component_or_broken part.place next) h)
       where
-        go : (b : Bool) → and_then (if b then breaks 12 part.place else Ok next) (λ m. Ok (member_of frames m)) ≡ (if b then breaks 12 part.place else Ok (member_of frames next))
+        go : (b : Bool) → and_then (if b then breaks NAME_NOT_FOUND part.place else Ok next) (λ m. Ok (member_of frames m)) ≡ (if b then breaks NAME_NOT_FOUND part.place else Ok (member_of frames next))
         go true = refl
         go false = refl
 
@@ -195,7 +197,7 @@ module _ (table : Table) (member : Member) (part : PartOf Expr) where
 module _ (table : Table) (top : Bool) (scope : Scope) (part : PartOf Expr) where
   abbrev component_first : Found → Outcome Member
   component_first (Component frame member) = Ok member
-  component_first found = breaks 12 part.place
+  component_first found = breaks NAME_NOT_FOUND part.place
 
   first_by : first_component table top scope part ≡ and_then (first_declared table top scope part.name part.place) component_first
   first_by = go (found_first table (asking_of table) false top scope part)
@@ -236,11 +238,11 @@ member_is a b e = ap got e
 pub found_exists : (w : World) (place : Place) (found : FoundAt) (result : Result MemberAt Stop) → IsFound w found → Gives (λ (m : MemberAt). m) result (component_in_found place found) → IfOk result (IsMember w)
 found_exists w place found (Err stop) is h = tt
 found_exists w place (component_at frame member) (Ok m) is h = subst (IsMember w) (member_is member m h) is.1
-found_exists w place (class_at frame replaceable) (Ok m) is h = absurd (let clash : ◌≡◌ {A = Outcome MemberAt} (breaks 12 place) (Ok m) = h in cc)
-found_exists w place (literal_at class at) (Ok m) is h = absurd (let clash : ◌≡◌ {A = Outcome MemberAt} (breaks 12 place) (Ok m) = h in cc)
-found_exists w place (iteration_at value) (Ok m) is h = absurd (let clash : ◌≡◌ {A = Outcome MemberAt} (breaks 12 place) (Ok m) = h in cc)
-found_exists w place (function_at code) (Ok m) is h = absurd (let clash : ◌≡◌ {A = Outcome MemberAt} (breaks 12 place) (Ok m) = h in cc)
-found_exists w place time_at (Ok m) is h = absurd (let clash : ◌≡◌ {A = Outcome MemberAt} (breaks 12 place) (Ok m) = h in cc)
+found_exists w place (class_at frame replaceable) (Ok m) is h = absurd (let clash : ◌≡◌ {A = Outcome MemberAt} (breaks NAME_NOT_FOUND place) (Ok m) = h in cc)
+found_exists w place (literal_at class at) (Ok m) is h = absurd (let clash : ◌≡◌ {A = Outcome MemberAt} (breaks NAME_NOT_FOUND place) (Ok m) = h in cc)
+found_exists w place (iteration_at value) (Ok m) is h = absurd (let clash : ◌≡◌ {A = Outcome MemberAt} (breaks NAME_NOT_FOUND place) (Ok m) = h in cc)
+found_exists w place (function_at code) (Ok m) is h = absurd (let clash : ◌≡◌ {A = Outcome MemberAt} (breaks NAME_NOT_FOUND place) (Ok m) = h in cc)
+found_exists w place time_at (Ok m) is h = absurd (let clash : ◌≡◌ {A = Outcome MemberAt} (breaks NAME_NOT_FOUND place) (Ok m) = h in cc)
 
 -- ---- the last of some
 

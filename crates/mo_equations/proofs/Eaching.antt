@@ -1,11 +1,11 @@
 -- What each of some elements gives in turn, by those that are left.
 use Rattle.std.proofs.Common.{◌≡◌, ℕ, zero, suc, ◌+◌, ◌<◌, ◌≤◌, List, [], ◌∷◌, ◌++◌, length, map, drop, get_or, Ok, Err, refl, ap, ◌∙◌, sym, append_assoc, arith}
 use Rattle.std.proofs.lemmas.List.{append-nil, drop_more}
+use Rattle.mo_syntax.specs.Outcome.{Outcome, and_then}
 use Rattle.mo_syntax.specs.declared.place.Broken.{Broken}
 use Rattle.mo_syntax.specs.declared.place.Stop.{Stop}
 use Rattle.mo_syntax.specs.declared.place.Stop.TheVariants.{Broken as broken_by, NoMemory as no_memory}
 use Rattle.mo_typing.specs.Outcome as told
-use Rattle.mo_scope.specs.Outcome.{Outcome, and_then}
 use Rattle.mo_typing.specs.Outcome.{each}
 
 pub each_mapped : {A B C : Type 0} (f : B → Outcome C) (h : A → B) (xs : List A) → each f (map h xs) ≡ each (λ x. f (h x)) xs

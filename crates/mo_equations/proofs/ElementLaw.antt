@@ -2,16 +2,17 @@
 use Rattle.std.proofs.Common.{◌≡◌, ℕ, ℤ, pos, ◌+ℤ◌, ◌-ℤ◌, ◌*ℤ◌, neg_ℤ, ◌-◌, Bool, true, false, ◌&&◌, ◌||◌, List, [], ◌∷◌, ◌++◌, map, take, drop, length, Option, Some, None, Ok, Err, refl, ap, sym, ◌∙◌, subst, arith, if◌then◌else◌, nat_eq, not, zero, suc}
 use Rattle.std.specs.Prelude.{fold, int_lt, slice_get}
 use Rattle.std.proofs.lemmas.Int.{ints}
+use Rattle.mo_syntax.specs.Outcome.{Outcome, and_then, breaks}
 use Rattle.mo_syntax.specs.declared.meaning.ClassId.{ClassId}
 use Rattle.mo_syntax.specs.declared.meaning.Kind.{Kind}
 use Rattle.mo_syntax.specs.declared.place.Broken.{Broken}
 use Rattle.mo_syntax.specs.declared.place.Place.{Place}
+use Rattle.mo_syntax.specs.declared.rules.TheConstants.{INTEGER_ARITHMETIC}
 use Rattle.mo_tables.specs.declared.functions.TheConstants.{ABS, CROSS, IDENTITY, MAX, MIN, NDIMS, NO_EVENT, ONES, PRODUCT, SUM, TRANSPOSE}
 use Rattle.mo_flat.specs.declared.array.ArrayExpr.{ArrayExpr, ArrayExpr-F, fold-roll-ArrayExpr, ind-ArrayExpr, map-ArrayExpr, para-roll-ArrayExpr, roll-ArrayExpr}
 use Rattle.mo_flat.specs.declared.array.ArrayNode.{ArrayNode, ArrayNode-F, fold-roll-ArrayNode, map-ArrayNode, para-roll-ArrayNode, roll-ArrayNode}
 use Rattle.mo_flat.specs.declared.expr.FlatExpr.{FlatExpr, FlatExpr-F, fold_out-FlatExpr, map-FlatExpr, out-FlatExpr}
 use Rattle.mo_flat.specs.declared.expr.FlatExpr.TheVariants as flat
-use Rattle.mo_typing.specs.Outcome.{Outcome, and_then, breaks}
 use Rattle.mo_typing.specs.Dims.{Dims, dims_node, dims_of, dims_of_all, dims_of_node, dims_part, is_scalar, operand, operands_of}
 use Rattle.mo_typing.specs.Dims.{Part as DimsPart, added as added_dims, alike, call as call_dims, call_of_two as call_of_two_dims, chain, crossed as crossed_dims, filled, multiplied as times_dims, part_of as dims_part_of, sizes_of}
 use Rattle.mo_typing.specs.Indices.{Index, first_number, indices, is_diagonal, located, numbers_to, or_else, own, range_element, variable_at}
@@ -96,7 +97,7 @@ known_told (Ok (Some (Literal c m))) p f v n h k = literal_is c m v (same_reckon
 
 from_reckoned : (place : Place) (r : Reckoned) (v : ℤ) → known_from place r ≡ Ok (Some (Whole v)) → r ≡ Is (Whole v)
 from_reckoned place Unknown v h = absurd (let f : ◌≡◌ {A = Outcome Known} (Ok None) (Ok (Some (Whole v))) = h in cc)
-from_reckoned place Outside v h = absurd (let f : ◌≡◌ {A = Outcome Known} (breaks 30 place) (Ok (Some (Whole v))) = h in cc)
+from_reckoned place Outside v h = absurd (let f : ◌≡◌ {A = Outcome Known} (breaks INTEGER_ARITHMETIC place) (Ok (Some (Whole v))) = h in cc)
 from_reckoned place (Is (Whole x)) v h = ap (λ (z : ℤ). Is (Whole z)) (known_whole x v h)
 from_reckoned place (Is (Truth b)) v h = absurd (let f : ◌≡◌ {A = Outcome Known} (Ok (Some (Truth b))) (Ok (Some (Whole v))) = h in cc)
 from_reckoned place (Is (Literal c m)) v h = absurd (let f : ◌≡◌ {A = Outcome Known} (Ok (Some (Literal c m))) (Ok (Some (Whole v))) = h in cc)

@@ -1,5 +1,6 @@
 -- What the ends of connects hold.
 use Rattle.std.proofs.Common.{◌≡◌, ℕ, zero, suc, ◌<◌, List, [], ◌∷◌, map, Option, Some, None, Ok, Err, All, refl, sym, ap, ◌∙◌, subst, arith}
+use Rattle.mo_syntax.specs.Outcome.{Outcome, and_then}
 use Rattle.mo_syntax.specs.declared.expr.Expr.{Expr}
 use Rattle.mo_syntax.specs.declared.expr.ReferenceOf.{ReferenceOf}
 use Rattle.mo_syntax.specs.declared.place.Broken.{Broken}
@@ -9,7 +10,6 @@ use Rattle.mo_flat.specs.declared.connect.EndLeaf.{EndLeaf}
 use Rattle.mo_flat.specs.declared.connect.Side.{Side}
 use Rattle.mo_flat.specs.declared.connect.Side.TheVariants.{Inside, Outside, Neither}
 use Rattle.mo_flat.specs.SoundConnects.{AreDistinct}
-use Rattle.mo_scope.specs.Outcome.{Outcome, and_then}
 use Rattle.mo_scope.specs.Frames.{Indexed, Member, Scope, at_of}
 use Rattle.mo_scope.specs.Names.{path_below}
 use Rattle.mo_typing.specs.Indices.{Index}

@@ -1,9 +1,9 @@
 -- Expressions with their variables replaced, by their parts.
 use Rattle.std.proofs.Common.{◌≡◌, ℕ, ℤ, Bool, List, map, Ok, refl, ap, ◌∙◌}
+use Rattle.mo_syntax.specs.Outcome.{Outcome, and_then}
 use Rattle.mo_syntax.specs.declared.expr.RelOp.{RelOp}
 use Rattle.mo_flat.specs.declared.expr.FlatExpr.{FlatExpr, FlatExpr-F, fold_out-FlatExpr, map-FlatExpr, out-FlatExpr}
 use Rattle.mo_flat.specs.declared.expr.FlatExpr.TheVariants.{Whole, Decimal, Str, Truth, Literal, Time, Var, Der, Sum, Product, Power, Call, Relation, Not, All, Any, If, outs-Whole, outs-Decimal, outs-Str, outs-Truth, outs-Literal, outs-Time, outs-Var, outs-Der, outs-Sum, outs-Product, outs-Power, outs-Call, outs-Relation, outs-Not, outs-All, outs-Any, outs-If}
-use Rattle.mo_scope.specs.Outcome.{Outcome, and_then}
 use Rattle.mo_typing.specs.Outcome.{each}
 use Rattle.mo_equations.specs.Replacing.{branch_of, marked, replaced_node, with_variables}
 use Rattle.mo_equations.specs.steps.Filling.{branch_with, signed_with}

@@ -1,6 +1,7 @@
 -- The equations of a section, form by form and one after another.
 use Rattle.std.proofs.Common.{◌≡◌, ℕ, ℤ, ◌+◌, ◌<◌, ◌≤◌, Bool, true, false, cond, List, [], ◌∷◌, ◌++◌, map, take, drop, length, get_or, Option, Some, None, Result, Ok, Err, nat_lt, ltb-true, ltb-false, refl, ap, sym, subst, ◌∙◌, append_assoc, arith}
 use Rattle.std.proofs.lemmas.List.{append-nil, drop_all, drop_more, take_all, take_more}
+use Rattle.mo_syntax.specs.Outcome.{Outcome, and_then, breaks}
 use Rattle.mo_syntax.specs.declared.equation.EquationKind.{EquationKind}
 use Rattle.mo_syntax.specs.declared.equation.EquationOf.{EquationOf}
 use Rattle.mo_syntax.specs.declared.expr.Args.{Args}
@@ -15,11 +16,11 @@ use Rattle.mo_flat.specs.declared.expr.FlatExpr.{FlatExpr}
 use Rattle.mo_scope.specs.Frames.{Frame, Scope}
 use Rattle.mo_flat.specs.declared.connect.Connect.{Connect}
 use Rattle.mo_scope.specs.Outcome as seen
-use Rattle.mo_scope.specs.Outcome.{Outcome, and_then, breaks}
 use Rattle.mo_scope.specs.declared.source.ScopeAt.{ScopeAt}
 use Rattle.mo_scope.specs.Worlds.{World, Grows, IsFrame, frame_in, frames_of, scope_in}
 use Rattle.mo_names.proofs.Later.{frame_later}
 use Rattle.mo_typing.specs.Outcome as told
+use Rattle.mo_syntax.specs.declared.rules.TheConstants.{FLAT_MODEL_TOO_LARGE}
 use Rattle.mo_values.specs.Scalars.{Known}
 use Rattle.mo_values.specs.declared.value.Scalar.{Scalar}
 use Rattle.mo_values.specs.declared.value.Scalar.TheVariants.{Whole, Truth, Literal}
@@ -129,10 +130,10 @@ turn_taken asked turn turns small = go (nat_lt turns most_turns) refl
     go true is = rw is refl
     go false is = absurd (omega (arith, small, ltb-false turns most_turns is))
 
-pub turn_refused : (asked : Place) (turn : Turning Made) (turns : ℕ) → most_turns ≤ turns → one_turn asked turn turns ≡ breaks 41 asked
+pub turn_refused : (asked : Place) (turn : Turning Made) (turns : ℕ) → most_turns ≤ turns → one_turn asked turn turns ≡ breaks FLAT_MODEL_TOO_LARGE asked
 turn_refused asked turn turns above = go (nat_lt turns most_turns) refl
   where
-    go : (b : Bool) → nat_lt turns most_turns ≡ b → one_turn asked turn turns ≡ breaks 41 asked
+    go : (b : Bool) → nat_lt turns most_turns ≡ b → one_turn asked turn turns ≡ breaks FLAT_MODEL_TOO_LARGE asked
     go true is = absurd (omega (arith, above, ltb-true turns most_turns is))
     go false is = rw is refl
 

@@ -6,6 +6,7 @@ use Rattle.std.proofs.Math.Nat.{add-mul, mul-suc}
 use Rattle.std.proofs.lemmas.Bool.{cases_lt, eq-eqb, eqb-true, false≢true, le-ltb}
 use Rattle.std.proofs.lemmas.Bool.Decides.{eqb_tells}
 use Rattle.std.proofs.lemmas.List.Sums.{sum_by-cons}
+use Rattle.mo_syntax.specs.Outcome.{Outcome, and_then, breaks}
 use Rattle.mo_syntax.specs.declared.place.Place.{Place}
 use Rattle.mo_syntax.specs.declared.place.Stop.{Stop}
 use Rattle.mo_flat.specs.declared.expr.FlatExpr.{FlatExpr, FlatExpr-F, fold_out-FlatExpr, map-FlatExpr, out-FlatExpr}
@@ -14,8 +15,8 @@ use Rattle.mo_flat.specs.declared.expr.FlatExpr as flat
 use Rattle.mo_flat.specs.declared.model.FlatEquation.{FlatEquation}
 use Rattle.mo_flat.specs.Nodes.{count_node, node_count}
 use Rattle.mo_flat.proofs.Counting as count
-use Rattle.mo_scope.specs.Outcome.{Outcome, and_then, breaks}
 use Rattle.mo_scope.specs.Places.{Every}
+use Rattle.mo_syntax.specs.declared.rules.TheConstants.{BRANCH_COUNTS_DIFFER}
 use Rattle.mo_typing.specs.Indices.{numbers_to}
 use Rattle.mo_typing.specs.Outcome.{each}
 use Rattle.mo_equations.specs.declared.flat.Flat.{Flat}
@@ -582,7 +583,7 @@ joined_made place held made (branch ∷ branches, other) is bare some small equa
         held_in (Err broken) = a
 
 pub joined_unequal : (place : Place) (held : ChoiceAt) (choice : Choice) → IsChoice held choice → held.branches ≢ [] → held.other.count < 2 ^ 64 - 1 → counts_are_equal held.branches held.other ≡ false →
-    made_if place choice ≡ breaks 35 place
+    made_if place choice ≡ breaks BRANCH_COUNTS_DIFFER place
 joined_unequal place held ([], other) is some small apart = absurd (some (none held.branches is.branches))
   where
     none : (hs : List (Flat × MadeAt)) → AreBranches hs [] → hs ≡ []

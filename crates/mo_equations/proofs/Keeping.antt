@@ -1,5 +1,6 @@
 -- What holds of each connect that equations give holds of all connects of a class.
 use Rattle.std.proofs.Common.{◌≡◌, ℕ, ◌+◌, Bool, true, false, ◌&&◌, not, List, [], ◌∷◌, ◌++◌, map, Some, None, Ok, Err, sym, ap, subst, nat_lt, if◌then◌else◌}
+use Rattle.mo_syntax.specs.Outcome.{Outcome, and_then}
 use Rattle.mo_syntax.specs.declared.equation.EquationKind.{EquationKind, EquationKind-F, fold-roll-EquationKind, ind-EquationKind, map-EquationKind, roll-EquationKind}
 use Rattle.mo_syntax.specs.declared.equation.EquationOf.{EquationOf}
 use Rattle.mo_syntax.specs.declared.expr.Args.{Args}
@@ -10,9 +11,9 @@ use Rattle.mo_syntax.specs.declared.place.Broken.{Broken}
 use Rattle.mo_syntax.specs.declared.place.Place.{Place}
 use Rattle.mo_flat.specs.declared.connect.Connect.{Connect}
 use Rattle.mo_flat.specs.declared.connect.Expanded.{Expanded}
-use Rattle.mo_scope.specs.Outcome.{Outcome, and_then}
 use Rattle.mo_scope.specs.Frames.{Scope}
 use Rattle.mo_scope.specs.Places.{Every}
+use Rattle.mo_syntax.specs.declared.rules.TheConstants.{FLAT_MODEL_TOO_LARGE, CONNECT_UNDER_OPEN_CONDITION, OUTSIDE_PROFILE, BRANCH_COUNTS_DIFFER}
 use Rattle.mo_values.specs.declared.value.Scalar.TheVariants.{Literal, Truth, Whole}
 use Rattle.mo_values.specs.Scalars.{Known}
 use Rattle.mo_equations.specs.Leaves.{Tree, place_of_root}
@@ -73,9 +74,9 @@ keeps_any t = record { holds = λ turns a then_turns e. tt }
 keeps_turn : {A : Type 0} {Q : A → Type 0} (asked : Place) (t : Turning A) → Keeps Q t → Keeps Q (one_turn asked t)
 keeps_turn {A} {Q} asked t h = record { holds = λ turns a then_turns e. by (nat_lt turns most_turns) turns a then_turns e }
   where
-    by : (b : Bool) (turns : ℕ) (a : A) (then_turns : ℕ) → (if b then t (turns + 1) else bad (A × ℕ) (record { rule = 41; place = asked })) ≡ Ok (a, then_turns) → Q a
+    by : (b : Bool) (turns : ℕ) (a : A) (then_turns : ℕ) → (if b then t (turns + 1) else bad (A × ℕ) (record { rule = FLAT_MODEL_TOO_LARGE; place = asked })) ≡ Ok (a, then_turns) → Q a
     by true turns a then_turns e = h.holds (turns + 1) a then_turns e
-    by false turns a then_turns e = err_is_ok (record { rule = 41; place = asked }) (a, then_turns) e
+    by false turns a then_turns e = err_is_ok (record { rule = FLAT_MODEL_TOO_LARGE; place = asked }) (a, then_turns) e
 
 every_of : {A : Type 0} (R : A → Type 0) → ((a : A) → R a) → (xs : List A) → Every R xs
 every_of R h [] = tt
@@ -125,9 +126,9 @@ module _ (P : Connect → Type 0) where
     connect_keeps place site left right = keeps_none {Q = KeepsMade} (made_connect tree place site left right) (λ made e. by site.undecided made e)
       where
         by : (b : Bool) (made : Made)
-            → (if b then bad Made (record { rule = 36; place = place }) else and_then (connect_of tree site.scope place left right) (λ connects. Ok (made_connects connects))) ≡ Ok made
+            → (if b then bad Made (record { rule = CONNECT_UNDER_OPEN_CONDITION; place = place }) else and_then (connect_of tree site.scope place left right) (λ connects. Ok (made_connects connects))) ≡ Ok made
             → KeepsMade made
-        by true made e = err_is_ok (record { rule = 36; place = place }) made e
+        by true made e = err_is_ok (record { rule = CONNECT_UNDER_OPEN_CONDITION; place = place }) made e
         by false made e =
             let one = comes (connect_of tree site.scope place left right) (λ connects. Ok (made_connects connects)) made e in
             subst KeepsMade (ok_one (made_connects one.value) made one.then_is) (connects_keep site.scope place left right one.value one.first)
@@ -136,9 +137,9 @@ module _ (P : Connect → Type 0) where
     call_keeps place site called arguments = keeps_none {Q = KeepsMade} (made_call tree place site called arguments) (λ made e. by (is_assert called && not site.undecided) made e)
       where
         by : (b : Bool) (made : Made)
-            → (if b then and_then (assert_of tree site.scope place (plain_values arguments)) (λ assert. Ok (made_assert assert)) else bad Made (record { rule = 34; place = place })) ≡ Ok made
+            → (if b then and_then (assert_of tree site.scope place (plain_values arguments)) (λ assert. Ok (made_assert assert)) else bad Made (record { rule = OUTSIDE_PROFILE; place = place })) ≡ Ok made
             → KeepsMade made
-        by false made e = err_is_ok (record { rule = 34; place = place }) made e
+        by false made e = err_is_ok (record { rule = OUTSIDE_PROFILE; place = place }) made e
         by true made e =
             let one = comes (assert_of tree site.scope place (plain_values arguments)) (λ assert. Ok (made_assert assert)) made e in
             subst KeepsMade (ok_one (made_assert one.value) made one.then_is) tt
@@ -205,10 +206,10 @@ module _ (P : Connect → Type 0) where
     if_keeps place (branch ∷ branches, other) h = keeps_none {Q = KeepsMade} (made_if place (branch ∷ branches, other)) (λ made e. by (have_equal_counts (branch ∷ branches) other) made e)
       where
         by : (b : Bool) (made : Made)
-            → (if b then Ok (made_equations (map (joined_equation place) (joined_branches (branch ∷ branches) other))) else bad Made (record { rule = 35; place = place })) ≡ Ok made
+            → (if b then Ok (made_equations (map (joined_equation place) (joined_branches (branch ∷ branches) other))) else bad Made (record { rule = BRANCH_COUNTS_DIFFER; place = place })) ≡ Ok made
             → KeepsMade made
         by true made e = subst KeepsMade (ok_one (made_equations (map (joined_equation place) (joined_branches (branch ∷ branches) other))) made e) tt
-        by false made e = err_is_ok (record { rule = 35; place = place }) made e
+        by false made e = err_is_ok (record { rule = BRANCH_COUNTS_DIFFER; place = place }) made e
 
     -- ---- all forms
 
@@ -229,7 +230,7 @@ module _ (P : Connect → Type 0) where
     form_keeps : (y : EquationKind-F Kept)
         → KeepsFormer (made_form tree (map-EquationKind EquationKind Former (made_kind tree) (map-EquationKind Kept EquationKind (λ kept. kept.0) y)))
     form_keeps (EquationKind-F.Equal left right) place site = equations_keep place site left right
-    form_keeps (EquationKind-F.When branches) place site = keeps_none {Q = KeepsMade} (bad Made (record { rule = 34; place = place })) (λ made e. err_is_ok (record { rule = 34; place = place }) made e)
+    form_keeps (EquationKind-F.When branches) place site = keeps_none {Q = KeepsMade} (bad Made (record { rule = OUTSIDE_PROFILE; place = place })) (λ made e. err_is_ok (record { rule = OUTSIDE_PROFILE; place = place }) made e)
     form_keeps (EquationKind-F.Connect left right) place site = connect_keeps place site left right
     form_keeps (EquationKind-F.Call called arguments) place site = call_keeps place site called arguments
     form_keeps (EquationKind-F.For indices equations) place site = loop_keeps place indices _ (list_keeps _ _ (λ equation site. equation.what.1 equation.place site) equations) site
@@ -261,12 +262,12 @@ module _ (P : Connect → Type 0) where
     parts_keep false made h = h
 
     abbrev placed_by : Placed → Section → Turning Parts
-    placed_by placed Left_out = turn_none (bad Parts (record { rule = 34; place = placed.name }))
+    placed_by placed Left_out = turn_none (bad Parts (record { rule = OUTSIDE_PROFILE; place = placed.name }))
     placed_by placed (Equations initial equations) =
         turn_then (made_section tree (record { frame = placed.frame; iterations = [] }) equations) (λ made. turn_none (Ok (parts_of initial made)))
 
     section_of_keeps : (placed : Placed) (section : Section) → Keeps KeepsParts (placed_by placed section)
-    section_of_keeps placed Left_out = keeps_none {Q = KeepsParts} (bad Parts (record { rule = 34; place = placed.name })) (λ made e. err_is_ok (record { rule = 34; place = placed.name }) made e)
+    section_of_keeps placed Left_out = keeps_none {Q = KeepsParts} (bad Parts (record { rule = OUTSIDE_PROFILE; place = placed.name })) (λ made e. err_is_ok (record { rule = OUTSIDE_PROFILE; place = placed.name }) made e)
     section_of_keeps placed (Equations initial equations) =
         keeps_then {Q = KeepsParts} (made_section tree (record { frame = placed.frame; iterations = [] }) equations) (λ made. turn_none (Ok (parts_of initial made)))
         (section_keeps (record { frame = placed.frame; iterations = [] }) equations)

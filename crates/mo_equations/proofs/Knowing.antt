@@ -1,6 +1,7 @@
 -- What is known of expressions, one number after another.
 use Rattle.std.proofs.Common.{◌≡◌, ℕ, ℤ, suc, ◌+◌, ◌<◌, ◌≤◌, List, [], ◌∷◌, ◌++◌, get_or, length, map, Option, Some, None, Result, Ok, Err, refl, ap, sym, ◌∙◌, subst, arith}
 use Rattle.std.proofs.lemmas.Option.{get_or_from_slice_get}
+use Rattle.mo_syntax.specs.Outcome.{Outcome, and_then, breach}
 use Rattle.mo_syntax.specs.declared.expr.Expr.{Expr}
 use Rattle.mo_syntax.specs.declared.meaning.Kind.{Kind}
 use Rattle.mo_syntax.specs.declared.meaning.Kind.TheVariants.{Real, Whole, Truth, Str, Enumeration}
@@ -11,11 +12,11 @@ use Rattle.mo_syntax.specs.declared.place.Stop.TheVariants.{Broken as broken_by,
 use Rattle.mo_flat.specs.declared.array.ArrayExpr.{ArrayExpr, out-ArrayExpr, roll-out-ArrayExpr, para-roll-ArrayExpr, fold_out-ArrayExpr}
 use Rattle.mo_flat.specs.declared.array.ArrayNode.{ArrayNode, ArrayNode-F, para-roll-ArrayNode}
 use Rattle.mo_flat.specs.declared.array.ArrayNode.TheVariants.{Range, rolls-Range}
-use Rattle.mo_scope.specs.Outcome.{Outcome, and_then, breach}
 use Rattle.mo_scope.specs.Outcome as seen
 use Rattle.mo_scope.specs.Rows.{Table}
 use Rattle.mo_scope.specs.Frames.{Scope}
 use Rattle.mo_scope.specs.Worlds.{World, Grows, frames_of, table_in}
+use Rattle.mo_syntax.specs.declared.rules.TheConstants.{WRONG_TYPE}
 use Rattle.mo_typing.specs.Dims.{Dims}
 use Rattle.mo_typing.specs.Indices.{Index, numbers_to, range_element}
 use Rattle.mo_typing.specs.Kinds.{Part as KindPart, kind_of, kind_of_node, kind_node, kind_part}
@@ -117,10 +118,10 @@ whole_kind {A} place fit e a h = at (kind_of e) refl
 
     at : (o : Outcome Kind) → kind_of e ≡ o → kind_of e ≡ Ok Whole
     at (Ok Whole) is = is
-    at (Ok Real) is = not_so (breach 33 place) (sym (rw is refl) ∙ h)
-    at (Ok Truth) is = not_so (breach 33 place) (sym (rw is refl) ∙ h)
-    at (Ok Str) is = not_so (breach 33 place) (sym (rw is refl) ∙ h)
-    at (Ok (Enumeration class)) is = not_so (breach 33 place) (sym (rw is refl) ∙ h)
+    at (Ok Real) is = not_so (breach WRONG_TYPE place) (sym (rw is refl) ∙ h)
+    at (Ok Truth) is = not_so (breach WRONG_TYPE place) (sym (rw is refl) ∙ h)
+    at (Ok Str) is = not_so (breach WRONG_TYPE place) (sym (rw is refl) ∙ h)
+    at (Ok (Enumeration class)) is = not_so (breach WRONG_TYPE place) (sym (rw is refl) ∙ h)
     at (Err broken) is = not_so broken (sym (rw is refl) ∙ h)
 
 each_ok : {A B : Type 0} (f : A → Outcome B) (g : A → B) → ((x : A) → f x ≡ Ok (g x)) → (xs : List A) → each f xs ≡ Ok (map g xs)

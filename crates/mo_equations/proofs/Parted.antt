@@ -1,6 +1,7 @@
 -- The sections of the classes of instances, one after another.
 use Rattle.std.proofs.Common.{◌≡◌, ℕ, ◌+◌, ◌<◌, ◌≤◌, Bool, true, false, List, [], ◌∷◌, ◌++◌, length, map, flat_map, reverse, take, drop, get_or, Option, Some, None, Result, Ok, Err, refl, ap, sym, subst, ◌∙◌, append_assoc, arith}
 use Rattle.std.specs.Prelude.{option_map, slice_get}
+use Rattle.mo_syntax.specs.Outcome.{Outcome, and_then, breaks}
 use Rattle.mo_syntax.specs.declared.class.ClassDefOf.{ClassDefOf}
 use Rattle.std.proofs.lemmas.List.{append-nil, reverse-append}
 use Rattle.mo_syntax.specs.declared.class.Body.{Body, Body-F, out-Body}
@@ -18,7 +19,6 @@ use Rattle.mo_scope.specs.Instances.{Instance}
 use Rattle.mo_scope.specs.Lookup.{Walked, final_frame}
 use Rattle.mo_scope.specs.Names.{walk_of}
 use Rattle.mo_scope.specs.Outcome as seen
-use Rattle.mo_scope.specs.Outcome.{Outcome, and_then, breaks}
 use Rattle.mo_scope.specs.Places.{Every}
 use Rattle.mo_scope.specs.Rows.{Row, Table, row_at}
 use Rattle.mo_scope.specs.Worlds.{World, Grows, IsFrame, frame_at, frame_in, frames_of, table_in}
@@ -26,6 +26,7 @@ use Rattle.mo_names.specs.Sights.{IsBase, frames_through, walk_seen}
 use Rattle.mo_names.specs.declared.walk.Walk.{Walk as WalkAt}
 use Rattle.mo_names.proofs.Later.{frame_later, is_frame_later, table_later}
 use Rattle.mo_typing.specs.Outcome as told
+use Rattle.mo_syntax.specs.declared.rules.TheConstants.{OUTSIDE_PROFILE}
 use Rattle.mo_typing.specs.Outcome.{each}
 use Rattle.mo_equations.specs.declared.desk.Desk.{Desk}
 use Rattle.mo_equations.specs.declared.made.Made.{Made as MadeAt}
@@ -238,7 +239,7 @@ module _ (tree : Tree) (frame : Frame) (name : Place) (initial : Bool) (equation
   stops_section later desk old new (broken_by broken) h = rw (sym (section_is tree scope equations turns) ∙ h) refl
   stops_section later desk old new no_memory h = tt
 
-pub left_out_breaks : (tree : Tree) (frame : Frame) (name : Place) (turns : ℕ) → turn_each (made_placed tree) (record { frame = frame; name = name; section = Left_out } ∷ []) turns ≡ breaks 34 name
+pub left_out_breaks : (tree : Tree) (frame : Frame) (name : Place) (turns : ℕ) → turn_each (made_placed tree) (record { frame = frame; name = name; section = Left_out } ∷ []) turns ≡ breaks OUTSIDE_PROFILE name
 left_out_breaks tree frame name turns = refl
 
 -- ---- answers

@@ -3,13 +3,13 @@
 use Rattle.std.proofs.Common.{◌≡◌, ℕ, ◌+◌, ◌-◌, ◌<◌, ◌^◌, Bool, true, ltb-true, List, [], ◌∷◌, ◌++◌, flat_map, map, min, Option, Some, None, Ok, Err, refl, ap, ◌∙◌, sym, subst, arith}
 use Rattle.std.specs.Prelude.{sum_by, slice_get}
 use Rattle.std.proofs.lemmas.List.Sums.{sum_by-cons}
+use Rattle.mo_syntax.specs.Outcome.{Outcome, and_then}
 use Rattle.mo_syntax.specs.declared.place.Broken.{Broken}
 use Rattle.mo_flat.specs.declared.expr.FlatExpr.{FlatExpr, FlatExpr-F, fold_out-FlatExpr, ind-FlatExpr, map-FlatExpr, out-FlatExpr, roll-FlatExpr}
 use Rattle.mo_flat.specs.declared.expr.FlatExpr as flat
 use Rattle.mo_flat.specs.declared.expr.FlatExpr.TheVariants as is
 use Rattle.mo_flat.specs.Nodes.{count_node, node_count}
 use Rattle.mo_flat.proofs.Counting as count
-use Rattle.mo_scope.specs.Outcome.{Outcome, and_then}
 use Rattle.mo_scope.specs.Places.{Every}
 use Rattle.mo_typing.specs.Outcome.{each}
 use Rattle.mo_equations.specs.declared.flat.Flat.{Flat}

@@ -1,6 +1,7 @@
 -- What stands for the elements that an expression names, step by step.
 use Rattle.std.proofs.Common.{◌≡◌, ℕ, zero, suc, ◌+◌, ◌-◌, ◌<◌, ◌≤◌, Bool, true, false, List, [], ◌∷◌, length, map, take, get_or, Option, Some, None, Result, Ok, Err, refl, ap, sym, ◌∙◌, subst, arith}
 use Rattle.std.specs.Prelude.{slice_get, option_map}
+use Rattle.mo_syntax.specs.Outcome.{Outcome, and_then, breaks}
 use Rattle.mo_syntax.specs.declared.expr.Expr.{Expr}
 use Rattle.mo_syntax.specs.declared.meaning.Kind.{Kind}
 use Rattle.mo_syntax.specs.declared.place.Broken.{Broken}
@@ -10,7 +11,6 @@ use Rattle.mo_syntax.specs.declared.place.Stop.TheVariants.{Broken as broken_by,
 use Rattle.mo_flat.specs.declared.expr.FlatExpr.{FlatExpr}
 use Rattle.mo_flat.specs.declared.expr.FlatExpr as flat
 use Rattle.mo_scope.specs.Outcome as seen
-use Rattle.mo_scope.specs.Outcome.{Outcome, and_then, breaks}
 use Rattle.mo_scope.specs.Rows.{Table}
 use Rattle.mo_scope.specs.Frames.{Frame, Indexed, Scope, at_of}
 use Rattle.mo_scope.specs.Names.{Child, child_of_member, path_below}
@@ -21,6 +21,7 @@ use Rattle.mo_scope.specs.Worlds.{World, Grows, frames_of, table_in}
 use Rattle.mo_names.specs.Sights.{IsMember}
 use Rattle.mo_names.proofs.Later.{table_later}
 use Rattle.mo_typing.specs.Outcome as told
+use Rattle.mo_syntax.specs.declared.rules.TheConstants.{REFERENCE_CHAIN_TOO_LONG, NO_VALUE}
 use Rattle.mo_typing.specs.Dims.{Dims}
 use Rattle.mo_typing.specs.Indices.{Index}
 use Rattle.mo_typing.specs.Subscripts.{Checked}
@@ -143,7 +144,7 @@ standing_none number replace element h = rw h refl
 
 -- ---- constants
 
-pub constant_none : (table : Table) (number : Indexed → ℕ) (left : ℕ) (element : Element) → left ≡ 0 → constant table number left element ≡ breaks 29 element.place
+pub constant_none : (table : Table) (number : Indexed → ℕ) (left : ℕ) (element : Element) → left ≡ 0 → constant table number left element ≡ breaks REFERENCE_CHAIN_TOO_LONG element.place
 unfolding constant
 constant_none table number zero element h = refl
 constant_none table number (suc left) element h = absurd (omega (arith, h))
@@ -184,7 +185,7 @@ module _ (table : Table) (left : ℕ) (replace : Replacing) (element : Element) 
   child_halts view no_memory h = tt
 
   pub unbound_is : (child : Child) → child_of_member table element.member element.index ≡ Ok child → picked_here child.sources ≡ None →
-      constant_expression table left replace element ≡ breaks 28 element.place
+      constant_expression table left replace element ≡ breaks NO_VALUE element.place
   unbound_is child h none = rw (h, none) refl
 
   pub bound_is : (child : Child) (binding : Picked) → child_of_member table element.member element.index ≡ Ok child → picked_here child.sources ≡ Some binding →

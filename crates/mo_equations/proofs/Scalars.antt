@@ -1,5 +1,6 @@
 -- What is asked of resolved variables, literals and ranges, and what they give.
 use Rattle.std.proofs.Common.{◌≡◌, ℕ, ℤ, Bool, List, [], ◌∷◌, Some, None, Ok, Err, refl, ap, sym, ◌∙◌}
+use Rattle.mo_syntax.specs.Outcome.{Outcome, and_then}
 use Rattle.mo_syntax.specs.declared.meaning.Kind.{Kind}
 use Rattle.mo_syntax.specs.declared.meaning.Kind.TheVariants as kinds
 use Rattle.mo_syntax.specs.declared.place.Broken.{Broken}
@@ -10,7 +11,6 @@ use Rattle.mo_flat.specs.declared.array.ArrayNode.TheVariants.{Vars, Whole, Trut
 use Rattle.mo_flat.specs.declared.expr.FlatExpr.{FlatExpr, fold_out-FlatExpr}
 use Rattle.mo_flat.specs.declared.expr.FlatExpr as flat
 use Rattle.mo_flat.specs.declared.expr.FlatExpr.TheVariants.{outs-Var, outs-Whole}
-use Rattle.mo_typing.specs.Outcome.{Outcome, and_then}
 use Rattle.mo_typing.specs.Kinds.{kind_of, kind_of_node, kind_node, kind_part, Part as KindPart}
 use Rattle.mo_typing.specs.Dims.{Dims, dims_of, dims_of_node, dims_node, dims_part, range, Part as DimsPart}
 use Rattle.mo_typing.specs.Indices.{Index, range_element}

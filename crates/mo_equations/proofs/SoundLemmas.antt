@@ -1,6 +1,7 @@
 -- The connects of a class are sound, where each end has as many elements as its dimensions say.
 use Rattle.std.proofs.Common.{◌≡◌, ◌≢◌, ℕ, zero, suc, ◌<◌, List, [], ◌∷◌, map, length, get_or, Option, Some, None, Ok, All, refl, sym, ap, ◌∙◌, subst, arith}
 use Rattle.std.proofs.lemmas.List.{get_or_default}
+use Rattle.mo_syntax.specs.Outcome.{Outcome, and_then}
 use Rattle.mo_syntax.specs.declared.expr.Expr.{Expr}
 use Rattle.mo_syntax.specs.declared.expr.ReferenceOf.{ReferenceOf}
 use Rattle.mo_syntax.specs.declared.place.Place.{Place}
@@ -10,7 +11,6 @@ use Rattle.mo_flat.specs.declared.connect.End.{End}
 use Rattle.mo_flat.specs.declared.connect.EndLeaf.{EndLeaf}
 use Rattle.mo_flat.specs.declared.connect.Expanded.{Expanded}
 use Rattle.mo_flat.specs.SoundConnects.{AreDistinct, Ascends, IsAt, IsLeafIn, IsLeafOf, IsListedAsFlow, IsSoundConnect, IsSoundConnects, IsSoundEnd}
-use Rattle.mo_scope.specs.Outcome.{Outcome, and_then}
 use Rattle.mo_scope.specs.Frames.{Indexed, Scope}
 use Rattle.mo_scope.specs.Places.{Every}
 use Rattle.mo_equations.specs.Leaves.{Tree, variables_of}

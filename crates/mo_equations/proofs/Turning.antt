@@ -1,11 +1,11 @@
 -- What is gathered of some elements and of more behind them, with the turns that are taken.
 use Rattle.std.proofs.Common.{◌≡◌, ℕ, List, [], ◌∷◌, ◌++◌, Ok, Err, refl, ap, sym, ◌∙◌, append_assoc}
 use Rattle.std.proofs.lemmas.List.{append-nil}
+use Rattle.mo_syntax.specs.Outcome.{Outcome, and_then}
 use Rattle.mo_syntax.specs.declared.place.Broken.{Broken}
 use Rattle.mo_flat.specs.declared.connect.Connect.{Connect}
 use Rattle.mo_flat.specs.declared.model.FlatAssert.{FlatAssert}
 use Rattle.mo_flat.specs.declared.model.FlatEquation.{FlatEquation}
-use Rattle.mo_scope.specs.Outcome.{Outcome, and_then}
 use Rattle.mo_equations.specs.Gathering.{Made, Turning, all_beside, beside, gathered, nothing, turn_each}
 
 -- ---- beside one another

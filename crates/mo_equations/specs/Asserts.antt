@@ -1,6 +1,7 @@
 -- Asserts (Modelica Language Specification 3.5, section 8.3.7). They are kept as they are, and take part in nothing else.
 use Rattle.std.specs.Prelude.{Bool, false, ◌&&◌, not, List, [], ◌∷◌, Option, Some, None, Ok, if◌then◌else◌, codes}
 use Rattle.std.specs.Str.{bytes_eq}
+use Rattle.mo_syntax.specs.Outcome.{Outcome, and_then, breaks}
 use Rattle.mo_syntax.specs.declared.expr.Arg.{Arg, Arg-F, out-Arg}
 use Rattle.mo_syntax.specs.declared.expr.Args.{Args, out-Args}
 use Rattle.mo_syntax.specs.declared.expr.Expr.{Expr}
@@ -12,9 +13,9 @@ use Rattle.mo_syntax.specs.declared.meaning.Kind.TheVariants.{Truth as truth_kin
 use Rattle.mo_syntax.specs.declared.place.Place.{Place}
 use Rattle.mo_flat.specs.declared.expr.FlatExpr.{FlatExpr}
 use Rattle.mo_flat.specs.declared.model.FlatAssert.{FlatAssert}
-use Rattle.mo_scope.specs.Outcome.{Outcome, and_then, breaks}
 use Rattle.mo_scope.specs.Frames.{Scope}
 use Rattle.mo_scope.specs.Sizes.{is_nothing}
+use Rattle.mo_syntax.specs.declared.rules.TheConstants.{WRONG_TYPE, OUTSIDE_PROFILE}
 use Rattle.mo_typing.specs.Kinds.{accepts}
 use Rattle.mo_values.specs.Asked.{only_scalar}
 use Rattle.mo_eval.specs.Components.{place_of}
@@ -55,7 +56,7 @@ plain_values arguments =
 -- an argument of an assert: a scalar of a kind
 abbrev pub flat_argument : Tree → Scope → Kind → Expr → Outcome FlatExpr
 flat_argument tree scope kind e =
-    flat_at tree.classes most_references (replacing tree) (λ got. accepts kind got (place_of e)) (only_scalar 33 (place_of e)) scope e []
+    flat_at tree.classes most_references (replacing tree) (λ got. accepts kind got (place_of e)) (only_scalar WRONG_TYPE (place_of e)) scope e []
 
 -- the predefined type `AssertionLevel`
 abbrev pub assertion_level : Kind
@@ -72,4 +73,4 @@ abbrev pub assert_of : Tree → Scope → Place → Option (List Expr) → Outco
 assert_of tree scope place (Some (condition ∷ message ∷ [])) = assert_with tree scope condition message (Ok None)
 assert_of tree scope place (Some (condition ∷ message ∷ level ∷ [])) =
     assert_with tree scope condition message (and_then (flat_argument tree scope assertion_level level) (λ e. Ok (Some e)))
-assert_of tree scope place arguments = breaks 34 place
+assert_of tree scope place arguments = breaks OUTSIDE_PROFILE place

@@ -5,9 +5,9 @@
 -- model. Wherever both are numbers they are one number, if its dimensions break no rule: where those of operands do not fit one another,
 -- the walk and the element may take them at different indices.
 use Rattle.std.specs.Prelude.{◌≡◌, ℕ, ℤ, pos, ◌+ℤ◌, ◌-ℤ◌, ◌*ℤ◌, neg_ℤ, Bool, List, [], ◌∷◌, fold, Option, Some, None, Ok, if◌then◌else◌, nat_eq, int_lt}
+use Rattle.mo_syntax.specs.Outcome.{Outcome}
 use Rattle.mo_tables.specs.declared.functions.TheConstants.{ABS, MAX, MIN, NO_EVENT}
 use Rattle.mo_flat.specs.declared.expr.FlatExpr.{FlatExpr, FlatExpr-F, fold-FlatExpr}
-use Rattle.mo_scope.specs.Outcome.{Outcome}
 use Rattle.mo_typing.specs.Dims.{Dims, dims_of}
 use Rattle.mo_typing.specs.Indices.{Index}
 use Rattle.mo_arrays.specs.Elements.{element_of}

@@ -3,6 +3,7 @@
 -- An end is judged as it is written, from the class that holds the connect. Its leaves are those of the components that it names: where it
 -- names an outer one, those of the inner one.
 use Rattle.std.specs.Prelude.{Bool, true, false, ◌&&◌, List, [], ◌∷◌, map, Option, Some, None, Ok, Err, if◌then◌else◌}
+use Rattle.mo_syntax.specs.Outcome.{Outcome, and_then, breaks}
 use Rattle.mo_syntax.specs.declared.expr.Expr.{Expr}
 use Rattle.mo_syntax.specs.declared.expr.PartOf.{PartOf}
 use Rattle.mo_syntax.specs.declared.expr.ReferenceOf.{ReferenceOf}
@@ -12,11 +13,11 @@ use Rattle.mo_flat.specs.declared.connect.End.{End}
 use Rattle.mo_flat.specs.declared.connect.EndLeaf.{EndLeaf}
 use Rattle.mo_flat.specs.declared.connect.Side.{Side}
 use Rattle.mo_flat.specs.declared.connect.Side.TheVariants.{Inside, Outside, Neither}
-use Rattle.mo_scope.specs.Outcome.{Outcome, and_then, breaks}
 use Rattle.mo_scope.specs.Rows.{Table, is_class}
 use Rattle.mo_scope.specs.Frames.{Indexed, Scope, Member, at_of, class_of}
 use Rattle.mo_scope.specs.Lookup.{Found, Component, Reached, Element, asking_of, found_first, reached}
 use Rattle.mo_scope.specs.Names.{child_of_member, component_frame, path_below}
+use Rattle.mo_syntax.specs.declared.rules.TheConstants.{NAME_NOT_FOUND}
 use Rattle.mo_typing.specs.Outcome.{each}
 use Rattle.mo_typing.specs.Indices.{Index}
 use Rattle.mo_typing.specs.Subscripts.{subscripts}
@@ -34,8 +35,8 @@ declared_behind table member part =
     and_then (reached table (asking_of table) part.place (component_frame member [] child) part.name) component_in)
   where
     component_in : Reached → Outcome Member
-    component_in (Element next) = if is_class next.declares then breaks 12 part.place else Ok next
-    component_in other = breaks 12 part.place
+    component_in (Element next) = if is_class next.declares then breaks NAME_NOT_FOUND part.place else Ok next
+    component_in other = breaks NAME_NOT_FOUND part.place
 
 -- the components that a name finds, one behind the other, as they are declared
 abbrev pub declared_from : Table → Member → List (PartOf Expr) → Outcome (List Member)
@@ -49,7 +50,7 @@ declared_by_name table scope reference = declared_in reference.parts
   where
     behind_first : PartOf Expr → List (PartOf Expr) → Found → Outcome (List Member)
     behind_first part parts (Component frame member) = declared_from table member parts
-    behind_first part parts found = breaks 12 part.place
+    behind_first part parts found = breaks NAME_NOT_FOUND part.place
 
     declared_in : List (PartOf Expr) → Outcome (List Member)
     declared_in [] = Ok []

@@ -1,11 +1,11 @@
 -- Equations between two expressions (Modelica Language Specification 3.5, sections 8.3.1 and 10.6.1): one scalar equation for each element,
 -- the last index fastest.
 use Rattle.std.specs.Prelude.{List, [], Ok}
+use Rattle.mo_syntax.specs.Outcome.{Outcome, and_then}
 use Rattle.mo_syntax.specs.declared.expr.Expr.{Expr}
 use Rattle.mo_syntax.specs.declared.place.Place.{Place}
 use Rattle.mo_flat.specs.declared.array.ArrayExpr.{ArrayExpr}
 use Rattle.mo_flat.specs.declared.model.FlatEquation.{FlatEquation}
-use Rattle.mo_scope.specs.Outcome.{Outcome, and_then}
 use Rattle.mo_scope.specs.Frames.{Scope}
 use Rattle.mo_typing.specs.Outcome.{each}
 use Rattle.mo_arrays.specs.Equations.{equations_of}

@@ -3,6 +3,7 @@
 -- Each equation gives scalar equations, asserts and connects, or breaks a rule. Forms that are left out are refused before their parts are
 -- read.
 use Rattle.std.specs.Prelude.{ℕ, ℤ, Bool, true, false, ◌&&◌, not, List, [], ◌∷◌, Option, Some, None, Ok, if◌then◌else◌}
+use Rattle.mo_syntax.specs.Outcome.{Outcome, and_then, breaks}
 use Rattle.mo_syntax.specs.declared.equation.EquationKind.{EquationKind, EquationKind-F, fold-EquationKind}
 use Rattle.mo_syntax.specs.declared.equation.EquationOf.{EquationOf}
 use Rattle.mo_syntax.specs.declared.expr.Args.{Args}
@@ -11,8 +12,8 @@ use Rattle.mo_syntax.specs.declared.expr.IndexOf.{IndexOf}
 use Rattle.mo_syntax.specs.declared.expr.ReferenceOf.{ReferenceOf}
 use Rattle.mo_syntax.specs.declared.place.Place.{Place}
 use Rattle.mo_flat.specs.declared.expr.FlatExpr.{FlatExpr}
-use Rattle.mo_scope.specs.Outcome.{Outcome, and_then, breaks}
 use Rattle.mo_scope.specs.Frames.{Scope}
+use Rattle.mo_syntax.specs.declared.rules.TheConstants.{OUTSIDE_PROFILE, CONNECT_UNDER_OPEN_CONDITION, WRONG_TYPE, CONDITION_NOT_BOOLEAN}
 use Rattle.mo_typing.specs.Dims.{Dims}
 use Rattle.mo_values.specs.declared.value.Scalar.TheVariants.{Truth}
 use Rattle.mo_values.specs.Scalars.{Known}
@@ -42,14 +43,14 @@ abbrev pub made_call : Tree → Place → Site → ReferenceOf Expr → Args →
 made_call tree place site called arguments =
     if is_assert called && not site.undecided then
     and_then (assert_of tree site.scope place (plain_values arguments)) (λ assert. Ok (made_assert assert))
-    else breaks 34 place
+    else breaks OUTSIDE_PROFILE place
 
 -- ---- connects
 
 -- A connect in an undecided branch breaks rule 36.
 abbrev pub made_connect : Tree → Place → Site → ReferenceOf Expr → ReferenceOf Expr → Outcome Made
 made_connect tree place site left right =
-    if site.undecided then breaks 36 place else
+    if site.undecided then breaks CONNECT_UNDER_OPEN_CONDITION place else
     and_then (connect_of tree site.scope place left right) (λ connects. Ok (made_connects connects))
 
 -- ---- what holds equations
@@ -69,7 +70,7 @@ with_iteration site name value =
 
 abbrev pub vector_size : Place → Dims → Outcome ℕ
 vector_size place (n ∷ []) = Ok n
-vector_size place dims = breaks 33 place
+vector_size place dims = breaks WRONG_TYPE place
 
 -- the numbers of a range: a vector of Integers that have values
 abbrev pub range_numbers : Tree → Scope → Expr → Outcome (List ℤ)
@@ -80,7 +81,7 @@ range_numbers tree scope e =
 
 -- an iteration variable without a range is left out
 abbrev pub numbers_of_index : Tree → Place → Scope → Option Expr → Outcome (List ℤ)
-numbers_of_index tree place scope None = breaks 34 place
+numbers_of_index tree place scope None = breaks OUTSIDE_PROFILE place
 numbers_of_index tree place scope (Some e) = range_numbers tree scope e
 
 -- The equations once for each number of the range; with several iteration variables the loop of the later ones is inside that of the
@@ -100,11 +101,11 @@ in_branch site = record { scope = site.scope; undecided = true }
 abbrev pub condition_known : Tree → Scope → Expr → Outcome Known
 condition_known tree scope e =
     and_then (resolved_for_value tree.classes most_references scope e)
-    (truth_of (reader (reading tree.classes most_references)) 40 (place_of e))
+    (truth_of (reader (reading tree.classes most_references)) CONDITION_NOT_BOOLEAN (place_of e))
 
 abbrev pub flat_condition : Tree → Scope → Expr → Outcome FlatExpr
 flat_condition tree scope e =
-    flat_at tree.classes most_references (replacing tree) (only_truth 40 (place_of e)) (only_scalar 40 (place_of e)) scope e []
+    flat_at tree.classes most_references (replacing tree) (only_truth CONDITION_NOT_BOOLEAN (place_of e)) (only_scalar CONDITION_NOT_BOOLEAN (place_of e)) scope e []
 
 -- a condition that no value decides, then the equations of its branch
 abbrev pub undecided_branch : Tree → Site → Expr × List (EquationOf Former) → Turning (FlatExpr × Made)
@@ -134,7 +135,7 @@ made_form tree (EquationKind-F.Equal left right) place site =
 made_form tree (EquationKind-F.If branches others) place site =
     turn_then (made_choice tree site branches others) (λ choice. turn_none (made_if place choice))
 made_form tree (EquationKind-F.For indices equations) place site = made_loop tree place indices (all_made equations) site
-made_form tree (EquationKind-F.When branches) place site = turn_none (breaks 34 place)
+made_form tree (EquationKind-F.When branches) place site = turn_none (breaks OUTSIDE_PROFILE place)
 made_form tree (EquationKind-F.Connect left right) place site = turn_none (made_connect tree place site left right)
 made_form tree (EquationKind-F.Call called arguments) place site = turn_none (made_call tree place site called arguments)
 

@@ -3,12 +3,13 @@
 -- First come the variables, leaf by leaf, with the equations of the bindings of unknowns; then the equations of each instance, those of its
 -- bases first, and of an instance before those of its parts. Initial equations and their asserts stand apart.
 use Rattle.std.specs.Prelude.{ℕ, Bool, true, false, List, [], ◌++◌, map, flat_map, Option, Some, None, Ok}
+use Rattle.mo_syntax.specs.Outcome.{Outcome, and_then, breaks}
 use Rattle.mo_syntax.specs.declared.place.Place.{Place}
 use Rattle.mo_flat.specs.declared.connect.Expanded.{Expanded}
-use Rattle.mo_scope.specs.Outcome.{Outcome, and_then, breaks}
 use Rattle.mo_scope.specs.Rows.{Table, Row, row_at}
 use Rattle.mo_scope.specs.Frames.{Frame, class_of}
 use Rattle.mo_scope.specs.Instances.{Instance}
+use Rattle.mo_syntax.specs.declared.rules.TheConstants.{OUTSIDE_PROFILE}
 use Rattle.mo_typing.specs.Outcome.{each}
 use Rattle.mo_eval.specs.Resolving.{dotted, path_of_class}
 use Rattle.mo_equations.specs.Leaves.{Tree, place_of_root, root_of}
@@ -60,7 +61,7 @@ abbrev pub made_placed : Tree → Placed → Turning Parts
 made_placed tree placed = made_by placed.section
   where
     made_by : Section → Turning Parts
-    made_by Left_out = turn_none (breaks 34 placed.name)
+    made_by Left_out = turn_none (breaks OUTSIDE_PROFILE placed.name)
     made_by (Equations initial equations) =
         turn_then (made_section tree (record { frame = placed.frame; iterations = [] }) equations) (λ made.
         turn_none (Ok (parts_of initial made)))

@@ -1,11 +1,12 @@
 -- What comes of equations, gathered in their order, and how many turns of loops are taken (Modelica Language Specification 3.5, sections
 -- 8.2 and 8.3).
 use Rattle.std.specs.Prelude.{ℕ, ◌+◌, List, [], ◌∷◌, ◌++◌, Ok, if◌then◌else◌, nat_lt}
+use Rattle.mo_syntax.specs.Outcome.{Outcome, and_then, breaks}
 use Rattle.mo_syntax.specs.declared.place.Place.{Place}
 use Rattle.mo_flat.specs.declared.connect.Connect.{Connect}
 use Rattle.mo_flat.specs.declared.model.FlatAssert.{FlatAssert}
 use Rattle.mo_flat.specs.declared.model.FlatEquation.{FlatEquation}
-use Rattle.mo_scope.specs.Outcome.{Outcome, and_then, breaks}
+use Rattle.mo_syntax.specs.declared.rules.TheConstants.{FLAT_MODEL_TOO_LARGE}
 
 -- ---- what equations give
 
@@ -52,7 +53,7 @@ most_turns = 4000000
 
 -- One more turn; where there are too many, rule 41 is broken at the name of the asked class.
 abbrev pub one_turn : {A : Type 0} → Place → Turning A → Turning A
-one_turn asked turn turns = if nat_lt turns most_turns then turn (turns + 1) else breaks 41 asked
+one_turn asked turn turns = if nat_lt turns most_turns then turn (turns + 1) else breaks FLAT_MODEL_TOO_LARGE asked
 
 -- what each makes in turn
 abbrev pub turn_each : {A B : Type 0} → (A → Turning B) → List A → Turning (List B)

@@ -1,12 +1,13 @@
 -- The branches of an if-equation that no value decides (Modelica Language Specification 3.5, section 8.3.4).
 use Rattle.std.specs.Prelude.{pos, Bool, true, false, List, [], ◌∷◌, map, length, Ok, if◌then◌else◌, nat_eq}
 use Rattle.std.specs.List.{list_all}
+use Rattle.mo_syntax.specs.Outcome.{Outcome, breaks}
 use Rattle.mo_syntax.specs.declared.place.Place.{Place}
 use Rattle.mo_flat.specs.declared.expr.FlatExpr.{FlatExpr}
 use Rattle.mo_flat.specs.declared.expr.FlatExpr as flat
 use Rattle.mo_flat.specs.declared.model.FlatEquation.{FlatEquation}
-use Rattle.mo_scope.specs.Outcome.{Outcome, breaks}
 use Rattle.mo_equations.specs.Gathering.{Made, made_equations}
+use Rattle.mo_syntax.specs.declared.rules.TheConstants.{BRANCH_COUNTS_DIFFER}
 
 -- What is left of the branches of an if-equation: each with its condition, and the last one.
 abbrev pub Choice : Type 0
@@ -43,4 +44,4 @@ made_if place ([], other) = Ok other
 made_if place (branch ∷ branches, other) =
     if have_equal_counts (branch ∷ branches) other then
     Ok (made_equations (map (joined_equation place) (joined_branches (branch ∷ branches) other)))
-    else breaks 35 place
+    else breaks BRANCH_COUNTS_DIFFER place

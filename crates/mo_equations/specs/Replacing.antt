@@ -3,15 +3,16 @@
 -- An element of an instance is a variable. A constant that is found through a class has no instance: its value stands in its place, or
 -- the expression of its binding where no value is known.
 use Rattle.std.specs.Prelude.{ℕ, zero, suc, ◌-◌, Bool, List, Option, Some, None, Ok, if◌then◌else◌, slice_get}
+use Rattle.mo_syntax.specs.Outcome.{Outcome, and_then, breaks}
 use Rattle.mo_syntax.specs.declared.expr.Expr.{Expr}
 use Rattle.mo_syntax.specs.declared.meaning.Kind.{Kind}
 use Rattle.mo_flat.specs.declared.expr.FlatExpr.{FlatExpr, FlatExpr-F, fold-FlatExpr}
 use Rattle.mo_flat.specs.declared.expr.FlatExpr as flat
-use Rattle.mo_scope.specs.Outcome.{Outcome, and_then, breaks}
 use Rattle.mo_scope.specs.Rows.{Table}
 use Rattle.mo_scope.specs.Frames.{Indexed, Scope, at_of}
 use Rattle.mo_scope.specs.Names.{path_below}
 use Rattle.mo_scope.specs.Instances.{Chosen}
+use Rattle.mo_syntax.specs.declared.rules.TheConstants.{OUTSIDE_PROFILE, NO_VALUE, REFERENCE_CHAIN_TOO_LONG}
 use Rattle.mo_typing.specs.Outcome.{each}
 use Rattle.mo_typing.specs.Dims.{Dims}
 use Rattle.mo_typing.specs.Kinds.{accepts}
@@ -89,7 +90,7 @@ with_variables variable = fold-FlatExpr (Outcome FlatExpr) (replaced_node variab
 -- by its value.
 abbrev pub of_virtual : Replacing → Virtual → Outcome FlatExpr
 of_virtual replace (Component_element element) = replace element
-of_virtual replace (Division place function a b) = breaks 34 place
+of_virtual replace (Division place function a b) = breaks OUTSIDE_PROFILE place
 
 abbrev pub of_variable : Replacing → List Virtual → ℕ → Outcome FlatExpr
 of_variable replace virtuals n = of_option (slice_get virtuals (n - 1))
@@ -127,7 +128,7 @@ constant_by table left replace element = value_or table expression known
     known = if has_values element.kind then value_of_element table left element else Ok None
 
     expression_of : Option Chosen → Outcome FlatExpr
-    expression_of None = breaks 28 element.place
+    expression_of None = breaks NO_VALUE element.place
     expression_of (Some binding) =
         flat_chosen table left replace element.kind (fitted (place_of binding.value) binding.pending) binding
 
@@ -144,7 +145,7 @@ standing number replace element = standing_at (path_below (at_of element.member.
 
 -- A constant is read by a reference: where no more may be read, one within the other, rule 29 is broken there.
 unfoldable pub constant : Table → (Indexed → ℕ) → ℕ → Replacing
-constant table number zero element = breaks 29 element.place
+constant table number zero element = breaks REFERENCE_CHAIN_TOO_LONG element.place
 constant table number (suc left) element = constant_by table left (standing number (constant table number left)) element
 
 -- what stands for the elements that are named by an expression with so many references left

@@ -1,5 +1,6 @@
 -- The sections of the classes of an instance (Modelica Language Specification 3.5, sections 4.5, 7.1, 8.2 and 12.9).
 use Rattle.std.specs.Prelude.{Bool, List, [], ◌∷◌, ◌++◌, map, flat_map, Ok, if◌then◌else◌}
+use Rattle.mo_syntax.specs.Outcome.{Outcome, and_then}
 use Rattle.mo_syntax.specs.declared.class.Body.{Body, Body-F, out-Body}
 use Rattle.mo_syntax.specs.declared.class.Element.{Element}
 use Rattle.mo_syntax.specs.declared.class.Give.{Give}
@@ -7,7 +8,6 @@ use Rattle.mo_syntax.specs.declared.class.Item.{Item, Item-F, out-Item}
 use Rattle.mo_syntax.specs.declared.class.What.{What}
 use Rattle.mo_syntax.specs.declared.equation.EquationKind.{EquationKind}
 use Rattle.mo_syntax.specs.declared.equation.EquationOf.{EquationOf}
-use Rattle.mo_scope.specs.Outcome.{Outcome, and_then}
 use Rattle.mo_scope.specs.Rows.{Table, Row, items_in}
 use Rattle.mo_scope.specs.Frames.{Frame}
 use Rattle.mo_scope.specs.Lookup.{final_frame}

@@ -2,6 +2,7 @@
 --
 -- Leaf by leaf the attributes that are given come in their order, then the binding. The binding of an unknown is an equation.
 use Rattle.std.specs.Prelude.{ℕ, ◌-◌, Bool, true, false, ◌&&◌, List, [], ◌∷◌, drop, length, Option, Some, None, Ok, if◌then◌else◌, nat_eq}
+use Rattle.mo_syntax.specs.Outcome.{Outcome, and_then, breaks}
 use Rattle.mo_syntax.specs.declared.meaning.Kind.{Kind}
 use Rattle.mo_syntax.specs.declared.meaning.Kind.TheVariants.{Real, Whole, Truth, Str, Enumeration}
 use Rattle.mo_syntax.specs.declared.meaning.Role.{Role}
@@ -11,9 +12,9 @@ use Rattle.mo_flat.specs.declared.expr.FlatExpr.{FlatExpr}
 use Rattle.mo_flat.specs.declared.expr.FlatExpr as flat
 use Rattle.mo_flat.specs.declared.model.FlatEquation.{FlatEquation}
 use Rattle.mo_flat.specs.declared.model.FlatVar.{FlatVar}
-use Rattle.mo_scope.specs.Outcome.{Outcome, and_then, breaks}
 use Rattle.mo_scope.specs.Rows.{Table}
 use Rattle.mo_scope.specs.Instances.{Chosen}
+use Rattle.mo_syntax.specs.declared.rules.TheConstants.{WRONG_EACH, WRONG_SIZE, WRONG_TYPE}
 use Rattle.mo_typing.specs.Outcome.{each}
 use Rattle.mo_typing.specs.Dims.{Dims, are_equal}
 use Rattle.mo_typing.specs.Kinds.{accepts, is_among}
@@ -63,9 +64,9 @@ pending_sizes tree variable chosen = drop (length sizes - length chosen.pending)
 -- An expression has these sizes: a scalar breaks rule 23 where there are some, another number of dimensions rule 33, another size
 -- rule 31.
 abbrev pub fits_sizes : Place → Dims → Dims → Checked
-fits_sizes place (size ∷ sizes) [] = breaks 23 place
+fits_sizes place (size ∷ sizes) [] = breaks WRONG_EACH place
 fits_sizes place sizes dims =
-    if nat_eq (length sizes) (length dims) then (if are_equal sizes dims then fine else breaks 31 place) else breaks 33 place
+    if nat_eq (length sizes) (length dims) then (if are_equal sizes dims then fine else breaks WRONG_SIZE place) else breaks WRONG_TYPE place
 
 abbrev pub fits_leaf : Tree → Variable → Chosen → Dims → Checked
 fits_leaf tree variable chosen dims = fits_sizes (place_of chosen.value) (pending_sizes tree variable chosen) dims

@@ -14,10 +14,11 @@ use crate::flat::Flat;
 use crate::layers::{Fit, Layers, Want};
 use crate::made::Made;
 use crate::standing::{Asked, flat_at};
-use crate::stops::stop;
 use mo_eval::MOST_REFERENCES;
 use mo_scope::{ScopeAt, Scopes};
-use mo_syntax::{Arg, Args, ClassId, Expr, Kind, List, NoMemory, Place, Reference, Stop};
+use mo_syntax::{
+    Arg, Args, ClassId, Expr, Kind, List, NoMemory, Place, Reference, Stop, rules, stop,
+};
 use std::alloc::Global;
 
 /// Whether a call is an assert, by its name alone.
@@ -150,15 +151,15 @@ pub(crate) fn assert_of<'i, 't>(
     ensures exact { GivesAssert result (assert_by (tree_in s.old desk.old.leaves) (scope_in (frames_of s.old) at.now.frame.0 at.now.iters) place (plain_values arguments.now)) }
 {
     let Some(values) = plain(alloc, arguments)? else {
-        return Err(stop(34, place));
+        return Err(stop(rules::OUTSIDE_PROFILE, place));
     };
     match values.as_slice() {
         [condition, message] => { assert_with(alloc, s, desk, at, *condition, *message, None) }
         [condition, message, level] => {
             assert_with(alloc, s, desk, at, *condition, *message, Some(*level))
         }
-        [] => Err(stop(34, place)),
-        [_] => Err(stop(34, place)),
-        [_, _, _, _, ..] => Err(stop(34, place)),
+        [] => Err(stop(rules::OUTSIDE_PROFILE, place)),
+        [_] => Err(stop(rules::OUTSIDE_PROFILE, place)),
+        [_, _, _, _, ..] => Err(stop(rules::OUTSIDE_PROFILE, place)),
     }
 }

@@ -1,10 +1,10 @@
 //! What replaces the variables of an expression, and the expression in which they are replaced.
 ghost use Rattle.std.specs.Prelude.{◌≡◌, ℕ, ◌<◌, IsTrue, Ok, IfOk, OnOk, length, slice_set};
 ghost use Rattle.mo_flat.specs.declared.expr.FlatExpr.{FlatExpr as Expression};
-ghost use Rattle.mo_scope.specs.Outcome.{Outcome};
 ghost use Rattle.mo_equations.specs.Replacing.{with_variables};
 ghost use Rattle.mo_equations.specs.steps.Flats.{IsFlat};
 ghost use Rattle.mo_equations.specs.steps.Standing.{AreAsked, AreReplaced, IsPlaceAsked, unasked};
+ghost use Rattle.mo_syntax.specs.Outcome.{Outcome};
 
 use crate::counting::weight;
 use crate::filling::filled;

@@ -9,7 +9,8 @@ ghost use Rattle.mo_scope.specs.Outcome.{Gives as GivesSeen};
 ghost use Rattle.mo_scope.specs.Places.{Every};
 ghost use Rattle.mo_scope.specs.Worlds.{Grows, IsFrame, frames_of, scope_in, table_in};
 ghost use Rattle.mo_names.specs.Sights.{IsMember, member_of};
-ghost use Rattle.mo_typing.specs.Outcome.{Gives, and_then, each};
+ghost use Rattle.mo_syntax.specs.Outcome.{and_then};
+ghost use Rattle.mo_typing.specs.Outcome.{Gives, each};
 ghost use Rattle.mo_typing.specs.Subscripts.{subscripts as subscripts_within};
 ghost use Rattle.mo_eval.specs.Ends.{first_identifier};
 ghost use Rattle.mo_eval.specs.References.{last_of as last_among};
@@ -24,13 +25,14 @@ use crate::desk::Desk;
 use crate::leaves::{Leaves, is_connector_class, is_joined_leaf};
 use crate::paths::{Step, text_of_path};
 use crate::standing::{copied_step, path_of_element};
-use crate::stops::stop;
 use crate::table::same_step;
 use mo_eval::{Ended, Selected};
 use mo_flat::{ArrayExpr, ArrayNode, Connect, End, EndLeaf, Side, Subscript};
 use mo_names::{Found, Reached, child_of_member, enter_component, find_declared, find_element};
 use mo_scope::{Member, ScopeAt, Scopes, Sort, copied};
-use mo_syntax::{Boxed, InstancePath, Kind, List, NoMemory, Part, Place, Reference, Stop, pushed};
+use mo_syntax::{
+    Boxed, InstancePath, Kind, List, NoMemory, Part, Place, Reference, Stop, pushed, rules, stop,
+};
 use mo_typing::subscripts;
 use std::alloc::Global;
 
@@ -204,7 +206,7 @@ fn component_only<'t>(member: Member<'t>, place: Place) -> Result<Member<'t>, St
         Sort::Class {
             number: _,
             encapsulated: _,
-        } => Err(stop(12, place)),
+        } => Err(stop(rules::NAME_NOT_FOUND, place)),
         Sort::Component(_) => Ok(member),
     }
 }
@@ -224,8 +226,8 @@ fn declared_behind<'t>(
     let frame = enter_component(alloc, s, member, &[])?;
     match find_element(alloc, s, frame, &part.name, part.place) {
         Ok(Reached::Element(next)) => component_only(next, part.place),
-        Ok(Reached::Other(_)) => Err(stop(12, part.place)),
-        Ok(Reached::Absent) => Err(stop(12, part.place)),
+        Ok(Reached::Other(_)) => Err(stop(rules::NAME_NOT_FOUND, part.place)),
+        Ok(Reached::Absent) => Err(stop(rules::NAME_NOT_FOUND, part.place)),
         Err(stop) => Err(stop),
     }
 }
@@ -236,11 +238,11 @@ fn component_found<'t>(found: Found<'t>, place: Place) -> Result<Member<'t>, Sto
 {
     match found {
         Found::Component(_, member) => Ok(member),
-        Found::Class(_, _) => Err(stop(12, place)),
-        Found::Literal(_, _) => Err(stop(12, place)),
-        Found::Iteration(_) => Err(stop(12, place)),
-        Found::Function(_) => Err(stop(12, place)),
-        Found::Time => Err(stop(12, place)),
+        Found::Class(_, _) => Err(stop(rules::NAME_NOT_FOUND, place)),
+        Found::Literal(_, _) => Err(stop(rules::NAME_NOT_FOUND, place)),
+        Found::Iteration(_) => Err(stop(rules::NAME_NOT_FOUND, place)),
+        Found::Function(_) => Err(stop(rules::NAME_NOT_FOUND, place)),
+        Found::Time => Err(stop(rules::NAME_NOT_FOUND, place)),
     }
 }
 

@@ -1,7 +1,7 @@
 //! Expressions whose variables are replaced.
 ghost use Rattle.std.specs.Prelude.{◌≡◌, IfOk};
 ghost use Rattle.mo_flat.specs.declared.expr.FlatExpr.TheVariants as flat;
-ghost use Rattle.mo_scope.specs.Outcome.{and_then};
+ghost use Rattle.mo_syntax.specs.Outcome.{and_then};
 ghost use Rattle.mo_typing.specs.Outcome.{each};
 ghost use Rattle.mo_equations.specs.Replacing.{with_variables};
 ghost use Rattle.mo_equations.specs.steps.Filling.{branch_with, built_at, signed_with};

@@ -3,7 +3,9 @@
 
 ghost use Rattle.std.specs.Prelude.{◌≡◌, ◌+◌, ◌<◌, ◌≤◌, ◌∷◌, [], IfErr, IfOk, OnOk};
 ghost use Rattle.mo_scope.specs.Worlds.{IsFrame, frames_of, scope_in};
-ghost use Rattle.mo_typing.specs.Outcome.{Gives, IfBroken, breach};
+ghost use Rattle.mo_syntax.specs.Outcome.{IfBroken, breach};
+ghost use Rattle.mo_syntax.specs.declared.rules.TheConstants.{FLAT_MODEL_TOO_LARGE};
+ghost use Rattle.mo_typing.specs.Outcome.{Gives};
 ghost use Rattle.mo_equations.specs.Equations.{condition_known as known_of_condition, flat_condition as flat_of_condition, made_call, made_connect, made_kind, made_loop};
 ghost use Rattle.mo_equations.specs.Gathering.{made_connects, most_turns};
 ghost use Rattle.mo_equations.specs.steps.Desks.{Goes, IsDesk, Stays, tree_in};
@@ -22,13 +24,13 @@ use crate::layers::{Fit, Layers, Want};
 use crate::limits::MOST_TURNS;
 use crate::made::Made;
 use crate::standing::{Asked, flat_at};
-use crate::stops::stop;
 use crate::values::{Numbers, known_at, numbers_of_index};
 use mo_eval::{MOST_REFERENCES, Scalar};
 use mo_flat::Connect;
 use mo_scope::{ScopeAt, Scopes};
 use mo_syntax::{
     Args, Equation, EquationKind, Expr, Index, List, NoMemory, Place, Reference, Stop, Text, both,
+    rules, stop,
 };
 use std::alloc::Global;
 
@@ -63,7 +65,7 @@ fn call<'i, 't>(
     ensures exact { Answers IsMade result (made_call (tree_in s.old desk.old.leaves) place (site_in (frames_of s.old) site.now) called.now arguments.now) }
 {
     if !is_assert(called) || site.undecided {
-        return Err(stop(34, place));
+        return Err(stop(rules::OUTSIDE_PROFILE, place));
     }
     assert_of(alloc, s, desk, site.at, place, arguments)
 }
@@ -84,7 +86,7 @@ fn connect<'i, 't>(
     ensures exact { Answers IsMade result (made_connect (tree_in s.old desk.old.leaves) place (site_in (frames_of s.old) site.now) left.now right.now) }
 {
     if site.undecided {
-        return Err(stop(36, place));
+        return Err(stop(rules::CONNECT_UNDER_OPEN_CONDITION, place));
     }
     let connect = connect_of(alloc, s, desk, site.at, place, left, right)?;
     match connect {
@@ -129,10 +131,10 @@ fn with_iteration(alloc: Global, at: &ScopeAt, name: &Text, value: i64) -> Resul
 fn turn<'i, 't>(desk: &mut Desk<'i, 't>) -> Result<(), Stop>
     ensures taken { OnOk result ((desk.old.turns < most_turns) × (desk.new ≡ record desk.old { turns = desk.old.turns + 1 })) }
     ensures kept { IfErr result (λ _. desk.new ≡ desk.old) }
-    ensures refused { IfBroken result (λ broken. (most_turns ≤ desk.old.turns) × (broken ≡ breach 41 desk.old.asked)) }
+    ensures refused { IfBroken result (λ broken. (most_turns ≤ desk.old.turns) × (broken ≡ breach FLAT_MODEL_TOO_LARGE desk.old.asked)) }
 {
     if desk.turns >= MOST_TURNS {
-        return Err(stop(41, desk.asked));
+        return Err(stop(rules::FLAT_MODEL_TOO_LARGE, desk.asked));
     }
     desk.turns += 1;
     Ok(())
@@ -242,7 +244,7 @@ fn made_equation<'i, 't>(
             let (indices, body) = (indices.as_slice(), body.as_slice());
             looped(alloc, s, desk, site, place, indices, body)
         }
-        EquationKind::When(_) => Err(stop(34, place)),
+        EquationKind::When(_) => Err(stop(rules::OUTSIDE_PROFILE, place)),
         EquationKind::Connect(left, right) => connect(alloc, s, desk, site, place, left, right),
         EquationKind::Call(called, arguments) => {
             call(alloc, s, desk, site, place, called, arguments)

@@ -7,9 +7,8 @@ ghost use Rattle.mo_equations.specs.steps.Flats.{capped, is_past_nodes};
 
 use crate::flat::{Flat, is_past};
 use crate::made::Made;
-use crate::stops::stop;
 use mo_flat::{FlatEquation, FlatExpr};
-use mo_syntax::{Boxed, List, NoMemory, Place, Stop, both, pair};
+use mo_syntax::{Boxed, List, NoMemory, Place, Stop, both, pair, rules, stop};
 use std::alloc::Global;
 
 /// A branch with its condition.
@@ -176,7 +175,7 @@ pub(crate) fn made_if(alloc: Global, place: Place, choice: Choice) -> Result<Mad
         return Err(Stop::NoMemory);
     }
     if !have_equal_counts(choice.branches.as_slice(), &choice.other) {
-        return Err(stop(35, place));
+        return Err(stop(rules::BRANCH_COUNTS_DIFFER, place));
     }
     let nodes = nodes_of_joined(choice.branches.as_slice(), &choice.other);
     let equations = kept_equations(alloc, place, &choice, nodes)?;

@@ -10,8 +10,7 @@ ghost use Rattle.mo_equations.specs.steps.Layers.{HasRule, fit_of, wanted_of};
 use crate::stops::answer;
 use mo_eval::fitted;
 use mo_flat::ArrayExpr;
-use mo_syntax::{Broken, Kind, Place, Stop};
-use mo_typing::agree::broken;
+use mo_syntax::{Broken, Kind, Place, Stop, broken, rules};
 use mo_typing::shapes::is_scalar;
 use mo_typing::{accepts, dims_of, kind_of, subscripts};
 use std::alloc::Global;
@@ -51,10 +50,10 @@ fn wanted(want: Want, place: Place, got: Kind) -> Result<(), Broken>
         Want::Accepted(kind) => accepts(kind, got, place),
         Want::Condition => match got {
             Kind::Truth => Ok(()),
-            Kind::Real => Err(broken(40, place)),
-            Kind::Whole => Err(broken(40, place)),
-            Kind::Str => Err(broken(40, place)),
-            Kind::Enumeration(_) => Err(broken(40, place)),
+            Kind::Real => Err(broken(rules::CONDITION_NOT_BOOLEAN, place)),
+            Kind::Whole => Err(broken(rules::CONDITION_NOT_BOOLEAN, place)),
+            Kind::Str => Err(broken(rules::CONDITION_NOT_BOOLEAN, place)),
+            Kind::Enumeration(_) => Err(broken(rules::CONDITION_NOT_BOOLEAN, place)),
         },
     }
 }
@@ -79,16 +78,16 @@ fn fits_sizes(place: Place, sizes: &[u32], dims: &[u32]) -> Result<(), Broken>
         return if sizes.is_empty() {
             Ok(())
         } else {
-            Err(broken(23, place))
+            Err(broken(rules::WRONG_EACH, place))
         };
     }
     if sizes.len() != dims.len() {
-        return Err(broken(33, place));
+        return Err(broken(rules::WRONG_TYPE, place));
     }
     if are_equal(sizes, dims) {
         Ok(())
     } else {
-        Err(broken(31, place))
+        Err(broken(rules::WRONG_SIZE, place))
     }
 }
 
@@ -132,10 +131,10 @@ fn only_whole(place: Place, kind: Kind) -> Result<(), Broken>
 {
     match kind {
         Kind::Whole => Ok(()),
-        Kind::Real => Err(broken(33, place)),
-        Kind::Truth => Err(broken(33, place)),
-        Kind::Str => Err(broken(33, place)),
-        Kind::Enumeration(_) => Err(broken(33, place)),
+        Kind::Real => Err(broken(rules::WRONG_TYPE, place)),
+        Kind::Truth => Err(broken(rules::WRONG_TYPE, place)),
+        Kind::Str => Err(broken(rules::WRONG_TYPE, place)),
+        Kind::Enumeration(_) => Err(broken(rules::WRONG_TYPE, place)),
     }
 }
 
@@ -143,9 +142,9 @@ fn vector_size(place: Place, dims: &[u32]) -> Result<u32, Broken>
     ensures { result ≡ size_of_vector place dims.now }
 {
     match dims {
-        [] => Err(broken(33, place)),
+        [] => Err(broken(rules::WRONG_TYPE, place)),
         [n] => Ok(*n),
-        [_, _, ..] => Err(broken(33, place)),
+        [_, _, ..] => Err(broken(rules::WRONG_TYPE, place)),
     }
 }
 

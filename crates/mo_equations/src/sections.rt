@@ -2,13 +2,13 @@
 #![tactic(auto, using(crate::proofs::Staying::staying))]
 
 ghost use Rattle.std.specs.Prelude.{◌≡◌, ◌++◌, [], List as Seq, flat_map, map, option_copied, option_map, Ok, Err, IfOk, OnOk};
+ghost use Rattle.mo_syntax.specs.Outcome.{IfBroken};
 ghost use Rattle.mo_syntax.specs.declared.meaning.FrameId.{FrameId as FrameNumber};
 ghost use Rattle.mo_scope.specs.Places.{Every};
 ghost use Rattle.mo_scope.specs.Rows.{row_at};
 ghost use Rattle.mo_scope.specs.Frames.{class_of};
 ghost use Rattle.mo_scope.specs.Trees.{IsInstance, instances_in};
 ghost use Rattle.mo_scope.specs.Worlds.{Grows, IsFrame, frame_at, frames_of, table_in};
-ghost use Rattle.mo_typing.specs.Outcome.{IfBroken};
 ghost use Rattle.mo_equations.specs.Expansion.{Parts as PartsOf, made_placed, sections_at};
 ghost use Rattle.mo_equations.specs.Sections.{frames_of as frames_with_sections};
 ghost use Rattle.mo_equations.specs.Gathering.{Made as Gathered, turn_each};
@@ -19,10 +19,9 @@ ghost use Rattle.mo_equations.specs.steps.Placing.{AreFrames, AreParts, GivesPar
 use crate::desk::Desk;
 use crate::forms::{Site, made_section};
 use crate::made::Made;
-use crate::stops::stop;
 use mo_names::walk_of;
 use mo_scope::{Instance, ScopeAt, Scopes};
-use mo_syntax::{Body, ClassDef, Equation, FrameId, Item, List, NoMemory, Stop};
+use mo_syntax::{Body, ClassDef, Equation, FrameId, Item, List, NoMemory, Stop, rules, stop};
 use std::alloc::Global;
 
 /// What comes of initial sections, and of the others with all connects.
@@ -184,7 +183,7 @@ fn put_item<'i, 't>(
             let equations = equations.as_slice();
             put_equations(alloc, s, desk, placed, *initial, equations, parts)
         }
-        Item::Algorithm(_, _) => Err(stop(34, placed.class.place)),
+        Item::Algorithm(_, _) => Err(stop(rules::OUTSIDE_PROFILE, placed.class.place)),
         Item::Import(_) | Item::Extends(_) | Item::Member(_) => Ok(()),
     }
 }
@@ -230,7 +229,7 @@ fn put_class<'i, 't>(
         } => {
             put_items(alloc, s, desk, placed, items.as_slice(), parts)?;
             if *external {
-                return Err(stop(34, placed.class.place));
+                return Err(stop(rules::OUTSIDE_PROFILE, placed.class.place));
             }
             Ok(())
         }

@@ -11,7 +11,8 @@ ghost use Rattle.mo_scope.specs.Worlds.{IsFrame, frame_at, frames_of, scope_in, 
 ghost use Rattle.mo_names.specs.Sights.{IsMember};
 ghost use Rattle.mo_eval.specs.Seen.{AreThere, element_seen, resolved_seen, virtual_seen, virtuals_seen};
 ghost use Rattle.mo_equations.specs.Replacing.{constant as constant_by_left, constant_by as constant_by_reader, flat_at as flat_of_expression, flat_element as element_of_resolved, flat_value as expression_of_value, of_variable, of_virtual as virtual_by, standing as standing_by, with_variables};
-ghost use Rattle.mo_typing.specs.Outcome.{Gives, IfBroken, Outcome};
+ghost use Rattle.mo_syntax.specs.Outcome.{IfBroken};
+ghost use Rattle.mo_typing.specs.Outcome.{Gives};
 ghost use Rattle.mo_values.specs.Scalars.{has_values as kind_has_values};
 ghost use Rattle.mo_equations.specs.Leaves.{number_of};
 ghost use Rattle.mo_equations.specs.steps.Desks.{IsDesk, Stays, replacing_in, tree_in};
@@ -25,13 +26,12 @@ use crate::counting::variables_of;
 use crate::desk::Desk;
 use crate::flat::Flat;
 use crate::layers::{Fit, Layers, Want, layered};
-use crate::stops::stop;
 use mo_arrays::element_at;
 use mo_eval::{Element, Resolved, Scalar, Virtual, literal_text};
 use mo_flat::FlatExpr;
 use mo_names::child_of_member;
 use mo_scope::{Member, ScopeAt, Scopes, copied, pick_here};
-use mo_syntax::{Expr, InstancePath, Kind, List, NoMemory, Stop, Text, pushed};
+use mo_syntax::{Expr, InstancePath, Kind, List, NoMemory, Stop, Text, pushed, rules, stop};
 use std::alloc::Global;
 
 /// An expression in a scope where so many references may still be read, the index at which it is taken, and what is wanted of it.
@@ -223,7 +223,7 @@ fn of_virtual<'i, 't>(
             function: _,
             left: _,
             right: _,
-        } => Err(stop(34, *place)),
+        } => Err(stop(rules::OUTSIDE_PROFILE, *place)),
     }
 }
 
@@ -262,7 +262,7 @@ fn constant<'i, 't>(
     ensures exact { Answers IsFlat result (constant_by_left (table_in s.old) (number_of (tree_in s.old desk.old.leaves)) left (element_seen (frames_of s.old) element.now)) }
 {
     if left == 0 {
-        return Err(stop(29, element.place));
+        return Err(stop(rules::REFERENCE_CHAIN_TOO_LONG, element.place));
     }
     if let Some(flat) = kept_constant(alloc, s, desk, left, element)? {
         return Ok(flat);
@@ -328,7 +328,7 @@ fn constant_expression<'i, 't>(
 {
     let child = child_of_member(alloc, s, &element.member, element.index.as_slice())?;
     match pick_here(child.sources.as_slice()) {
-        None => Err(stop(28, element.place)),
+        None => Err(stop(rules::NO_VALUE, element.place)),
         Some(binding) => {
             let asked = Asked {
                 left,

@@ -16,12 +16,11 @@ ghost use Rattle.mo_equations.specs.steps.Ranges.{GivesNumbers, known_so, number
 use crate::desk::Desk;
 use crate::layers::{layered, range_size};
 use crate::standing::Asked;
-use crate::stops::{answer, stop};
+use crate::stops::answer;
 use mo_eval::{MOST_REFERENCES, Resolved, Scalar};
 use mo_flat::ArrayNode;
 use mo_scope::{ScopeAt, Scopes};
-use mo_syntax::{Broken, Expr, List, NoMemory, Place, Stop};
-use mo_typing::agree::broken;
+use mo_syntax::{Broken, Expr, List, NoMemory, Place, Stop, broken, rules, stop};
 use mo_typing::indexing::range_element;
 use std::alloc::Global;
 
@@ -101,9 +100,9 @@ fn must_be_whole(place: Place, known: Option<Scalar>) -> Result<i64, Broken>
 {
     match known {
         Some(Scalar::Whole(n)) => Ok(n),
-        Some(Scalar::Truth(_)) => Err(broken(28, place)),
-        Some(Scalar::Literal(_, _)) => Err(broken(28, place)),
-        None => Err(broken(28, place)),
+        Some(Scalar::Truth(_)) => Err(broken(rules::NO_VALUE, place)),
+        Some(Scalar::Literal(_, _)) => Err(broken(rules::NO_VALUE, place)),
+        None => Err(broken(rules::NO_VALUE, place)),
     }
 }
 
@@ -170,6 +169,6 @@ pub(crate) fn numbers_of_index<'i, 't>(
 {
     match range {
         Some(e) => range_numbers(alloc, s, desk, at, e),
-        None => Err(stop(34, place)),
+        None => Err(stop(rules::OUTSIDE_PROFILE, place)),
     }
 }

@@ -5,7 +5,8 @@ ghost use Rattle.std.specs.Prelude.{◌≡◌, ◌++◌, ◌∷◌, [], ℕ, Lis
 ghost use Rattle.mo_flat.specs.declared.expr.FlatExpr.{FlatExpr as Expression};
 ghost use Rattle.mo_scope.specs.Trees.{IsChosen, chosen_in};
 ghost use Rattle.mo_scope.specs.Worlds.{frames_of, table_in};
-ghost use Rattle.mo_typing.specs.Outcome.{Gives, IfBroken, each};
+ghost use Rattle.mo_syntax.specs.Outcome.{IfBroken};
+ghost use Rattle.mo_typing.specs.Outcome.{Gives, each};
 ghost use Rattle.mo_equations.specs.Gathering.{Made as Gathered, beside, made_equations};
 ghost use Rattle.mo_equations.specs.Leaves.{Tree as TreeOf, Variable as VariableOf, sizes_along as sizes_along_path};
 ghost use Rattle.mo_equations.specs.Variables.{Declared as DeclaredOne, all_declared as all_of_tree, declared as declared_one, declared_with, flat_attribute, flat_binding as binding_of_leaf, flat_of_leaf as expression_of_leaf, flat_option as option_of_leaf, pending_sizes as sizes_pending, variable_with};

@@ -2,6 +2,7 @@
 use Rattle.std.proofs.Common.{◌≡◌, ℕ, zero, suc, ◌+◌, ◌-◌, ◌<◌, ◌≤◌, List, [], ◌∷◌, ◌++◌, length, drop, take, get_or, Option, Result, Ok, Err, ap, sym, subst, ◌∙◌, option_map, arith}
 use Rattle.std.specs.Prelude.{IfSome}
 use Rattle.std.proofs.lemmas.List.{drop_all, drop_more, length-drop, take_all}
+use Rattle.mo_syntax.specs.Outcome.{Outcome, and_then}
 use Rattle.mo_syntax.specs.declared.expr.Expr.{Expr}
 use Rattle.mo_syntax.specs.declared.expr.PartOf.{PartOf}
 use Rattle.mo_syntax.specs.declared.place.Stop.{Stop}
@@ -12,7 +13,7 @@ use Rattle.mo_scope.specs.Places.{Every}
 use Rattle.mo_scope.specs.Worlds.{World, Grows, IsFrame, frames_of, table_in}
 use Rattle.mo_names.specs.Sights.{IsMember, member_of}
 use Rattle.mo_names.proofs.Later.{grows_trans, member_later, table_later}
-use Rattle.mo_typing.specs.Outcome.{Outcome, and_then, Gives}
+use Rattle.mo_typing.specs.Outcome.{Gives}
 use Rattle.mo_eval.specs.declared.names.Name.{Name}
 use Rattle.mo_eval.specs.declared.resolve.Site.{Site}
 use Rattle.mo_eval.specs.declared.selections.Selection.{Selection as SelectionAt}

@@ -1,6 +1,7 @@
 -- Functions of arrays by their arguments, one after another.
 use Rattle.std.proofs.Common.{◌≡◌, ℕ, ℤ, Bool, true, false, List, [], ◌∷◌, Option, Some, None, Ok, Err, refl, ap, sym, ◌∙◌}
 use Rattle.std.specs.Prelude.{◌&&◌, is_some, if◌then◌else◌}
+use Rattle.mo_syntax.specs.Outcome.{Outcome, and_then, breaks}
 use Rattle.mo_syntax.specs.declared.expr.Args.{Args, out-Args}
 use Rattle.mo_syntax.specs.declared.expr.CalleeOf.TheVariants.{Named, Der}
 use Rattle.mo_syntax.specs.declared.expr.ReferenceOf.{ReferenceOf}
@@ -13,9 +14,10 @@ use Rattle.mo_scope.specs.Rows.{Table}
 use Rattle.mo_scope.specs.Frames.{Scope}
 use Rattle.mo_scope.specs.Sizes.{is_nothing}
 use Rattle.mo_scope.specs.Worlds.{World}
+use Rattle.mo_syntax.specs.declared.rules.TheConstants.{WRONG_TYPE, OUTSIDE_PROFILE}
 use Rattle.mo_tables.specs.declared.functions.TheConstants.{FILL}
 use Rattle.mo_flat.specs.declared.array.ArrayNode.TheVariants.{Sized}
-use Rattle.mo_typing.specs.Outcome.{Outcome, and_then, breaks, Gives}
+use Rattle.mo_typing.specs.Outcome.{Gives}
 use Rattle.mo_values.specs.declared.context.Context.{Context}
 use Rattle.mo_eval.specs.declared.virtuals.Virtual.{Virtual as VirtualAt}
 use Rattle.mo_values.specs.Scalars.{Known}
@@ -51,14 +53,14 @@ number_more_halts world no_memory virtuals read context place number (x ∷ xs) 
 
 pub number_more : (read : Element → Outcome Known) (context : Context) (place : Place) (number : Part) (parts : List Part) {other : Part} {others : List Part} (before after : List Virtual) (n : Place × ℤ) (made : List ArrayExpr) →
     parts ≡ other ∷ others → read_size read context number ≡ Ok n → make_arguments context parts before ≡ Ok (made, after) →
-    number_of_size read context place (number ∷ parts) before ≡ breaks 33 place
+    number_of_size read context place (number ∷ parts) before ≡ breaks WRONG_TYPE place
 number_more read context place number [] {other} {others} before after n made is h k = absurd (let clash : ◌≡◌ {A = List Part} [] (other ∷ others) = is in cc)
 number_more read context place number (x ∷ xs) before after n made is h k = rw (h, k) refl
 
 -- ---- `ndims`
 
 pub no_lone : (context : Context) (place : Place) (parts : List Part) (before : List Virtual) → is_lone parts ≡ false →
-    made_ndims context place parts before ≡ and_then {B = ArrayNode × List Virtual} (make_arguments context parts before) (λ made. breaks 33 place)
+    made_ndims context place parts before ≡ and_then {B = ArrayNode × List Virtual} (make_arguments context parts before) (λ made. breaks WRONG_TYPE place)
 no_lone context place [] before e = refl
 no_lone context place (part ∷ []) before e = absurd (cc)
 no_lone context place (part ∷ other ∷ others) before e = refl
@@ -71,13 +73,13 @@ pub fill_by : (read : Element → Outcome Known) (context : Context) (place : Pl
 fill_by read context place filling sizes before = first (filling.1 (operand context) before)
   where
     second : (made : ArrayExpr × List Virtual) (o : Outcome (List (Place × ℤ))) →
-        and_then {B = ArrayNode × List Virtual} (and_then {B = List (Place × ℤ) × List Virtual} o (λ numbers. Ok (numbers, made.1))) (λ numbers. (if is_nothing numbers.0 then make_from {A = ArrayNode} (breaks 33 place) else make (Sized FILL (Some made.0) numbers.0)) numbers.1)
+        and_then {B = ArrayNode × List Virtual} (and_then {B = List (Place × ℤ) × List Virtual} o (λ numbers. Ok (numbers, made.1))) (λ numbers. (if is_nothing numbers.0 then make_from {A = ArrayNode} (breaks WRONG_TYPE place) else make (Sized FILL (Some made.0) numbers.0)) numbers.1)
         ≡ and_then o (λ numbers. and_then (filled_with place made.0 numbers) (λ node. Ok (node, made.1)))
     second made (Ok []) = refl
     second made (Ok (n ∷ ns)) = refl
     second made (Err broken) = refl
 
-    first : (o : Outcome (ArrayExpr × List Virtual)) → and_then {B = ArrayNode × List Virtual} o (λ made. and_then (and_then {B = List (Place × ℤ) × List Virtual} (read_sizes read context sizes) (λ numbers. Ok (numbers, made.1))) (λ numbers. (if is_nothing numbers.0 then make_from {A = ArrayNode} (breaks 33 place) else make (Sized FILL (Some made.0) numbers.0)) numbers.1))
+    first : (o : Outcome (ArrayExpr × List Virtual)) → and_then {B = ArrayNode × List Virtual} o (λ made. and_then (and_then {B = List (Place × ℤ) × List Virtual} (read_sizes read context sizes) (λ numbers. Ok (numbers, made.1))) (λ numbers. (if is_nothing numbers.0 then make_from {A = ArrayNode} (breaks WRONG_TYPE place) else make (Sized FILL (Some made.0) numbers.0)) numbers.1))
         ≡ and_then o (λ made. and_then (read_sizes read context sizes) (λ numbers. and_then (filled_with place made.0 numbers) (λ node. Ok (node, made.1))))
     first (Ok made) = second made (read_sizes read context sizes)
     first (Err broken) = refl
@@ -114,7 +116,7 @@ read_halts world no_memory virtuals told f h = record { is = tt }
 
 module _ (table : Table) (scope : Scope) (read : Element → Outcome Known) (context : Context) (place : Place) (reference : ReferenceOf Part) (function : ℕ) where
   pub called_partly : (arguments : Option (List Part)) (before : List Virtual) → function_named table scope place reference ≡ Ok function → arguments ≡ None →
-      made_call table scope read context place (Named reference) arguments before ≡ breaks 34 place
+      made_call table scope read context place (Named reference) arguments before ≡ breaks OUTSIDE_PROFILE place
   called_partly arguments before h k = rw (h, k) refl
 
   pub called_plain : (arguments : Option (List Part)) (parts : List Part) (before : List Virtual) → function_named table scope place reference ≡ Ok function → arguments ≡ Some parts →
@@ -122,7 +124,7 @@ module _ (table : Table) (scope : Scope) (read : Element → Outcome Known) (con
   called_plain arguments parts before h k = rw (h, k) refl
 
 pub derived_partly : (table : Table) (scope : Scope) (read : Element → Outcome Known) (context : Context) (place : Place) (arguments : Option (List Part)) (before : List Virtual) → arguments ≡ None →
-    made_call table scope read context place Der arguments before ≡ breaks 34 place
+    made_call table scope read context place Der arguments before ≡ breaks OUTSIDE_PROFILE place
 derived_partly table scope read context place arguments before k = rw k refl
 
 pub derived_plain : (table : Table) (scope : Scope) (read : Element → Outcome Known) (context : Context) (place : Place) (arguments : Option (List Part)) (parts : List Part) (before : List Virtual) → arguments ≡ Some parts →

@@ -2,6 +2,7 @@
 use Rattle.std.proofs.Common.{◌≡◌, ℕ, zero, suc, ◌+◌, ◌-◌, ◌<◌, Bool, true, false, List, [], ◌∷◌, ◌++◌, map, take, drop, length, get_or, Option, Some, None, Result, Ok, Err, refl, ap, sym, subst, append_assoc, ◌∙◌, arith}
 use Rattle.std.specs.Prelude.{◌&&◌, ◌↔◌, IsTrue, not, is_some, if◌then◌else◌}
 use Rattle.std.specs.List.{list_all}
+use Rattle.mo_syntax.specs.Outcome.{Outcome, and_then}
 use Rattle.mo_syntax.specs.declared.expr.Arg.{Arg}
 use Rattle.mo_syntax.specs.declared.expr.Arg.TheVariants.{Value, Partial}
 use Rattle.mo_syntax.specs.declared.expr.Args.{Args, out-Args}
@@ -14,7 +15,7 @@ use Rattle.mo_typing.specs.Outcome as typed
 use Rattle.mo_scope.specs.Frames.{Scope}
 use Rattle.mo_syntax.specs.declared.place.Stop.{Stop}
 use Rattle.mo_syntax.specs.declared.place.Stop.TheVariants.{Broken as broken_by, NoMemory as no_memory}
-use Rattle.mo_scope.specs.Outcome.{Outcome, and_then, Gives as GivesSeen}
+use Rattle.mo_scope.specs.Outcome.{Gives as GivesSeen}
 use Rattle.mo_scope.specs.Lookup.{Found, Component, Class, Literal, Iteration, Function, Time, asking_of, found_first}
 use Rattle.mo_scope.specs.Names.{behind_found, found_behind, found_reference, taken}
 use Rattle.mo_scope.specs.Sizes.{is_nothing}

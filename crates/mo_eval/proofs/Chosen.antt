@@ -2,6 +2,7 @@
 use Rattle.std.proofs.Common.{◌≡◌, ℕ, zero, suc, ◌+◌, ◌<◌, Bool, true, false, List, [], ◌∷◌, ◌++◌, length, drop, get_or, map, Option, Some, None, Result, Ok, Err, refl, ap, sym, subst, ◌∙◌, append_assoc, arith}
 use Rattle.std.specs.Prelude.{if◌then◌else◌, slice_get}
 use Rattle.std.proofs.lemmas.List.{append-nil}
+use Rattle.mo_syntax.specs.Outcome.{Outcome as Seen, and_then as then_seen, Outcome, and_then, breaks}
 use Rattle.mo_syntax.specs.declared.expr.PartOf.{PartOf}
 use Rattle.mo_syntax.specs.declared.place.Place.{Place}
 use Rattle.mo_syntax.specs.declared.place.Stop.{Stop}
@@ -9,12 +10,13 @@ use Rattle.mo_syntax.specs.declared.place.Stop.TheVariants.{Broken as broken_by,
 use Rattle.mo_scope.specs.Frames.{Frame, Member}
 use Rattle.mo_scope.specs.Lookup.{Found, Component, Class, Literal, Iteration, Function, Time, Reached, Element, Other, Absent, asking_of, reached}
 use Rattle.mo_scope.specs.Names.{Child, child_of_member, component_frame, stands_for}
-use Rattle.mo_scope.specs.Outcome.{Gives as GivesSeen, Outcome as Seen, and_then as then_seen}
+use Rattle.mo_scope.specs.Outcome.{Gives as GivesSeen}
 use Rattle.mo_scope.specs.Rows.{Table}
 use Rattle.mo_names.specs.Children.{component_entered}
+use Rattle.mo_syntax.specs.declared.rules.TheConstants.{WRONG_SIZE}
 use Rattle.mo_typing.specs.Dims.{Dims, are_equal}
 use Rattle.mo_typing.specs.Indices.{Index}
-use Rattle.mo_typing.specs.Outcome.{Outcome, and_then, breaks, each, Gives}
+use Rattle.mo_typing.specs.Outcome.{each, Gives}
 use Rattle.mo_typing.specs.Subscripts.{fine, subscripts}
 use Rattle.mo_values.specs.Scalars.{Known}
 use Rattle.mo_eval.specs.Virtuals.{Element as Element_of, Reading}
@@ -157,12 +159,12 @@ module _ (table : Table) (reading : Reading) (place : Place) (member : Member) w
 -- ---- whether an element agrees
 
 pub agrees_by : (reading : Reading) (place : Place) (selection : Selection) (member : Member) →
-    agrees reading place selection member ≡ and_then (dims_there reading selection.place member) (λ dims. if are_equal dims selection.dims then fine else breaks 31 place)
+    agrees reading place selection member ≡ and_then (dims_there reading selection.place member) (λ dims. if are_equal dims selection.dims then fine else breaks WRONG_SIZE place)
 agrees_by reading place selection member =
-    sym (then_then (there reading selection.place member) (λ _. reading.dims member) (λ dims. if are_equal dims selection.dims then fine else breaks 31 place))
+    sym (then_then (there reading selection.place member) (λ _. reading.dims member) (λ dims. if are_equal dims selection.dims then fine else breaks WRONG_SIZE place))
 
 pub dims_agree : (reading : Reading) (place : Place) (selection : Selection) (member : Member) (dims : Dims) (b : Bool) → dims_there reading selection.place member ≡ Ok dims → are_equal dims selection.dims ≡ b →
-    agrees reading place selection member ≡ (if b then fine else breaks 31 place)
+    agrees reading place selection member ≡ (if b then fine else breaks WRONG_SIZE place)
 dims_agree reading place selection member dims b is same = agrees_by reading place selection member ∙ rw (is, same) refl
 
 pub agrees_halts : (reading : Reading) (place : Place) (selection : Selection) (member : Member) (stop : Stop) → Gives {T = Dims} (Err stop) (dims_there reading selection.place member) →

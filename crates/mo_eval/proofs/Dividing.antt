@@ -2,6 +2,7 @@
 use Rattle.std.proofs.Common.{◌≡◌, ℕ, zero, suc, ◌+◌, ◌++◌, true, false, List, [], ◌∷◌, length, length-append, Option, Some, Ok, Err, refl, ap, sym, subst, ◌∙◌, arith}
 use Rattle.std.specs.Prelude.{slice_get}
 use Rattle.std.proofs.lemmas.List.{length-map, map-append}
+use Rattle.mo_syntax.specs.Outcome.{Outcome, and_then, breach, breaks}
 use Rattle.mo_syntax.specs.declared.meaning.Kind.TheVariants.{Whole as whole_kind}
 use Rattle.mo_syntax.specs.declared.place.Broken.{Broken}
 use Rattle.mo_syntax.specs.declared.place.Place.{Place}
@@ -12,7 +13,8 @@ use Rattle.mo_flat.specs.declared.array.ArrayNode.{ArrayNode}
 use Rattle.mo_flat.specs.declared.array.ArrayNode.TheVariants.{Vars}
 use Rattle.mo_scope.specs.Frames.{Frame}
 use Rattle.mo_scope.specs.Worlds.{World}
-use Rattle.mo_typing.specs.Outcome.{Gives, Outcome, and_then, breach, each, breaks}
+use Rattle.mo_syntax.specs.declared.rules.TheConstants.{WRONG_TYPE}
+use Rattle.mo_typing.specs.Outcome.{Gives, each}
 use Rattle.mo_values.specs.Scalars.{Known}
 use Rattle.mo_values.specs.declared.context.Context.{Context}
 use Rattle.mo_eval.specs.declared.virtuals.Element.{Element as ElementAt}
@@ -32,7 +34,7 @@ use Rattle.mo_eval.specs.steps.Dividing.{variable_of}
 
 -- what a call of other than two operands has
 pub none_known : (read : Element → Outcome Known) (place : Place) (function : ℕ) (operands : List ArrayExpr) (virtuals : List Virtual) → are_two operands ≡ false →
-    known_of_operands read place function operands virtuals ≡ breaks 33 place
+    known_of_operands read place function operands virtuals ≡ breaks WRONG_TYPE place
 none_known read place function [] virtuals e = refl
 none_known read place function (a ∷ []) virtuals e = refl
 none_known read place function (a ∷ b ∷ []) virtuals e = absurd (cc)
@@ -60,13 +62,13 @@ two_popped place function xs ys (z ∷ zs) a b counted h k =
     let longer = ap length k ∙ length-append (z ∷ zs) (a ∷ []) in
     absurd (omega arith)
 
-pub other_number : (place : Place) (function : ℕ) (operands : List ArrayExpr) → (length operands ≡ 2 → ⊥) → variable_of place function operands ≡ breaks 33 place
+pub other_number : (place : Place) (function : ℕ) (operands : List ArrayExpr) → (length operands ≡ 2 → ⊥) → variable_of place function operands ≡ breaks WRONG_TYPE place
 other_number place function [] other = refl
 other_number place function (x ∷ []) other = refl
 other_number place function (x ∷ y ∷ []) other = absurd (other refl)
 other_number place function (x ∷ y ∷ z ∷ more) other = refl
 
-same_breach : (place : Place) (broken : Broken) → ◌≡◌ {A = Outcome VirtualAt} (breaks 33 place) (Err broken) → breach 33 place ≡ broken
+same_breach : (place : Place) (broken : Broken) → ◌≡◌ {A = Outcome VirtualAt} (breaks WRONG_TYPE place) (Err broken) → breach WRONG_TYPE place ≡ broken
 same_breach place broken h = cc
 
 -- the variable of a call, by the one that is put
@@ -80,9 +82,9 @@ halt_put world no_memory virtuals place function operands before h = record { is
 
 pub put_variable : (frames : List Frame) (place : Place) (function : ℕ) (operands : List ArrayExpr) (it : VirtualAt) (virtuals : List VirtualAt) → variable_of place function operands ≡ Ok it →
     division_variable place function operands (virtuals_seen frames virtuals) ≡ Ok (Vars ((length virtuals + 1) ∷ []) whole_kind [] [], virtuals_seen frames (virtuals ++ it ∷ []))
-put_variable frames place function [] it virtuals h = absurd (let clash : ◌≡◌ {A = Outcome VirtualAt} (breaks 33 place) (Ok it) = h in cc)
-put_variable frames place function (a ∷ []) it virtuals h = absurd (let clash : ◌≡◌ {A = Outcome VirtualAt} (breaks 33 place) (Ok it) = h in cc)
-put_variable frames place function (a ∷ b ∷ c ∷ more) it virtuals h = absurd (let clash : ◌≡◌ {A = Outcome VirtualAt} (breaks 33 place) (Ok it) = h in cc)
+put_variable frames place function [] it virtuals h = absurd (let clash : ◌≡◌ {A = Outcome VirtualAt} (breaks WRONG_TYPE place) (Ok it) = h in cc)
+put_variable frames place function (a ∷ []) it virtuals h = absurd (let clash : ◌≡◌ {A = Outcome VirtualAt} (breaks WRONG_TYPE place) (Ok it) = h in cc)
+put_variable frames place function (a ∷ b ∷ c ∷ more) it virtuals h = absurd (let clash : ◌≡◌ {A = Outcome VirtualAt} (breaks WRONG_TYPE place) (Ok it) = h in cc)
 put_variable frames place function (a ∷ b ∷ []) it virtuals h =
     let same : division_at place function a b ≡ it = cc in
     ap (λ n. Ok (Vars ((n + 1) ∷ []) whole_kind [] [], virtuals_seen frames virtuals ++ Division place function a b ∷ [])) (length-map virtuals (virtual_seen frames))
@@ -98,9 +100,9 @@ same_component (virtual ∷ virtuals) place function a b (suc k) element h = sam
 
 pub there_more : (world : World) (virtuals : List VirtualAt) (place : Place) (function : ℕ) (operands : List ArrayExpr) (it : VirtualAt) → variable_of place function operands ≡ Ok it → AreThere world virtuals →
     AreThere world (virtuals ++ it ∷ [])
-there_more world virtuals place function [] it h are = absurd (let clash : ◌≡◌ {A = Outcome VirtualAt} (breaks 33 place) (Ok it) = h in cc)
-there_more world virtuals place function (a ∷ []) it h are = absurd (let clash : ◌≡◌ {A = Outcome VirtualAt} (breaks 33 place) (Ok it) = h in cc)
-there_more world virtuals place function (a ∷ b ∷ c ∷ more) it h are = absurd (let clash : ◌≡◌ {A = Outcome VirtualAt} (breaks 33 place) (Ok it) = h in cc)
+there_more world virtuals place function [] it h are = absurd (let clash : ◌≡◌ {A = Outcome VirtualAt} (breaks WRONG_TYPE place) (Ok it) = h in cc)
+there_more world virtuals place function (a ∷ []) it h are = absurd (let clash : ◌≡◌ {A = Outcome VirtualAt} (breaks WRONG_TYPE place) (Ok it) = h in cc)
+there_more world virtuals place function (a ∷ b ∷ c ∷ more) it h are = absurd (let clash : ◌≡◌ {A = Outcome VirtualAt} (breaks WRONG_TYPE place) (Ok it) = h in cc)
 there_more world virtuals place function (a ∷ b ∷ []) it h are =
     let same : division_at place function a b ≡ it = cc in
     subst (λ (one : VirtualAt). AreThere world (virtuals ++ one ∷ [])) same (record { each = λ k element at. are.each k element (same_component virtuals place function a b k element at) })

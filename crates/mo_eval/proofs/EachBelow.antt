@@ -1,6 +1,7 @@
 -- The elements that are selected below a component, index by index.
 use Rattle.std.proofs.Common.{◌≡◌, ℕ, ◌+◌, ◌-◌, ◌<◌, ◌≤◌, List, [], ◌∷◌, ◌++◌, length, drop, take, get_or, map, Ok, Err, refl, ap, sym, ◌∙◌, arith}
 use Rattle.std.proofs.lemmas.List.{append-nil, drop_all, drop_more, map-append}
+use Rattle.mo_syntax.specs.Outcome.{Outcome, and_then}
 use Rattle.mo_syntax.specs.declared.place.Place.{Place}
 use Rattle.mo_syntax.specs.declared.place.Stop.{Stop}
 use Rattle.mo_syntax.specs.declared.place.Stop.TheVariants.{Broken as broken_by, NoMemory as no_memory}
@@ -13,7 +14,7 @@ use Rattle.mo_scope.specs.Worlds.{World, Grows, frames_of, table_in}
 use Rattle.mo_names.specs.Sights.{IsMember, member_of}
 use Rattle.mo_names.proofs.Later.{grows_trans, table_later}
 use Rattle.mo_typing.specs.Indices.{Index}
-use Rattle.mo_typing.specs.Outcome.{Outcome, and_then, Gives}
+use Rattle.mo_typing.specs.Outcome.{Gives}
 use Rattle.mo_eval.specs.declared.selections.Selection.{Selection as SelectionAt}
 use Rattle.mo_eval.specs.Components.{reading_by}
 use Rattle.mo_eval.specs.Values.{reading}

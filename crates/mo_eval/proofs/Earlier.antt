@@ -1,6 +1,7 @@
 -- What is told in a later world is told in the earlier one.
 use Rattle.std.proofs.Common.{◌≡◌, ℕ, zero, suc, ◌+◌, ◌<◌, List, [], ◌∷◌, ◌++◌, length, get_or, map, Option, Some, None, Result, Ok, Err, refl, ap, sym, subst, ◌∙◌, option_map, arith}
 use Rattle.std.specs.Prelude.{IfSome}
+use Rattle.mo_syntax.specs.Outcome.{Outcome, and_then}
 use Rattle.mo_syntax.specs.declared.place.Stop.{Stop}
 use Rattle.mo_syntax.specs.declared.place.Stop.TheVariants.{Broken as broken_by, NoMemory as no_memory}
 use Rattle.mo_scope.specs.declared.row.Member.{Member as MemberAt}
@@ -12,7 +13,7 @@ use Rattle.mo_scope.specs.Worlds.{World, Grows, IsFrame, frame_at, frames_of, ta
 use Rattle.mo_names.specs.Sights.{IsMember, member_of}
 use Rattle.mo_names.proofs.Later.{frame_later, is_member_later, member_later, table_later}
 use Rattle.mo_typing.specs.Indices.{Index}
-use Rattle.mo_typing.specs.Outcome.{Outcome, and_then, Gives}
+use Rattle.mo_typing.specs.Outcome.{Gives}
 use Rattle.mo_eval.proofs.Written.{every_later}
 use Rattle.mo_eval.specs.steps.Selecting.{elements_seen}
 

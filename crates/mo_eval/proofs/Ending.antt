@@ -1,6 +1,7 @@
 -- What the components of an end select.
 use Rattle.std.proofs.Common.{◌≡◌, ℕ, ◌<◌, false, List, [], ◌∷◌, length, get_or, Some, Ok, Err, refl, ap, sym, subst, ◌∙◌, arith}
 use Rattle.std.specs.Prelude.{if◌then◌else◌, nat_eq}
+use Rattle.mo_syntax.specs.Outcome.{Outcome, and_then}
 use Rattle.mo_syntax.specs.declared.expr.Expr.{Expr}
 use Rattle.mo_syntax.specs.declared.expr.ReferenceOf.{ReferenceOf}
 use Rattle.mo_syntax.specs.declared.place.Broken.{Broken}
@@ -8,7 +9,7 @@ use Rattle.mo_syntax.specs.declared.place.Place.{Place}
 use Rattle.mo_syntax.specs.declared.place.Stop.{Stop}
 use Rattle.mo_syntax.specs.declared.place.Stop.TheVariants.{Broken as broken_by, NoMemory as no_memory}
 use Rattle.mo_scope.specs.Frames.{Frame, Member}
-use Rattle.mo_scope.specs.Outcome.{Gives as GivesSeen, Outcome, and_then}
+use Rattle.mo_scope.specs.Outcome.{Gives as GivesSeen}
 use Rattle.mo_scope.specs.Rows.{Table}
 use Rattle.mo_scope.specs.Worlds.{World, Grows, IsFrame, frames_of, table_in}
 use Rattle.mo_scope.specs.declared.row.Member.{Member as MemberAt}

@@ -2,6 +2,7 @@
 use Rattle.std.proofs.Common.{◌≡◌, ℕ, ℤ, Bool, ◌&&◌, List, [], ◌∷◌, map, Option, Some, None, refl, ap, sym, ◌∙◌}
 use Rattle.std.specs.Prelude.{if◌then◌else◌}
 use Rattle.std.specs.Option.{option_map}
+use Rattle.mo_syntax.specs.Outcome.{breaks}
 use Rattle.mo_syntax.specs.declared.expr.Arg.{Arg, Arg-F, para-Arg, para-roll-Arg}
 use Rattle.mo_syntax.specs.declared.expr.Arg.TheVariants.{Value, Partial, rolls-Value, rolls-Partial}
 use Rattle.mo_syntax.specs.declared.expr.Args.{Args, out-Args, roll-out-Args, para-Args, para-roll-Args}
@@ -22,8 +23,8 @@ use Rattle.mo_syntax.specs.declared.place.Place.{Place}
 use Rattle.mo_flat.specs.declared.array.ArrayExpr.{ArrayExpr}
 use Rattle.mo_scope.specs.Rows.{Table}
 use Rattle.mo_scope.specs.Frames.{Scope}
-use Rattle.mo_typing.specs.Outcome.{breaks}
 use Rattle.mo_eval.specs.Virtuals.{Ask, Making, make_from}
+use Rattle.mo_syntax.specs.declared.rules.TheConstants.{OUTSIDE_PROFILE}
 use Rattle.mo_values.specs.declared.context.Context.{Context}
 use Rattle.mo_eval.specs.Contexts.{Part}
 use Rattle.mo_eval.specs.steps.Parts.{Former, made_below, made_arguments, made_argument, as_part, as_term, as_factor, as_branch, as_identifier, as_reference, as_callee}
@@ -132,15 +133,15 @@ module _ (table : Table) (ask : Ask) (scope : Scope) where
   at_EndMark = ap (made_below table ask scope) (sym rolls-EndMark)
       ∙ para-roll-Node (Option Part) Former (Option (List Part)) (Context → Making ArrayExpr) argument_of (made_node table ask scope) arguments_of made_expr Node-F.EndMark
 
-  pub at_Tuple : (outputs : List (Option Expr)) (place : Place) (context : Context) → made_below table ask scope (Tuple outputs) place context ≡ make_from (breaks 34 place)
+  pub at_Tuple : (outputs : List (Option Expr)) (place : Place) (context : Context) → made_below table ask scope (Tuple outputs) place context ≡ make_from (breaks OUTSIDE_PROFILE place)
   at_Tuple outputs place context = ap (λ node. made_below table ask scope node place context) (sym (rolls-Tuple outputs))
       ∙ ap (λ (f : Former). f place context) (para-roll-Node (Option Part) Former (Option (List Part)) (Context → Making ArrayExpr) argument_of (made_node table ask scope) arguments_of made_expr (Node-F.Tuple outputs))
 
-  pub at_ArrayFor : (element : Expr) (iterators : List (IndexOf Expr)) (place : Place) (context : Context) → made_below table ask scope (ArrayFor element iterators) place context ≡ make_from (breaks 34 place)
+  pub at_ArrayFor : (element : Expr) (iterators : List (IndexOf Expr)) (place : Place) (context : Context) → made_below table ask scope (ArrayFor element iterators) place context ≡ make_from (breaks OUTSIDE_PROFILE place)
   at_ArrayFor element iterators place context = ap (λ node. made_below table ask scope node place context) (sym (rolls-ArrayFor element iterators))
       ∙ ap (λ (f : Former). f place context) (para-roll-Node (Option Part) Former (Option (List Part)) (Context → Making ArrayExpr) argument_of (made_node table ask scope) arguments_of made_expr (Node-F.ArrayFor element iterators))
 
-  pub at_Matrix : (rows : List (List Expr)) (place : Place) (context : Context) → made_below table ask scope (Matrix rows) place context ≡ make_from (breaks 34 place)
+  pub at_Matrix : (rows : List (List Expr)) (place : Place) (context : Context) → made_below table ask scope (Matrix rows) place context ≡ make_from (breaks OUTSIDE_PROFILE place)
   at_Matrix rows place context = ap (λ node. made_below table ask scope node place context) (sym (rolls-Matrix rows))
       ∙ ap (λ (f : Former). f place context) (para-roll-Node (Option Part) Former (Option (List Part)) (Context → Making ArrayExpr) argument_of (made_node table ask scope) arguments_of made_expr (Node-F.Matrix rows))
 

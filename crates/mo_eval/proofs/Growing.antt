@@ -1,5 +1,6 @@
 -- Frames that are only added leave what is resolved as it is.
 use Rattle.std.proofs.Common.{◌≡◌, ℕ, List, [], ◌∷◌, ◌++◌, map, Result, Ok, Err, subst, refl, ap, sym, ◌∙◌, append_assoc}
+use Rattle.mo_syntax.specs.Outcome.{Outcome, and_then}
 use Rattle.mo_syntax.specs.declared.expr.Expr.{Expr}
 use Rattle.mo_syntax.specs.declared.place.Broken.{Broken}
 use Rattle.mo_syntax.specs.declared.place.Stop.{Stop}
@@ -9,7 +10,7 @@ use Rattle.mo_scope.specs.Rows.{Table, table_of}
 use Rattle.mo_scope.specs.Frames.{Scope}
 use Rattle.mo_scope.specs.Worlds.{World, Grows, IsFrame, frames_of, table_in}
 use Rattle.mo_scope.proofs.Numbered.{frames_stay}
-use Rattle.mo_typing.specs.Outcome.{Outcome, and_then, Gives}
+use Rattle.mo_typing.specs.Outcome.{Gives}
 use Rattle.mo_values.specs.declared.context.Context.{Context}
 use Rattle.mo_eval.specs.declared.resolve.Site.{Site}
 use Rattle.mo_eval.specs.declared.virtuals.Virtual.{Virtual as VirtualAt}

@@ -1,11 +1,11 @@
 -- What is asked of an expression by its layers.
 use Rattle.std.proofs.Common.{◌≡◌, Ok, Err, refl}
+use Rattle.mo_syntax.specs.Outcome.{Outcome, and_then}
 use Rattle.mo_syntax.specs.declared.meaning.Kind.{Kind}
 use Rattle.mo_syntax.specs.declared.place.Place.{Place}
 use Rattle.mo_flat.specs.declared.array.ArrayExpr.{ArrayExpr}
 use Rattle.mo_typing.specs.Indices.{Index}
 use Rattle.mo_typing.specs.Kinds.{accepts}
-use Rattle.mo_typing.specs.Outcome.{Outcome, and_then}
 use Rattle.mo_typing.specs.Subscripts.{Checked}
 use Rattle.mo_values.specs.Asked.{fitted, layered}
 use Rattle.mo_eval.specs.Keeping.{IsLayered}

@@ -2,20 +2,22 @@
 use Rattle.std.proofs.Common.{◌≡◌, ℕ, zero, suc, ◌+◌, ◌<◌, ◌≤◌, List, [], ◌∷◌, ◌++◌, length, drop, get_or, map, Option, Some, None, Result, Ok, Err, refl, ap, sym, subst, ◌∙◌, append_assoc, length-append, add-one, arith}
 use Rattle.std.proofs.lemmas.List.{append-nil, drop_all, drop_more, length-map}
 use Rattle.std.proofs.lemmas.List.Sums.{sum_by-append}
+use Rattle.mo_syntax.specs.Outcome.{Outcome as Seen, and_then as then_seen, Outcome, and_then, breaks}
 use Rattle.mo_syntax.specs.declared.expr.Expr.{Expr}
 use Rattle.mo_syntax.specs.declared.place.Stop.{Stop}
 use Rattle.mo_syntax.specs.declared.place.Stop.TheVariants.{Broken as broken_by, NoMemory as no_memory}
 use Rattle.mo_scope.specs.Frames.{Frame, Iterations, Scope, Member}
 use Rattle.mo_scope.specs.Names.{Child, child_of_member}
-use Rattle.mo_scope.specs.Outcome.{Gives as GivesSeen, Outcome as Seen, and_then as then_seen}
+use Rattle.mo_scope.specs.Outcome.{Gives as GivesSeen}
 use Rattle.mo_scope.specs.Parts.{Picked, picked_here}
 use Rattle.mo_scope.specs.Rows.{Table}
 use Rattle.mo_scope.specs.Sizes.{Sizes, count_sizes, declared_sizes, type_sizes}
 use Rattle.mo_scope.specs.Worlds.{World, Grows, IsFrame, frames_of, scope_in, table_in}
 use Rattle.mo_names.specs.Sights.{IsMember, member_of}
 use Rattle.mo_names.proofs.Later.{frame_later, table_later}
+use Rattle.mo_syntax.specs.declared.rules.TheConstants.{NO_VALUE}
 use Rattle.mo_typing.specs.Dims.{Dims}
-use Rattle.mo_typing.specs.Outcome.{Outcome, and_then, breaks, Gives}
+use Rattle.mo_typing.specs.Outcome.{Gives}
 use Rattle.mo_eval.specs.declared.dimensions.Measured.{Measured}
 use Rattle.mo_eval.specs.Values.{reading}
 use Rattle.mo_eval.specs.Virtuals.{Ask}
@@ -162,7 +164,7 @@ module _ (table : Table) (ask : Ask) (member : Member) (count : ℕ) where
   binding_halts view (broken_by broken) h = rw h refl
   binding_halts view no_memory h = tt
 
-  pub no_binding : (child : Child) → child_of_member table member [] ≡ Ok child → picked_here child.sources ≡ None → binding_dims table ask member count ≡ breaks 28 member.declares.place
+  pub no_binding : (child : Child) → child_of_member table member [] ≡ Ok child → picked_here child.sources ≡ None → binding_dims table ask member count ≡ breaks NO_VALUE member.declares.place
   no_binding child h none = rw (h, none) refl
 
   pub dims_bound : (child : Child) (picked : Picked) → child_of_member table member [] ≡ Ok child → picked_here child.sources ≡ Some picked → binding_dims table ask member count ≡ dims_of_binding table ask count picked

@@ -3,6 +3,7 @@ use Rattle.std.proofs.Common.{◌≡◌, ℕ, ◌+◌, ◌<◌, drop, get_or, Bo
 use Rattle.std.specs.Prelude.{◌↔◌, IsTrue, if◌then◌else◌, nat_eq}
 use Rattle.std.specs.Option.{option_map}
 use Rattle.std.proofs.lemmas.List.{length-map, map-append}
+use Rattle.mo_syntax.specs.Outcome.{Outcome as Seen, and_then as then_seen, Outcome, and_then, breaks}
 use Rattle.mo_syntax.specs.declared.expr.Expr.{Expr}
 use Rattle.mo_syntax.specs.declared.expr.PartOf.{PartOf}
 use Rattle.mo_syntax.specs.declared.expr.ReferenceOf.{ReferenceOf}
@@ -12,7 +13,7 @@ use Rattle.mo_syntax.specs.declared.place.Stop.TheVariants.{Broken as broken_by,
 use Rattle.mo_scope.specs.Frames.{Frame, Scope, Member}
 use Rattle.mo_scope.specs.Lookup.{Found, Component, Class, Literal, Iteration, Function, Time, Met, asking_of}
 use Rattle.mo_scope.specs.Names.{behind_found, taken}
-use Rattle.mo_scope.specs.Outcome.{Gives as GivesSeen, Outcome as Seen, and_then as then_seen}
+use Rattle.mo_scope.specs.Outcome.{Gives as GivesSeen}
 use Rattle.mo_scope.specs.Places.{Every}
 use Rattle.mo_scope.specs.Rows.{Table}
 use Rattle.mo_scope.specs.Worlds.{World, Grows, IsFrame, frames_of, table_in}
@@ -21,7 +22,8 @@ use Rattle.mo_names.specs.Children.{first_found, next_found}
 use Rattle.mo_names.specs.Past.{first_met}
 use Rattle.mo_names.specs.Sights.{IsFound, IsMember, found_in, member_of}
 use Rattle.mo_names.proofs.Later.{found_later, is_member_later, member_later, table_later}
-use Rattle.mo_typing.specs.Outcome.{Outcome, and_then, breaks, Gives}
+use Rattle.mo_syntax.specs.declared.rules.TheConstants.{WRONG_TYPE}
+use Rattle.mo_typing.specs.Outcome.{Gives}
 use Rattle.mo_typing.proofs.Gathering.{opened}
 use Rattle.mo_eval.specs.declared.names.Name.{Name}
 use Rattle.mo_eval.specs.declared.resolve.Site.{Site}
@@ -59,7 +61,7 @@ some_counted table frame member f part b h e = go part.subs h
     go : (subs : List (Option Expr)) → IsTrue b ↔ (subs ≡ []) →
         counted_subscripts table (Component frame member) (record { name = part.name; place = part.place; subs = map (option_map f) subs }) ≡ counted_in table member (record { name = part.name; place = part.place; subs = subs })
     go [] h = absurd (let k = h.1 refl in cc)
-    go (x ∷ xs) h = ap (λ m. and_then (number_of_dims table member) (λ n. if nat_eq n m then Ok tt else breaks 33 part.place)) (length-map (x ∷ xs) (option_map f))
+    go (x ∷ xs) h = ap (λ m. and_then (number_of_dims table member) (λ n. if nat_eq n m then Ok tt else breaks WRONG_TYPE part.place)) (length-map (x ∷ xs) (option_map f))
 
 -- what is no component
 abbrev pub IsOther : Found → Type 0
@@ -67,11 +69,11 @@ IsOther (Component frame member) = ⊥
 IsOther found = Unit {0}
 
 pub other_counted : (table : Table) (found : Found) (f : Expr → Part) (part : PartOf Expr) (b : Bool) → IsOther found → IsTrue b ↔ (part.subs ≡ []) → b ≡ false →
-    counted_subscripts table found (as_identifier f part) ≡ breaks 33 part.place
+    counted_subscripts table found (as_identifier f part) ≡ breaks WRONG_TYPE part.place
 other_counted table found f part b other h e = go found other part.subs h
   where
     go : (found : Found) → IsOther found → (subs : List (Option Expr)) → IsTrue b ↔ (subs ≡ []) →
-        counted_subscripts table found (record { name = part.name; place = part.place; subs = map (option_map f) subs }) ≡ breaks 33 part.place
+        counted_subscripts table found (record { name = part.name; place = part.place; subs = map (option_map f) subs }) ≡ breaks WRONG_TYPE part.place
     go found other [] h = absurd (let k = h.1 refl in cc)
     go (Component frame member) other (x ∷ xs) h = absurd other
     go (Class frame replaceable) other (x ∷ xs) h = refl

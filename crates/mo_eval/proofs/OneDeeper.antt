@@ -2,7 +2,8 @@
 use Rattle.std.proofs.Common.{◌≡◌, ℕ, suc, Bool, true, false, None, Ok, refl}
 use Rattle.std.specs.Prelude.{◌||◌, if◌then◌else◌}
 use Rattle.mo_scope.specs.Rows.{Table}
-use Rattle.mo_typing.specs.Outcome.{Outcome, and_then, breaks}
+use Rattle.mo_syntax.specs.Outcome.{Outcome, and_then, breaks}
+use Rattle.mo_syntax.specs.declared.rules.TheConstants.{REFERENCE_CHAIN_TOO_LONG}
 use Rattle.mo_values.specs.Scalars.{Known, has_values}
 use Rattle.mo_eval.specs.Virtuals.{Element}
 use Rattle.mo_eval.specs.References.{is_replaced}
@@ -24,7 +25,7 @@ pub not_read : (table : Table) (left : ℕ) (element : Element) → (has_values 
 not_read table left element is = dropped (has_values element.kind) (is_replaced element) _ is
 
 -- one that is read where no more references may be read
-pub read_past : (table : Table) (left : ℕ) (element : Element) → (has_values element.kind || is_replaced element) ≡ true → left ≡ 0 → reader (reading table left) element ≡ breaks 29 element.place
+pub read_past : (table : Table) (left : ℕ) (element : Element) → (has_values element.kind || is_replaced element) ≡ true → left ≡ 0 → reader (reading table left) element ≡ breaks REFERENCE_CHAIN_TOO_LONG element.place
 unfolding reading
 read_past table left element is none = rw none (taken (has_values element.kind) (is_replaced element) _ is)
 

@@ -1,6 +1,7 @@
 -- What a reference makes, step by step.
 use Rattle.std.proofs.Common.{◌≡◌, ℕ, zero, suc, ◌+◌, ◌-◌, ◌<◌, Bool, List, [], ◌∷◌, ◌++◌, length, get_or, drop, map, Option, Some, Ok, Err, refl, ap, sym, ◌∙◌, rules, arith}
 use Rattle.std.specs.List.{list_any}
+use Rattle.mo_syntax.specs.Outcome.{Outcome, and_then, breaks}
 use Rattle.mo_syntax.specs.declared.expr.PartOf.{PartOf}
 use Rattle.mo_syntax.specs.declared.meaning.Kind.{Kind}
 use Rattle.mo_syntax.specs.declared.place.Place.{Place}
@@ -12,8 +13,9 @@ use Rattle.mo_scope.specs.Frames.{Frame, Member}
 use Rattle.mo_scope.specs.Outcome.{Gives as GivesSeen}
 use Rattle.mo_scope.specs.Rows.{Table, is_constant}
 use Rattle.mo_scope.specs.Worlds.{World}
+use Rattle.mo_syntax.specs.declared.rules.TheConstants.{REFERENCE_CHAIN_TOO_LONG}
 use Rattle.mo_typing.specs.Indices.{Index}
-use Rattle.mo_typing.specs.Outcome.{Outcome, and_then, breaks, Gives}
+use Rattle.mo_typing.specs.Outcome.{Gives}
 use Rattle.mo_values.specs.declared.context.Context.{Context}
 use Rattle.mo_eval.specs.declared.virtuals.Virtual.{Virtual as VirtualAt}
 use Rattle.mo_eval.specs.Contexts.{Part, read_element}
@@ -25,7 +27,7 @@ use Rattle.mo_eval.specs.Virtuals.{Ask, Reading, Virtual, numbers_behind}
 use Rattle.mo_eval.specs.steps.Selecting.{kind_of_elements}
 
 -- what may be read
-pub nothing_left : (table : Table) (left : ℕ) (place : Place) → left ≡ 0 → reading table left place ≡ breaks 29 place
+pub nothing_left : (table : Table) (left : ℕ) (place : Place) → left ≡ 0 → reading table left place ≡ breaks REFERENCE_CHAIN_TOO_LONG place
 unfolding reading
 nothing_left table zero place none = refl
 nothing_left table (suc left) place none = absurd (omega (arith, none))
@@ -55,7 +57,7 @@ module _ (table : Table) (ask : Ask) (context : Context) (place : Place) (first 
   abbrev pub is_fixed : Bool
   is_fixed = list_any (λ name. is_constant name.0.declares) (first ∷ others)
 
-  pub asking_breaks : ask place ≡ breaks 29 place → made_reference table ask context place first others before ≡ breaks 29 place
+  pub asking_breaks : ask place ≡ breaks REFERENCE_CHAIN_TOO_LONG place → made_reference table ask context place first others before ≡ breaks REFERENCE_CHAIN_TOO_LONG place
   asking_breaks h = rw h refl
 
   module _ (reading : Reading) (may : ask place ≡ Ok reading) where

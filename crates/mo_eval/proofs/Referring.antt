@@ -2,6 +2,7 @@
 use Rattle.std.proofs.Common.{◌≡◌, ℕ, zero, suc, ◌+◌, ◌-◌, ◌<◌, Bool, List, [], ◌∷◌, ◌++◌, length, get_or, drop, map, Option, Result, Some, Ok, Err, refl, ap, sym, subst, ◌∙◌, arith}
 use Rattle.std.specs.List.{list_any}
 use Rattle.std.proofs.lemmas.List.{length-map}
+use Rattle.mo_syntax.specs.Outcome.{Outcome, and_then, breaks}
 use Rattle.mo_syntax.specs.declared.expr.Expr.{Expr}
 use Rattle.mo_syntax.specs.declared.expr.PartOf.{PartOf}
 use Rattle.mo_syntax.specs.declared.expr.ReferenceOf.{ReferenceOf}
@@ -18,9 +19,10 @@ use Rattle.mo_scope.specs.declared.row.Member.{Member as MemberAt}
 use Rattle.mo_names.specs.Sights.{IsMember, found_in, member_of}
 use Rattle.mo_names.specs.declared.found.Found.{Found as FoundAt}
 use Rattle.mo_names.proofs.Later.{table_later}
+use Rattle.mo_syntax.specs.declared.rules.TheConstants.{REFERENCE_CHAIN_TOO_LONG}
 use Rattle.mo_typing.specs.Dims.{Dims}
 use Rattle.mo_typing.specs.Indices.{Index}
-use Rattle.mo_typing.specs.Outcome.{Outcome, Gives, and_then, breaks}
+use Rattle.mo_typing.specs.Outcome.{Gives}
 use Rattle.mo_eval.specs.declared.names.Name.{Name}
 use Rattle.mo_values.specs.declared.context.Context.{Context}
 use Rattle.mo_eval.specs.declared.references.Common.{Common}
@@ -67,7 +69,7 @@ module _ (w : World) (site : Site) (place : Place) (names : List Name) (first : 
   as_told =
       ap (λ ns. made_named (table_in w) (ask_of w site) site.context place (Components (names_seen (part_in w site) (frames_of w) ns)) before) (opened_names names first some is)
 
-  pub none_left : site.left ≡ 0 → told ≡ breaks 29 place
+  pub none_left : site.left ≡ 0 → told ≡ breaks REFERENCE_CHAIN_TOO_LONG place
   none_left none =
       as_told ∙ asking_breaks (table_in w) (ask_of w site) site.context place first_seen others_seen before (nothing_left (table_in w) site.left place none)
 
@@ -128,7 +130,7 @@ module _ (w : World) (site : Site) (place : Place) (names : List Name) (first : 
 
 -- no first name is read where nothing is left
 pub none_left_of : (w : World) (site : Site) (place : Place) (names : List Name) (before : List Virtual) → 0 < length names → site.left ≡ 0 →
-    made_named (table_in w) (ask_of w site) site.context place (Components (names_seen (part_in w site) (frames_of w) names)) before ≡ breaks 29 place
+    made_named (table_in w) (ask_of w site) site.context place (Components (names_seen (part_in w site) (frames_of w) names)) before ≡ breaks REFERENCE_CHAIN_TOO_LONG place
 none_left_of w site place [] before some none = absurd (omega arith)
 none_left_of w site place (x ∷ xs) before some none = none_left w site place (x ∷ xs) x before some refl none
 

@@ -2,6 +2,7 @@
 use Rattle.std.proofs.Common.{◌≡◌, ℕ, zero, suc, Bool, true, false, List, [], ◌∷◌, ◌++◌, Option, Some, None, Ok, Err, refl, ap, sym, subst, ◌∙◌}
 use Rattle.std.specs.Prelude.{IfSome, slice_get}
 use Rattle.std.proofs.Math.ListN.{set}
+use Rattle.mo_syntax.specs.Outcome.{Outcome, breaks}
 use Rattle.mo_syntax.specs.declared.meaning.Kind.{Kind}
 use Rattle.mo_syntax.specs.declared.place.Place.{Place}
 use Rattle.mo_scope.specs.Frames.{Frame, Member}
@@ -13,8 +14,8 @@ use Rattle.mo_scope.specs.Sights.{declares_seen}
 use Rattle.mo_scope.specs.Worlds.{World, frame_in, frames_of, table_in}
 use Rattle.mo_scope.specs.declared.row.Member.{Member as MemberAt}
 use Rattle.mo_names.specs.Sights.{IsMember, member_of}
+use Rattle.mo_syntax.specs.declared.rules.TheConstants.{NO_VALUE}
 use Rattle.mo_typing.specs.Indices.{Index}
-use Rattle.mo_typing.specs.Outcome.{Outcome, breaks}
 use Rattle.mo_eval.specs.Components.{binding_of}
 use Rattle.mo_eval.specs.Keeping.{IsBinding, IsBindingKept, bound_seen}
 use Rattle.mo_eval.specs.References.{is_replaced}
@@ -75,7 +76,7 @@ pub value_anywhere : (table : Table) (left : ℕ) (member : Member) (index : Ind
 value_anywhere table left member index kind constant p q known h = go (child_of_member table member index) refl
   where
     replaced : (b : Bool) → is_replaced (element_with member index kind constant p) ≡ b → unbound (element_with member index kind constant p) ≡ Ok known → unbound (element_with member index kind constant q) ≡ Ok known
-    replaced true e k = absurd (let clash : ◌≡◌ {A = Outcome Known} (breaks 28 p) (Ok known) = (rw e at k) in cc)
+    replaced true e k = absurd (let clash : ◌≡◌ {A = Outcome Known} (breaks NO_VALUE p) (Ok known) = (rw e at k) in cc)
     replaced false e k = rw e (rw e at k)
 
     among : (child : Child) (o : Option Picked) → child_of_member table member index ≡ Ok child → picked_here child.sources ≡ o →

@@ -1,12 +1,13 @@
 -- What is asked of a component, for an expression and for an end of a connect.
 use Rattle.std.proofs.Common.{◌≡◌, Bool, true, false, Result, Ok, Err, refl, sym, subst}
 use Rattle.std.specs.Prelude.{IfOk}
+use Rattle.mo_syntax.specs.Outcome.{Outcome}
 use Rattle.mo_syntax.specs.declared.place.Place.{Place}
 use Rattle.mo_syntax.specs.declared.place.Stop.{Stop}
 use Rattle.mo_syntax.specs.declared.place.Stop.TheVariants.{Broken as broken_by, NoMemory as no_memory}
 use Rattle.mo_scope.specs.Frames.{Member}
 use Rattle.mo_scope.specs.Outcome.{Gives as GivesSeen}
-use Rattle.mo_typing.specs.Outcome.{Outcome, Gives}
+use Rattle.mo_typing.specs.Outcome.{Gives}
 use Rattle.mo_eval.specs.declared.absent.Absent.{Absent}
 use Rattle.mo_eval.specs.References.{there}
 use Rattle.mo_eval.specs.Virtuals.{Reading}

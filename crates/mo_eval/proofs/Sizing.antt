@@ -1,5 +1,6 @@
 -- `size` by the array and what stands behind it.
 use Rattle.std.proofs.Common.{◌≡◌, ℤ, List, [], ◌∷◌, Option, Some, None, Ok, Err, refl, ap, ◌∙◌}
+use Rattle.mo_syntax.specs.Outcome.{Outcome, and_then, breaks}
 use Rattle.mo_syntax.specs.declared.place.Place.{Place}
 use Rattle.mo_flat.specs.declared.array.ArrayExpr.{ArrayExpr}
 use Rattle.mo_flat.specs.declared.array.ArrayNode.{ArrayNode}
@@ -9,7 +10,7 @@ use Rattle.mo_scope.specs.Frames.{Scope}
 use Rattle.mo_scope.specs.Worlds.{World, Grows, IsFrame, frames_of, table_in}
 use Rattle.mo_scope.proofs.Numbered.{frames_stay}
 use Rattle.mo_syntax.specs.declared.expr.Arg.{Arg}
-use Rattle.mo_typing.specs.Outcome.{Outcome, and_then, breaks}
+use Rattle.mo_syntax.specs.declared.rules.TheConstants.{WRONG_TYPE}
 use Rattle.mo_values.specs.declared.context.Context.{Context}
 use Rattle.mo_eval.specs.declared.resolve.Site.{Site}
 use Rattle.mo_values.specs.Scalars.{Known}
@@ -39,14 +40,14 @@ size_by read context place array (n ∷ []) before = then_same (array.1 (argumen
 size_by read context place array (n ∷ m ∷ others) before = then_same (array.1 (argument_of_size context) before) _ _ (λ a. many a (read_size read context n))
   where
     rest : (a : ArrayExpr × List Virtual) (o : Outcome (List ArrayExpr × List Virtual)) →
-        and_then {B = ArrayNode × List Virtual} o (λ made. Err (record { rule = 33; place = place }))
-        ≡ and_then (and_then {B = Option (Place × ℤ) × List Virtual} o (λ made. Err (record { rule = 33; place = place }))) (λ n. Ok (Size a.0 n.0, n.1))
+        and_then {B = ArrayNode × List Virtual} o (λ made. Err (record { rule = WRONG_TYPE; place = place }))
+        ≡ and_then (and_then {B = Option (Place × ℤ) × List Virtual} o (λ made. Err (record { rule = WRONG_TYPE; place = place }))) (λ n. Ok (Size a.0 n.0, n.1))
     rest a (Ok made) = refl
     rest a (Err broken) = refl
 
     many : (a : ArrayExpr × List Virtual) (o : Outcome (Place × ℤ)) →
-        and_then {B = ArrayNode × List Virtual} (and_then {B = (Place × ℤ) × List Virtual} o (λ v. Ok (v, a.1))) (λ v. and_then (make_arguments context (m ∷ others) v.1) (λ made. Err (record { rule = 33; place = place })))
-        ≡ and_then (and_then {B = Option (Place × ℤ) × List Virtual} (and_then {B = (Place × ℤ) × List Virtual} o (λ v. Ok (v, a.1))) (λ v. and_then (make_arguments context (m ∷ others) v.1) (λ made. Err (record { rule = 33; place = place })))) (λ n. Ok (Size a.0 n.0, n.1))
+        and_then {B = ArrayNode × List Virtual} (and_then {B = (Place × ℤ) × List Virtual} o (λ v. Ok (v, a.1))) (λ v. and_then (make_arguments context (m ∷ others) v.1) (λ made. Err (record { rule = WRONG_TYPE; place = place })))
+        ≡ and_then (and_then {B = Option (Place × ℤ) × List Virtual} (and_then {B = (Place × ℤ) × List Virtual} o (λ v. Ok (v, a.1))) (λ v. and_then (make_arguments context (m ∷ others) v.1) (λ made. Err (record { rule = WRONG_TYPE; place = place })))) (λ n. Ok (Size a.0 n.0, n.1))
     many a (Ok v) = rest a (make_arguments context (m ∷ others) a.1)
     many a (Err broken) = refl
 

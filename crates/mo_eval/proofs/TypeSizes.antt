@@ -3,11 +3,11 @@ use Rattle.std.proofs.Common.{◌≡◌, ℕ, zero, suc, ◌+◌, ◌-◌, ◌<�
 use Rattle.std.specs.Prelude.{if◌then◌else◌, slice_get}
 use Rattle.std.proofs.lemmas.List.{take_more, map-append}
 use Rattle.std.proofs.lemmas.Grind.{flat_map-append}
+use Rattle.mo_syntax.specs.Outcome.{Outcome}
 use Rattle.mo_syntax.specs.declared.expr.Expr.{Expr}
 use Rattle.mo_scope.specs.declared.row.Part.{Part as PartAt}
 use Rattle.mo_scope.specs.Frames.{Frame, class_of}
 use Rattle.mo_scope.specs.Names.{base_frame_of, clauses_of, walk_of}
-use Rattle.mo_scope.specs.Outcome.{Outcome}
 use Rattle.mo_scope.specs.Rows.{Table, Row, row_at, Form, Short_class, Long_class, Enumeration_class, Other_class, Clause, Part, clauses_in}
 use Rattle.mo_scope.specs.Sights.{part_seen}
 use Rattle.mo_scope.specs.Sizes.{Sizes, first_base, is_leaf, leaf_base, sizes_by, sizes_from, sizes_if, sizes_of_base, sizes_of_form, sizes_of_short}

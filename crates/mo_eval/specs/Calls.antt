@@ -3,12 +3,14 @@
 -- The function is looked up first, then forms that are left out are refused, then the arguments are resolved.
 use Rattle.std.specs.Prelude.{ℕ, ℤ, Bool, not, List, [], ◌∷◌, map, length, Option, Some, None, Ok, if◌then◌else◌, nat_eq}
 use Rattle.std.specs.List.{list_all}
+use Rattle.mo_syntax.specs.Outcome.{Outcome, and_then, breaks}
 use Rattle.mo_syntax.specs.declared.expr.CalleeOf.{CalleeOf}
 use Rattle.mo_syntax.specs.declared.expr.CalleeOf.TheVariants.{Named, Der as der, Initial, Pure}
 use Rattle.mo_syntax.specs.declared.expr.ReferenceOf.{ReferenceOf}
 use Rattle.mo_syntax.specs.declared.expr.PartOf.{PartOf}
 use Rattle.mo_syntax.specs.declared.meaning.Kind.TheVariants.{Whole as whole_kind}
 use Rattle.mo_syntax.specs.declared.place.Place.{Place}
+use Rattle.mo_syntax.specs.declared.rules.TheConstants.{OUTSIDE_PROFILE, WRONG_KIND_OF_NAME, WRONG_TYPE}
 use Rattle.mo_tables.specs.declared.functions.TheConstants.{DIV, FILL, IDENTITY, MOD, NDIMS, ONES, REM, SIZE, ZEROS}
 use Rattle.mo_flat.specs.declared.array.ArrayExpr.{ArrayExpr}
 use Rattle.mo_flat.specs.declared.array.ArrayNode.{ArrayNode}
@@ -18,7 +20,7 @@ use Rattle.mo_scope.specs.Frames.{Scope}
 use Rattle.mo_scope.specs.Lookup.{Found, Class, Function}
 use Rattle.mo_scope.specs.Names.{found_reference}
 use Rattle.mo_scope.specs.Sizes.{is_nothing}
-use Rattle.mo_typing.specs.Outcome.{Outcome, and_then, each, breaks}
+use Rattle.mo_typing.specs.Outcome.{each}
 use Rattle.mo_typing.specs.Kinds.{is_among}
 use Rattle.mo_values.specs.Scalars.{Known, division}
 use Rattle.mo_eval.specs.Virtuals.{Element, Virtual, Division, Making, make, make_then, make_from, make_each, make_variables, known_at}
@@ -40,9 +42,9 @@ has_subscripts parts = not (list_all (λ part. is_nothing part.subs) parts)
 
 -- A class is a form that is left out, and so is a function with subscripts; what is neither breaks rule 13.
 abbrev pub function_found : Place → ReferenceOf Part → Found → Outcome ℕ
-function_found place reference (Function code) = if has_subscripts reference.parts then breaks 34 place else Ok code
-function_found place reference (Class frame replaceable) = breaks 34 place
-function_found place reference found = breaks 13 (last_identifier reference.parts)
+function_found place reference (Function code) = if has_subscripts reference.parts then breaks OUTSIDE_PROFILE place else Ok code
+function_found place reference (Class frame replaceable) = breaks OUTSIDE_PROFILE place
+function_found place reference found = breaks WRONG_KIND_OF_NAME (last_identifier reference.parts)
 
 abbrev pub function_named : Table → Scope → Place → ReferenceOf Part → Outcome ℕ
 function_named table scope place reference =
@@ -50,7 +52,7 @@ function_named table scope place reference =
 
 -- the arguments, where none has a name, is a function, or is iterated
 abbrev pub plain_arguments : Place → Option (List Part) → Outcome (List Part)
-plain_arguments place None = breaks 34 place
+plain_arguments place None = breaks OUTSIDE_PROFILE place
 plain_arguments place (Some arguments) = Ok arguments
 
 -- ---- arguments
@@ -71,7 +73,7 @@ read_sizes read context arguments = each (read_size read context) arguments
 
 -- `size(A)` and `size(A, i)`
 abbrev pub made_size : (Element → Outcome Known) → Context → Place → List Part → Making ArrayNode
-made_size read context place [] = make_from (breaks 33 place)
+made_size read context place [] = make_from (breaks WRONG_TYPE place)
 made_size read context place (array ∷ []) =
     make_then (array.1 (argument_of_size context)) (λ array. make (Size array None))
 made_size read context place (array ∷ number ∷ []) =
@@ -80,25 +82,25 @@ made_size read context place (array ∷ number ∷ []) =
 made_size read context place (array ∷ number ∷ others) =
     make_then (array.1 (argument_of_size context)) (λ array.
     make_then (make_from (read_size read context number)) (λ number.
-    make_then (make_arguments context others) (λ others. make_from (breaks 33 place))))
+    make_then (make_arguments context others) (λ others. make_from (breaks WRONG_TYPE place))))
 
 abbrev pub made_ndims : Context → Place → List Part → Making ArrayNode
 made_ndims context place (array ∷ []) =
     make_then (array.1 (argument_of_size context)) (λ array. make (Call NDIMS (array ∷ [])))
 made_ndims context place arguments =
-    make_then (make_arguments context arguments) (λ arguments. make_from (breaks 33 place))
+    make_then (make_arguments context arguments) (λ arguments. make_from (breaks WRONG_TYPE place))
 
 abbrev pub made_fill : (Element → Outcome Known) → Context → Place → List Part → Making ArrayNode
-made_fill read context place [] = make_from (breaks 33 place)
+made_fill read context place [] = make_from (breaks WRONG_TYPE place)
 made_fill read context place (filling ∷ sizes) =
     make_then (filling.1 (operand context)) (λ filling.
     make_then (make_from (read_sizes read context sizes)) (λ sizes.
-    if is_nothing sizes then make_from (breaks 33 place) else make (Sized FILL (Some filling) sizes)))
+    if is_nothing sizes then make_from (breaks WRONG_TYPE place) else make (Sized FILL (Some filling) sizes)))
 
 abbrev pub made_sized : (Element → Outcome Known) → Context → Place → ℕ → List Part → Making ArrayNode
 made_sized read context place function arguments =
     make_then (make_from (read_sizes read context arguments)) (λ sizes.
-    if takes function (length sizes) then make (Sized function None sizes) else make_from (breaks 33 place))
+    if takes function (length sizes) then make (Sized function None sizes) else make_from (breaks WRONG_TYPE place))
 
 -- ---- `div`, `mod` and `rem`
 
@@ -106,7 +108,7 @@ abbrev pub known_of_operands : (Element → Outcome Known) → Place → ℕ →
 known_of_operands read place function (a ∷ b ∷ []) virtuals =
     and_then (known_at read (record { expression = a; virtuals = virtuals }) []) (λ a.
     and_then (known_at read (record { expression = b; virtuals = virtuals }) []) (λ b. division place function a b))
-known_of_operands read place function operands virtuals = breaks 33 place
+known_of_operands read place function operands virtuals = breaks WRONG_TYPE place
 
 -- In an expression for the flat model the value is in place of the call; where it is undecided, rule 34 is broken.
 abbrev pub value_of_division : (Element → Outcome Known) → Context → Place → ℕ → List Part → Outcome ArrayNode
@@ -118,7 +120,7 @@ value_of_division read context place function arguments =
 abbrev pub division_variable : Place → ℕ → List ArrayExpr → Making ArrayNode
 division_variable place function (a ∷ b ∷ []) =
     make_then (make_variables (Division place function a b ∷ [])) (λ variables. make (Vars variables whole_kind [] []))
-division_variable place function operands = make_from (breaks 33 place)
+division_variable place function operands = make_from (breaks WRONG_TYPE place)
 
 abbrev pub made_division : (Element → Outcome Known) → Context → Place → ℕ → List Part → Making ArrayNode
 made_division read context place function arguments =
@@ -146,5 +148,5 @@ made_call table scope read context place (Named reference) arguments =
 made_call table scope read context place der arguments =
     make_then (make_from (plain_arguments place arguments)) (λ arguments.
     make_then (make_arguments context arguments) (λ arguments. make_from (derivative_of place arguments)))
-made_call table scope read context place Initial arguments = make_from (breaks 34 place)
-made_call table scope read context place Pure arguments = make_from (breaks 34 place)
+made_call table scope read context place Initial arguments = make_from (breaks OUTSIDE_PROFILE place)
+made_call table scope read context place Pure arguments = make_from (breaks OUTSIDE_PROFILE place)

@@ -3,6 +3,7 @@
 --
 -- All of it is resolved where its text stands, with what may be read one reference deeper.
 use Rattle.std.specs.Prelude.{ℕ, ◌+◌, Bool, true, List, [], ◌∷◌, ◌++◌, map, drop, flat_map, length, take, Option, Some, None, Ok, if◌then◌else◌, nat_eq, slice_get}
+use Rattle.mo_syntax.specs.Outcome.{Outcome, and_then, breaks}
 use Rattle.mo_syntax.specs.declared.class.ComponentOf.{ComponentOf}
 use Rattle.mo_syntax.specs.declared.class.Give.{Give}
 use Rattle.mo_syntax.specs.declared.expr.Expr.{Expr, out-Expr}
@@ -13,7 +14,7 @@ use Rattle.mo_scope.specs.Frames.{Scope, Member}
 use Rattle.mo_scope.specs.Parts.{Picked, picked}
 use Rattle.mo_scope.specs.Names.{Child, child_of_member, scope_of_home}
 use Rattle.mo_scope.specs.Sizes.{Sizes, declared_sizes, type_sizes}
-use Rattle.mo_typing.specs.Outcome.{Outcome, and_then, breaks}
+use Rattle.mo_syntax.specs.declared.rules.TheConstants.{CONDITION_NOT_BOOLEAN, WRONG_TYPE, WRONG_EACH, WRONG_SIZE, NO_VALUE}
 use Rattle.mo_typing.specs.Dims.{Dims, size}
 use Rattle.mo_typing.specs.Kinds.{accepts}
 use Rattle.mo_typing.specs.Indices.{Index, is_index, or_else}
@@ -37,7 +38,7 @@ reader ask = read_element ask is_replaced
 abbrev pub condition_in : Table → Ask → Scope → Expr → Outcome Bool
 condition_in table ask scope e =
     and_then (resolved_in table ask scope for_value e) (λ resolved.
-    and_then (truth_of (reader ask) 40 (place_of e) resolved) (must_be_truth (place_of e)))
+    and_then (truth_of (reader ask) CONDITION_NOT_BOOLEAN (place_of e) resolved) (must_be_truth (place_of e)))
 
 -- The condition of a component is that of its declaration.
 abbrev pub is_there : Table → Ask → Member → Outcome Bool
@@ -55,12 +56,12 @@ is_there table ask member = there_by (component_of member.declares)
 
 -- Of an expression that binds so many dimensions behind the pending indices: those dimensions.
 abbrev pub dims_behind : Place → Index → ℕ → Dims → Outcome Dims
-dims_behind place [] count [] = if nat_eq count 0 then Ok [] else breaks 33 place
-dims_behind place (index ∷ indices) count [] = breaks 23 place
+dims_behind place [] count [] = if nat_eq count 0 then Ok [] else breaks WRONG_TYPE place
+dims_behind place (index ∷ indices) count [] = breaks WRONG_EACH place
 dims_behind place indices count dims =
     if nat_eq (length indices + count) (length dims) then
-    (if is_index (take (length indices) dims) indices then Ok (drop (length indices) dims) else breaks 31 place)
-    else breaks 33 place
+    (if is_index (take (length indices) dims) indices then Ok (drop (length indices) dims) else breaks WRONG_SIZE place)
+    else breaks WRONG_TYPE place
 
 -- ---- bindings
 
@@ -80,7 +81,7 @@ abbrev pub element_value : Table → Ask → Element → Outcome Known
 element_value table ask element = and_then (binding_of table element.member element.index) value_by
   where
     value_by : Option Picked → Outcome Known
-    value_by None = if is_replaced element then breaks 28 element.place else Ok None
+    value_by None = if is_replaced element then breaks NO_VALUE element.place else Ok None
     value_by (Some binding) = value_in table ask element.kind binding
 
 -- ---- dimensions
@@ -101,7 +102,7 @@ binding_dims table ask member count = and_then (binding_of table member []) dims
         layered any_kind (dims_behind (place_of binding.value) binding.pending count) resolved.expression)
 
     dims_by : Option Picked → Outcome Dims
-    dims_by None = breaks 28 member.declares.place
+    dims_by None = breaks NO_VALUE member.declares.place
     dims_by (Some binding) = dims_in binding
 
 -- The dimension at a place, counted from 0: as written, or for `:` that of the same place in the binding.

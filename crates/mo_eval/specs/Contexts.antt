@@ -3,10 +3,11 @@
 --
 -- All that resolving an expression asks comes first, then its kinds, its dimensions and its subscripts.
 use Rattle.std.specs.Prelude.{ℕ, ℤ, Bool, [], None, Ok, if◌then◌else◌}
+use Rattle.mo_syntax.specs.Outcome.{Outcome, and_then}
 use Rattle.mo_syntax.specs.declared.expr.Expr.{Expr, out-Expr}
 use Rattle.mo_syntax.specs.declared.place.Place.{Place}
 use Rattle.mo_flat.specs.declared.array.ArrayExpr.{ArrayExpr}
-use Rattle.mo_typing.specs.Outcome.{Outcome, and_then}
+use Rattle.mo_syntax.specs.declared.rules.TheConstants.{WRONG_TYPE}
 use Rattle.mo_values.specs.declared.context.Context.{Context}
 use Rattle.mo_values.specs.Scalars.{Known, has_values}
 use Rattle.mo_eval.specs.Virtuals.{Element, Ask, Making, Resolved, resolved_by, known_at}
@@ -38,7 +39,7 @@ read_element ask is_replaced element =
 -- a scalar Integer that has a value: a size, or the number of a dimension
 abbrev pub whole_of : (Element → Outcome Known) → Place → Resolved → Outcome ℤ
 whole_of read place resolved =
-    and_then (layered (only_whole place) (only_scalar 33 place) resolved.expression) (λ _.
+    and_then (layered (only_whole place) (only_scalar WRONG_TYPE place) resolved.expression) (λ _.
     and_then (known_at read resolved []) (must_be_whole place))
 
 -- a scalar Boolean, decided or not

@@ -3,6 +3,7 @@
 -- The names of an end are looked up and its subscripts are read as those of a reference in an expression. An end that names a component
 -- which its condition removes is removed, and nothing behind that component is asked.
 use Rattle.std.specs.Prelude.{Bool, true, false, List, [], ◌∷◌, map, Option, Some, None, Ok, Err, option_map, if◌then◌else◌, nat_eq}
+use Rattle.mo_syntax.specs.Outcome.{Outcome, and_then, breach}
 use Rattle.mo_syntax.specs.declared.expr.Expr.{Expr}
 use Rattle.mo_syntax.specs.declared.expr.PartOf.{PartOf}
 use Rattle.mo_syntax.specs.declared.expr.ReferenceOf.{ReferenceOf}
@@ -14,7 +15,6 @@ use Rattle.mo_scope.specs.Frames.{Frame, Scope, Member}
 use Rattle.mo_scope.specs.Places.{Every}
 use Rattle.mo_scope.specs.Worlds.{World}
 use Rattle.mo_names.specs.Sights.{IsMember, member_of}
-use Rattle.mo_scope.specs.Outcome.{Outcome, and_then, breach}
 use Rattle.mo_typing.specs.Dims.{Dims}
 use Rattle.mo_typing.specs.Indices.{Index}
 use Rattle.mo_eval.specs.declared.ends.Ended.{Ended as EndedAt}

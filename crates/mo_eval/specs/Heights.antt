@@ -3,10 +3,10 @@
 -- What is answered once with so many references left is answered so with more. So a value, once known with the number of references
 -- that it needs, may be used wherever as many are left.
 use Rattle.std.specs.Prelude.{◌≡◌, ℕ, ◌≤◌, Bool, Ok}
+use Rattle.mo_syntax.specs.Outcome.{Outcome}
 use Rattle.mo_syntax.specs.declared.expr.Expr.{Expr}
 use Rattle.mo_scope.specs.Rows.{Table}
 use Rattle.mo_scope.specs.Frames.{Scope, Member}
-use Rattle.mo_typing.specs.Outcome.{Outcome}
 use Rattle.mo_typing.specs.Dims.{Dims}
 use Rattle.mo_typing.specs.Indices.{Index}
 use Rattle.mo_values.specs.Scalars.{Known}

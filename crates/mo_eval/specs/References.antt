@@ -4,6 +4,7 @@
 -- dimensions, its subscripts. Then all elements that are selected agree with the first one. A reference hands in these elements alone.
 use Rattle.std.specs.Prelude.{ℕ, ℤ, Bool, true, false, ◌&&◌, List, [], ◌∷◌, ◌++◌, map, flat_map, length, Option, Some, None, Ok, is_none, is_ok, replicate, if◌then◌else◌, nat_eq}
 use Rattle.std.specs.List.{list_any}
+use Rattle.mo_syntax.specs.Outcome.{Outcome, and_then, breaks}
 use Rattle.mo_syntax.specs.declared.expr.Expr.{Expr}
 use Rattle.mo_syntax.specs.declared.expr.PartOf.{PartOf}
 use Rattle.mo_syntax.specs.declared.expr.ReferenceOf.{ReferenceOf}
@@ -19,7 +20,8 @@ use Rattle.mo_scope.specs.Frames.{Frame, Scope, Member, class_of, at_of}
 use Rattle.mo_scope.specs.Lookup.{Found, Component, Reached, Element as Found_element, asking_of, found_first, reached}
 use Rattle.mo_scope.specs.Names.{child_of_member, component_frame, stands_for, taken, behind_found, walk_of}
 use Rattle.mo_scope.specs.Sizes.{declared_sizes, type_sizes, count_sizes, is_nothing}
-use Rattle.mo_typing.specs.Outcome.{Outcome, and_then, each, breaks}
+use Rattle.mo_syntax.specs.declared.rules.TheConstants.{WRONG_TYPE, NAME_NOT_FOUND, WRONG_SIZE, OUTSIDE_PROFILE}
+use Rattle.mo_typing.specs.Outcome.{each}
 use Rattle.mo_typing.specs.Dims.{Dims, subscripted, are_equal}
 use Rattle.mo_typing.specs.Indices.{Index, numbers_to}
 use Rattle.mo_typing.specs.Subscripts.{Checked, fine, subscripts}
@@ -46,8 +48,8 @@ counted_subscripts table found part = if is_nothing part.subs then fine else cou
   where
     counted : Found → Checked
     counted (Component frame member) =
-        and_then (number_of_dims table member) (λ n. if nat_eq n (length part.subs) then fine else breaks 33 part.place)
-    counted other = breaks 33 part.place
+        and_then (number_of_dims table member) (λ n. if nat_eq n (length part.subs) then fine else breaks WRONG_TYPE part.place)
+    counted other = breaks WRONG_TYPE part.place
 
 -- A component behind a class or at the front, with the components behind it, each with its identifier; or what else the last identifier
 -- found.
@@ -74,7 +76,7 @@ abbrev pub named : Table → Scope → ReferenceOf Part → Outcome Named
 named table scope reference = named_parts reference.parts
   where
     named_parts : List (PartOf Part) → Outcome Named
-    named_parts [] = breaks 12 (record { file = 0; byte = 0 })
+    named_parts [] = breaks NAME_NOT_FOUND (record { file = 0; byte = 0 })
     named_parts (part ∷ parts) =
         and_then (found_first table (asking_of table) false reference.top scope (identifier part)) (λ met.
         and_then (taken table met.near part.place met.found) (λ found. named_from table found part parts))
@@ -117,7 +119,7 @@ pub record Selection : Type 0 where
 
 -- A component that its condition removes breaks rule 12 at its identifier.
 abbrev pub there : Reading → Place → Member → Checked
-there reading place member = and_then (reading.is_there member) (λ is_there. if is_there then fine else breaks 12 place)
+there reading place member = and_then (reading.is_there member) (λ is_there. if is_there then fine else breaks NAME_NOT_FOUND place)
 
 abbrev pub nothings : ℕ → Dims
 nothings n = replicate n 0
@@ -141,11 +143,11 @@ component_behind table place member index name =
   where
     member_of : Found → Outcome Member
     member_of (Component frame part) = Ok part
-    member_of found = breaks 12 place
+    member_of found = breaks NAME_NOT_FOUND place
 
     found_in : Frame → Reached → Outcome Member
     found_in frame (Found_element part) = and_then (stands_for table place (Component frame part)) member_of
-    found_in frame other = breaks 12 place
+    found_in frame other = breaks NAME_NOT_FOUND place
 
 -- the first element that is selected, and in it the next component
 abbrev pub next_member : Table → Option Member → Selection → PartOf Part → Outcome (Option Member)
@@ -173,7 +175,7 @@ selections table reading read member (name ∷ next ∷ names) =
 abbrev pub agrees : Reading → Place → Selection → Member → Checked
 agrees reading place selection member =
     and_then (there reading selection.place member) (λ _.
-    and_then (reading.dims member) (λ dims. if are_equal dims selection.dims then fine else breaks 31 place))
+    and_then (reading.dims member) (λ dims. if are_equal dims selection.dims then fine else breaks WRONG_SIZE place))
 
 abbrev pub joined : {A : Type 0} → List (List A) → List A
 joined lists = flat_map (λ list. list) lists
@@ -243,7 +245,7 @@ leaf_kind table member index =
 -- A component that is no leaf breaks rule 34 at the reference; where one is accepted, it is of any kind.
 abbrev pub kind_accepted : Context → Place → Option Kind → Outcome Kind
 kind_accepted context place (Some kind) = Ok kind
-kind_accepted context place None = if context.sized then Ok Real else breaks 34 place
+kind_accepted context place None = if context.sized then Ok Real else breaks OUTSIDE_PROFILE place
 
 abbrev pub last_of : {A : Type 0} → A → List A → A
 last_of x [] = x

@@ -3,6 +3,7 @@
 --
 -- Parts are resolved from left to right. A form that is left out is refused before its parts are read.
 use Rattle.std.specs.Prelude.{ℕ, pos, Bool, true, false, ◌&&◌, List, [], ◌∷◌, ◌++◌, Option, Some, None, Ok, if◌then◌else◌, codes, slice_get}
+use Rattle.mo_syntax.specs.Outcome.{Outcome, and_then, breaks}
 use Rattle.mo_syntax.specs.declared.expr.Arg.{Arg, Arg-F}
 use Rattle.mo_syntax.specs.declared.expr.Args.{Args, Args-F}
 use Rattle.mo_syntax.specs.declared.expr.BranchOf.{BranchOf}
@@ -20,7 +21,7 @@ use Rattle.mo_scope.specs.Rows.{Table, Row, row_at}
 use Rattle.mo_scope.specs.Frames.{Scope}
 use Rattle.mo_scope.specs.Lookup.{Found, Iteration, literals_at, type_names}
 use Rattle.mo_scope.specs.Lookup.{Literal as found_literal, Time as found_time}
-use Rattle.mo_typing.specs.Outcome.{Outcome, and_then, breaks}
+use Rattle.mo_syntax.specs.declared.rules.TheConstants.{WRONG_KIND_OF_NAME, NAME_NOT_FOUND, WRONG_TYPE, OUTSIDE_PROFILE}
 use Rattle.mo_typing.specs.Indices.{or_else}
 use Rattle.mo_values.specs.declared.value.Scalar.{Scalar}
 use Rattle.mo_values.specs.declared.value.Scalar.TheVariants.{Truth as truth_scalar}
@@ -62,11 +63,11 @@ abbrev pub made_found : Table → Place → Found → Outcome ArrayNode
 made_found table place (found_literal class n) = Ok (Literal (record { 0 = class }) n (literal_text table class n))
 made_found table place (Iteration n) = Ok (Whole n)
 made_found table place found_time = Ok Time
-made_found table place found = breaks 13 place
+made_found table place found = breaks WRONG_KIND_OF_NAME place
 
 abbrev pub made_named : Table → Ask → Context → Place → Named → Making ArrayNode
 made_named table ask context place (Components (first ∷ others)) = made_reference table ask context place first others
-made_named table ask context place (Components []) = make_from (breaks 12 place)
+made_named table ask context place (Components []) = make_from (breaks NAME_NOT_FOUND place)
 made_named table ask context place (Found_at found at) = make_from (made_found table at found)
 
 abbrev pub made_name : Table → Ask → Scope → Context → Place → ReferenceOf Part → Making ArrayNode
@@ -102,7 +103,7 @@ made_power context place base dotted exponent =
 abbrev pub read_end : (Element → Outcome Known) → Context → Part → Outcome Known
 read_end read context part =
     and_then (alone part (read_in context)) (λ resolved.
-    and_then (layered (only_whole (place_of part)) (only_scalar 33 (place_of part)) resolved.expression) (λ _. known_at read resolved []))
+    and_then (layered (only_whole (place_of part)) (only_scalar WRONG_TYPE (place_of part)) resolved.expression) (λ _. known_at read resolved []))
 
 abbrev pub read_step : (Element → Outcome Known) → Context → Option Part → Outcome Known
 read_step read context None = Ok (Some (Scalar.Whole (pos 1)))
@@ -121,7 +122,7 @@ made_range read context place first step last =
 abbrev pub made_choice : (Element → Outcome Known) → Context → List (BranchOf Part) → Part → Making Choice
 made_choice read context [] other = make_then (make_part context other) (λ other. make ([], other))
 made_choice read context (branch ∷ branches) other =
-    make_then (make_from (and_then (alone branch.condition (read_in context)) (truth_of read 33 (place_of branch.condition))))
+    make_then (make_from (and_then (alone branch.condition (read_in context)) (truth_of read WRONG_TYPE (place_of branch.condition))))
     (decided (made_choice read context branches other))
   where
     decided : Making Choice → Known → Making Choice
@@ -179,10 +180,10 @@ made_node table ask scope (Node-F.If branches other) place context =
     make_then (made_choice (read_element ask is_replaced) context branches other) (λ choice. make (chosen place choice))
 made_node table ask scope (Node-F.Call callee arguments) place context =
     at_place place (made_call table scope (read_element ask is_replaced) context place callee arguments.1)
-made_node table ask scope (Node-F.Tuple outputs) place context = make_from (breaks 34 place)
+made_node table ask scope (Node-F.Tuple outputs) place context = make_from (breaks OUTSIDE_PROFILE place)
 made_node table ask scope (Node-F.Array elements) place context = at_place place (make_then (make_parts context elements) (λ elements. make (Array elements)))
-made_node table ask scope (Node-F.ArrayFor element iterators) place context = make_from (breaks 34 place)
-made_node table ask scope (Node-F.Matrix rows) place context = make_from (breaks 34 place)
+made_node table ask scope (Node-F.ArrayFor element iterators) place context = make_from (breaks OUTSIDE_PROFILE place)
+made_node table ask scope (Node-F.Matrix rows) place context = make_from (breaks OUTSIDE_PROFILE place)
 made_node table ask scope Node-F.EndMark place context = at_place place (make_from (made_end context place))
 
 abbrev pub made_expr : Expr-F (Arg × Option Part) (Node × (Place → Context → Making ArrayExpr)) (Args × Option (List Part)) Part → Context → Making ArrayExpr

@@ -3,9 +3,9 @@
 -- A walk halts at the first variable that it needs and that is not read. An element of a component is read elsewhere; a call of `div`,
 -- `mod` or `rem` is a walk of its operands, with the variables before it.
 use Rattle.std.specs.Prelude.{◌≡◌, ℕ, ◌-◌, List, Some, Result, Ok, Err, slice_get}
+use Rattle.mo_syntax.specs.Outcome.{Outcome}
 use Rattle.mo_syntax.specs.declared.place.Stop.{Stop}
 use Rattle.mo_syntax.specs.declared.place.Stop.TheVariants.{Broken as broken_by, NoMemory as no_memory}
-use Rattle.mo_typing.specs.Outcome.{Outcome}
 use Rattle.mo_eval.specs.declared.reading.Step.{Step}
 use Rattle.mo_eval.specs.declared.reading.Step.TheVariants.{Known as known_step, Read, Divided}
 use Rattle.mo_values.specs.Scalars.{Known}

@@ -1,12 +1,12 @@
 -- Where expressions are resolved, and what resolving them tells, where frames have these numbers.
 use Rattle.std.specs.Prelude.{◌≡◌, ℕ, List, map, Option, Result, Ok, Err}
+use Rattle.mo_syntax.specs.Outcome.{Outcome}
 use Rattle.mo_syntax.specs.declared.expr.Arg.{Arg}
 use Rattle.mo_syntax.specs.declared.expr.Expr.{Expr}
 use Rattle.mo_syntax.specs.declared.place.Stop.{Stop}
 use Rattle.mo_syntax.specs.declared.place.Stop.TheVariants.{Broken as broken_by, NoMemory as no_memory}
 use Rattle.mo_scope.specs.Frames.{Frame, Scope}
 use Rattle.mo_scope.specs.Worlds.{World, frames_of, table_in, scope_in}
-use Rattle.mo_typing.specs.Outcome.{Outcome}
 use Rattle.mo_eval.specs.declared.resolve.Site.{Site}
 use Rattle.mo_eval.specs.declared.virtuals.Virtual.{Virtual as VirtualAt}
 use Rattle.mo_values.specs.Scalars.{Known}

@@ -3,12 +3,13 @@
 -- The number `left` tells how many references may still be read, one within the other: 256 at first. A reference is read while its
 -- conditions, its dimensions and its value are.
 use Rattle.std.specs.Prelude.{ℕ, zero, suc, Bool, List, [], Ok}
+use Rattle.mo_syntax.specs.Outcome.{Outcome, and_then, breaks}
 use Rattle.mo_syntax.specs.declared.expr.Expr.{Expr}
 use Rattle.mo_syntax.specs.declared.meaning.Kind.{Kind}
 use Rattle.mo_flat.specs.declared.array.ArrayExpr.{ArrayExpr}
 use Rattle.mo_scope.specs.Rows.{Table}
 use Rattle.mo_scope.specs.Frames.{Scope, Member}
-use Rattle.mo_typing.specs.Outcome.{Outcome, and_then, breaks}
+use Rattle.mo_syntax.specs.declared.rules.TheConstants.{REFERENCE_CHAIN_TOO_LONG}
 use Rattle.mo_typing.specs.Dims.{Dims}
 use Rattle.mo_typing.specs.Kinds.{kind_of}
 use Rattle.mo_typing.specs.Indices.{Index}
@@ -21,7 +22,7 @@ use Rattle.mo_eval.specs.Components.{place_of, reader, reading_by, is_there, dim
 
 -- What a reference may ask for: where no more references may be read, rule 29 is broken at it.
 unfoldable pub reading : Table → ℕ → Ask
-reading table zero place = breaks 29 place
+reading table zero place = breaks REFERENCE_CHAIN_TOO_LONG place
 reading table (suc left) place = Ok (reading_by table (reading table left))
 
 abbrev pub most_references : ℕ

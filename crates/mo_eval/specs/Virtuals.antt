@@ -3,11 +3,11 @@
 -- Resolving an expression puts numbers of variables in the place of its names. They are virtual: a list says what each stands for,
 -- the first one has number 1.
 use Rattle.std.specs.Prelude.{ℕ, ◌+◌, ◌-◌, Bool, List, [], ◌∷◌, ◌++◌, fold, length, None, Ok, slice_get}
+use Rattle.mo_syntax.specs.Outcome.{Outcome, and_then}
 use Rattle.mo_syntax.specs.declared.meaning.Kind.{Kind}
 use Rattle.mo_syntax.specs.declared.place.Place.{Place}
 use Rattle.mo_flat.specs.declared.array.ArrayExpr.{ArrayExpr}
 use Rattle.mo_scope.specs.Frames.{Member}
-use Rattle.mo_typing.specs.Outcome.{Outcome, and_then}
 use Rattle.mo_typing.specs.Dims.{Dims}
 use Rattle.mo_typing.specs.Indices.{Index, or_else}
 use Rattle.mo_values.specs.Scalars.{Known, division}

@@ -2,8 +2,7 @@
 ghost use Rattle.std.specs.Prelude.{◌≡◌};
 ghost use Rattle.mo_eval.specs.steps.Absence.{Breaks, as_stopped};
 
-use mo_syntax::{NoMemory, Place, Stop};
-use mo_values::broken;
+use mo_syntax::{NoMemory, Place, Stop, broken, rules};
 use std::alloc::AllocError;
 
 /// Why the elements of a reference are not found.
@@ -55,7 +54,7 @@ pub(crate) fn or_broken<T: Drop>(answer: Result<T, Absent>) -> Result<T, Stop>
 {
     match answer {
         Ok(value) => Ok(value),
-        Err(Absent::Removed(place)) => Err(Stop::Broken(broken(12, place))),
+        Err(Absent::Removed(place)) => Err(Stop::Broken(broken(rules::NAME_NOT_FOUND, place))),
         Err(Absent::Stopped(stop)) => Err(stop),
     }
 }

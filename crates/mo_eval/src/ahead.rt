@@ -3,7 +3,7 @@
 //! walked few times more than its logarithm.
 ghost use Rattle.std.specs.Prelude.{List, IfSome};
 ghost use Rattle.mo_scope.specs.Frames.{Frame};
-ghost use Rattle.mo_typing.specs.Outcome.{Outcome};
+ghost use Rattle.mo_syntax.specs.Outcome.{Outcome};
 ghost use Rattle.mo_values.specs.Scalars.{Known};
 ghost use Rattle.mo_eval.specs.Virtuals.{Element, numbered, known_of_virtuals};
 ghost use Rattle.mo_values.specs.Walk.{known_by};

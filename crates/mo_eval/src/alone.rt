@@ -2,7 +2,8 @@
 ghost use Rattle.std.specs.Prelude.{◌≤◌, ℤ, IfOk, Ok};
 ghost use Rattle.mo_scope.specs.Outcome.{Gives as GivesSeen};
 ghost use Rattle.mo_scope.specs.Worlds.{Grows, IsFrame, frames_of};
-ghost use Rattle.mo_typing.specs.Outcome.{Outcome, Gives, and_then};
+ghost use Rattle.mo_syntax.specs.Outcome.{Outcome, and_then};
+ghost use Rattle.mo_typing.specs.Outcome.{Gives};
 ghost use Rattle.mo_eval.specs.Keeping.{IsKept};
 ghost use Rattle.mo_eval.specs.Contexts.{alone, whole_of, truth_of};
 ghost use Rattle.mo_eval.specs.Resolving.{read_end};
@@ -17,7 +18,7 @@ use crate::resolve::{Site, resolve};
 use crate::variables::known_in;
 use crate::virtuals::Resolved;
 use mo_scope::Scopes;
-use mo_syntax::{Expr, List, Place, Stop};
+use mo_syntax::{Expr, List, Place, Stop, rules};
 use mo_values::Scalar;
 use mo_values::layers::{answer, must_be_whole, truth_scalar, whole_scalar};
 
@@ -195,5 +196,5 @@ pub(crate) fn read_condition<'t>(
         context: site.context.read_in(),
     };
     let resolved = alone(reader, s, &inner, e)?;
-    truth_of(reader, s, site.left, 33, e.place, &resolved)
+    truth_of(reader, s, site.left, rules::WRONG_TYPE, e.place, &resolved)
 }

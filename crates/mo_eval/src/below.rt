@@ -18,8 +18,7 @@ use crate::absent::Absent;
 use crate::reader::Reader;
 use crate::selections::{Selection, component_behind, dims_there};
 use mo_scope::{Member, Scopes, copied};
-use mo_syntax::{List, NoMemory, Place, Stop};
-use mo_values::broken;
+use mo_syntax::{List, NoMemory, Place, Stop, broken, rules};
 use mo_values::selecting::selected;
 use std::alloc::Global;
 
@@ -52,7 +51,7 @@ fn agrees<'t>(
     if are_equal(dims.as_slice(), selection.dims.as_slice()) {
         Ok(())
     } else {
-        Err(Absent::Stopped(Stop::Broken(broken(31, place))))
+        Err(Absent::Stopped(Stop::Broken(broken(rules::WRONG_SIZE, place))))
     }
 }
 

@@ -16,8 +16,7 @@ ghost use Rattle.mo_eval.specs.steps.Parts.{as_identifier, as_reference, made_ar
 use crate::resolve::Site;
 use mo_names::{Found, find_path};
 use mo_scope::Scopes;
-use mo_syntax::{Arg, Args, Broken, Part, Place, Reference, Stop};
-use mo_values::broken;
+use mo_syntax::{Arg, Args, Broken, Part, Place, Reference, Stop, broken, rules};
 use mo_values::layers::answer;
 use std::alloc::Global;
 
@@ -51,16 +50,16 @@ fn function_found(place: Place, reference: &Reference, found: &Found) -> Result<
     match found {
         Found::Function(code) => {
             if has_subscripts(parts) {
-                Err(broken(34, place))
+                Err(broken(rules::OUTSIDE_PROFILE, place))
             } else {
                 Ok(*code)
             }
         }
-        Found::Class(_, _) => Err(broken(34, place)),
-        Found::Component(_, _) => Err(broken(13, last_identifier(parts))),
-        Found::Literal(_, _) => Err(broken(13, last_identifier(parts))),
-        Found::Iteration(_) => Err(broken(13, last_identifier(parts))),
-        Found::Time => Err(broken(13, last_identifier(parts))),
+        Found::Class(_, _) => Err(broken(rules::OUTSIDE_PROFILE, place)),
+        Found::Component(_, _) => Err(broken(rules::WRONG_KIND_OF_NAME, last_identifier(parts))),
+        Found::Literal(_, _) => Err(broken(rules::WRONG_KIND_OF_NAME, last_identifier(parts))),
+        Found::Iteration(_) => Err(broken(rules::WRONG_KIND_OF_NAME, last_identifier(parts))),
+        Found::Time => Err(broken(rules::WRONG_KIND_OF_NAME, last_identifier(parts))),
     }
 }
 

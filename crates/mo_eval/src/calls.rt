@@ -4,10 +4,11 @@ ghost use Rattle.mo_scope.specs.Frames.{Scope};
 ghost use Rattle.mo_scope.specs.Rows.{Table};
 ghost use Rattle.mo_flat.specs.declared.array.ArrayExpr.{ArrayExpr as ArrayTree};
 ghost use Rattle.mo_flat.specs.declared.array.ArrayNode.TheVariants.{Call};
+ghost use Rattle.mo_syntax.specs.Outcome.{Outcome, and_then};
 ghost use Rattle.mo_tables.specs.declared.functions.TheConstants.{DIV, IDENTITY, MOD, NDIMS, ONES, REM, ZEROS};
 ghost use Rattle.mo_scope.specs.Worlds.{World, Grows, IsFrame, frames_of, table_in};
 ghost use Rattle.mo_typing.specs.Kinds.{is_among};
-ghost use Rattle.mo_typing.specs.Outcome.{Outcome, and_then, Gives};
+ghost use Rattle.mo_typing.specs.Outcome.{Gives};
 ghost use Rattle.mo_eval.specs.Keeping.{IsKept};
 ghost use Rattle.mo_eval.specs.declared.virtuals.Virtual.{Virtual as VirtualAt};
 ghost use Rattle.mo_eval.specs.Virtuals.{Ask, Virtual as VirtualSeen};
@@ -27,9 +28,8 @@ use crate::resolve::{Site, operand, resolve};
 use crate::virtuals::Virtual;
 use mo_flat::{ArrayExpr, ArrayNode};
 use mo_scope::Scopes;
-use mo_syntax::{Arg, Args, Broken, Callee, Expr, List, NoMemory, Place, Stop};
+use mo_syntax::{Arg, Args, Broken, Callee, Expr, List, NoMemory, Place, Stop, broken, rules};
 use mo_tables::functions;
-use mo_values::broken;
 use mo_values::layers::answer;
 use mo_values::making::{derivative_of, takes};
 use std::alloc::Global;
@@ -165,7 +165,7 @@ fn number<'t>(
         None => Ok(Some(n)),
         Some(_) => {
             arguments(reader, s, site, others, virtuals)?;
-            Err(Stop::Broken(broken(33, place)))
+            Err(Stop::Broken(broken(rules::WRONG_TYPE, place)))
         }
     }
 }
@@ -189,7 +189,7 @@ fn size<'t>(
     ensures exact { (parts : Seq PartOf) → plain_in s.old site.now args.now ≡ Some parts → IsMade s.new result virtuals.new (made_size (elements_in s.old site.now.left) site.now.context place parts (virtuals_seen (frames_of s.old) virtuals.old)) }
 {
     let Some((e, others)) = split(args) else {
-        return Err(Stop::Broken(broken(33, place)));
+        return Err(Stop::Broken(broken(rules::WRONG_TYPE, place)));
     };
     let inner = array(reader, s, site, e, virtuals)?;
     let at = number(reader, s, site, place, others, virtuals)?;
@@ -233,7 +233,7 @@ fn ndims<'t>(
 {
     let Some(e) = lone(args) else {
         arguments(reader, s, site, args, virtuals)?;
-        return Err(Stop::Broken(broken(33, place)));
+        return Err(Stop::Broken(broken(rules::WRONG_TYPE, place)));
     };
     ndims_of(reader.alloc, array(reader, s, site, e, virtuals))
 }
@@ -247,7 +247,7 @@ fn filled_with(
     ensures { result ≡ filled_with place filling sizes }
 {
     if sizes.is_empty() {
-        return Err(broken(33, place));
+        return Err(broken(rules::WRONG_TYPE, place));
     }
     Ok(ArrayNode::Sized(functions::FILL, Some(filling), sizes))
 }
@@ -271,7 +271,7 @@ fn fill<'t>(
     ensures exact { (parts : Seq PartOf) → plain_in s.old site.now args.now ≡ Some parts → IsMade s.new result virtuals.new (made_fill (elements_in s.old site.now.left) site.now.context place parts (virtuals_seen (frames_of s.old) virtuals.old)) }
 {
     let Some((e, others)) = split(args) else {
-        return Err(Stop::Broken(broken(33, place)));
+        return Err(Stop::Broken(broken(rules::WRONG_TYPE, place)));
     };
     let filling = operand(reader, s, site, e, virtuals)?;
     let numbers = sizes(reader, s, site, others)?;
@@ -298,7 +298,7 @@ fn sized<'t>(
 {
     let numbers = sizes(reader, s, site, args)?;
     if !takes(called.function, numbers.len()) {
-        return Err(Stop::Broken(broken(33, called.place)));
+        return Err(Stop::Broken(broken(rules::WRONG_TYPE, called.place)));
     }
     Ok(ArrayNode::Sized(called.function, None, numbers))
 }
@@ -416,7 +416,7 @@ pub(crate) fn call<'t>(
         Callee::Named(reference) => {
             let function_code = function_named(reader.alloc, s, site, place, reference)?;
             if !are_plain(args) {
-                return Err(Stop::Broken(broken(34, place)));
+                return Err(Stop::Broken(broken(rules::OUTSIDE_PROFILE, place)));
             }
             let called = Called {
                 place,
@@ -426,11 +426,11 @@ pub(crate) fn call<'t>(
         }
         Callee::Der => {
             if !are_plain(args) {
-                return Err(Stop::Broken(broken(34, place)));
+                return Err(Stop::Broken(broken(rules::OUTSIDE_PROFILE, place)));
             }
             derivative(reader, s, site, place, args.plain.as_slice(), virtuals)
         }
-        Callee::Initial => Err(Stop::Broken(broken(34, place))),
-        Callee::Pure => Err(Stop::Broken(broken(34, place))),
+        Callee::Initial => Err(Stop::Broken(broken(rules::OUTSIDE_PROFILE, place))),
+        Callee::Pure => Err(Stop::Broken(broken(rules::OUTSIDE_PROFILE, place))),
     }
 }

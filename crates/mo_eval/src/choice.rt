@@ -3,7 +3,8 @@ ghost use Rattle.std.specs.Prelude.{◌≡◌, ◌++◌, map, Ok, IfOk, OnOk, Li
 ghost use Rattle.std.specs.Option.{option_map};
 ghost use Rattle.mo_flat.specs.declared.array.ArrayExpr.{ArrayExpr};
 ghost use Rattle.mo_scope.specs.Worlds.{World, Grows, IsFrame, frames_of};
-ghost use Rattle.mo_typing.specs.Outcome.{Outcome, and_then, Gives};
+ghost use Rattle.mo_syntax.specs.Outcome.{Outcome, and_then};
+ghost use Rattle.mo_typing.specs.Outcome.{Gives};
 ghost use Rattle.mo_eval.specs.Keeping.{IsKept};
 ghost use Rattle.mo_eval.specs.declared.choice.BranchMade.TheVariants.{Kept, Last as last_made};
 ghost use Rattle.mo_eval.specs.declared.virtuals.Virtual.{Virtual as VirtualAt};

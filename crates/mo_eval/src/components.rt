@@ -22,9 +22,9 @@ use crate::variables::{is_replaced, known_in};
 use crate::virtuals::Element;
 use mo_names::child_of_member;
 use mo_scope::{Member, Picked, ScopeAt, Scopes, Sort, pick_here};
-use mo_syntax::{Broken, Expr, FrameId, Kind, List, Place, Stop};
+use mo_syntax::{Broken, Expr, FrameId, Kind, List, Place, Stop, broken, rules};
 use mo_values::layers::{answer, must_be_truth};
-use mo_values::{Context, Scalar, broken, if_it_has};
+use mo_values::{Context, Scalar, if_it_has};
 
 /// Whether a condition holds that stands in a class with this frame, where so many references may still be read.
 #[cycle(resolving)]
@@ -52,7 +52,14 @@ fn condition_in<'t>(
         context: Context::for_value(),
     };
     let resolved = alone(reader, s, &site, e)?;
-    let known = truth_of(reader, s, left, 40, e.place, &resolved)?;
+    let known = truth_of(
+        reader,
+        s,
+        left,
+        rules::CONDITION_NOT_BOOLEAN,
+        e.place,
+        &resolved,
+    )?;
     answer(must_be_truth(e.place, known))
 }
 
@@ -176,7 +183,7 @@ fn unbound<'t>(s: &Scopes<'t>, element: &Element<'t>) -> Result<Option<Scalar>, 
     ensures { result ≡ unbound (element_seen (frames_of s.now) element.now) }
 {
     if is_replaced(s, element) {
-        Err(broken(28, element.place))
+        Err(broken(rules::NO_VALUE, element.place))
     } else {
         Ok(None)
     }

@@ -1,12 +1,13 @@
 //! The dimensions of components (Modelica Language Specification 3.5, sections 4.4.2, 7.2.5 and 10.1).
 ghost use Rattle.std.specs.Prelude.{◌≡◌, ◌++◌, ℤ, [], List as Seq, Option as Optional};
+ghost use Rattle.mo_syntax.specs.Outcome.{Outcome, and_then};
 ghost use Rattle.mo_syntax.specs.declared.expr.Expr.{Expr as Tree};
 ghost use Rattle.mo_scope.specs.Frames.{Scope};
 ghost use Rattle.mo_scope.specs.Sights.{picked_in};
 ghost use Rattle.mo_scope.specs.Worlds.{Grows, IsFrame, frames_of, table_in, scope_in};
 ghost use Rattle.mo_names.specs.Sights.{IsMember, member_of};
 ghost use Rattle.mo_typing.specs.Dims.{size};
-ghost use Rattle.mo_typing.specs.Outcome.{Outcome, and_then, Gives};
+ghost use Rattle.mo_typing.specs.Outcome.{Gives};
 ghost use Rattle.mo_eval.specs.Keeping.{IsKept};
 ghost use Rattle.mo_eval.specs.Components.{dim_at, dims_behind, each_dim, written_dim};
 ghost use Rattle.mo_values.specs.Asked.{any_kind, layered};
@@ -22,10 +23,10 @@ use crate::sizes::{Sizes, all_sizes, count_of};
 use mo_flat::ArrayExpr;
 use mo_names::child_of_member;
 use mo_scope::{Member, Picked, ScopeAt, Scopes, copied, pick_here};
-use mo_syntax::{Broken, Expr, List, Place, Stop};
+use mo_syntax::{Broken, Expr, List, Place, Stop, broken, rules};
 use mo_typing::{dims_of, kind_of, subscripts};
+use mo_values::Context;
 use mo_values::layers::{answer, is_index};
-use mo_values::{Context, broken};
 use std::alloc::Global;
 
 /// A number as a dimension; one that is negative or above 4,294,967,295 breaks rule 31.
@@ -33,7 +34,7 @@ fn dimension(place: Place, n: i64) -> Result<u32, Broken>
     ensures { result ≡ size (place, n) }
 {
     if n < 0 || n > 4294967295 {
-        return Err(broken(31, place));
+        return Err(broken(rules::WRONG_SIZE, place));
     }
     Ok(n as u32)
 }
@@ -83,19 +84,19 @@ fn dims_behind(
 {
     if dims.is_empty() {
         if !pending.is_empty() {
-            return Err(Stop::Broken(broken(23, place)));
+            return Err(Stop::Broken(broken(rules::WRONG_EACH, place)));
         }
         if count == 0 {
             return Ok(dims);
         }
-        return Err(Stop::Broken(broken(33, place)));
+        return Err(Stop::Broken(broken(rules::WRONG_TYPE, place)));
     }
     if pending.len() > dims.len() || dims.len() - pending.len() != count {
-        return Err(Stop::Broken(broken(33, place)));
+        return Err(Stop::Broken(broken(rules::WRONG_TYPE, place)));
     }
     let at = pending.len();
     if !is_index(&dims.as_slice()[..at], pending) {
-        return Err(Stop::Broken(broken(31, place)));
+        return Err(Stop::Broken(broken(rules::WRONG_SIZE, place)));
     }
     Ok(copied(alloc, &dims.as_slice()[at..])?)
 }
@@ -172,7 +173,7 @@ fn binding_dims<'t>(
 {
     let child = child_of_member(reader.alloc, s, of.member, &[])?;
     match pick_here(child.sources.as_slice()) {
-        None => Err(Stop::Broken(broken(28, of.member.declares.place))),
+        None => Err(Stop::Broken(broken(rules::NO_VALUE, of.member.declares.place))),
         Some(picked) => dims_in(reader, s, of.left, &picked, of.count),
     }
 }

@@ -17,11 +17,11 @@ use crate::variables::known_in;
 use crate::virtuals::Virtual;
 use mo_flat::{ArrayExpr, ArrayNode};
 use mo_scope::Scopes;
-use mo_syntax::{Arg, Broken, Kind, List, NoMemory, Place, Stop};
+use mo_syntax::{Arg, Broken, Kind, List, NoMemory, Place, Stop, broken, rules};
+use mo_values::Scalar;
 use mo_values::layers::answer;
 use mo_values::making::known_number;
 use mo_values::operands::{checked_operands, two_operands};
-use mo_values::{Scalar, broken};
 use std::alloc::Global;
 
 /// A call: where it stands, and its function.
@@ -48,7 +48,7 @@ fn value_of<'t>(
     ensures exact { Gives result (known_of_operands (elements_in s.old left) called.place called.function operands.now (virtuals_seen (frames_of s.old) virtuals.now)) }
 {
     let Some((a, b)) = two_operands(operands) else {
-        return Err(Stop::Broken(broken(33, called.place)));
+        return Err(Stop::Broken(broken(rules::WRONG_TYPE, called.place)));
     };
     let m = known_in(reader, s, left, a, &[], virtuals)?;
     let n = known_in(reader, s, left, b, &[], virtuals)?;
@@ -108,12 +108,12 @@ fn variable_of<'t>(called: Called, operands: List<ArrayExpr>) -> Result<Virtual<
 {
     let mut operands = operands;
     if operands.len() != 2 {
-        return Err(broken(33, called.place));
+        return Err(broken(rules::WRONG_TYPE, called.place));
     }
     match operands.pop() {
-        None => Err(broken(33, called.place)),
+        None => Err(broken(rules::WRONG_TYPE, called.place)),
         Some(right) => match operands.pop() {
-            None => Err(broken(33, called.place)),
+            None => Err(broken(rules::WRONG_TYPE, called.place)),
             Some(left) => Ok(Virtual::Division {
                 place: called.place,
                 function: called.function,

@@ -3,7 +3,7 @@
 
 ghost use Rattle.std.specs.Prelude.{◌≡◌, ◌<◌, Ok, Some, IfOk, length, List as Seq};
 ghost use Rattle.mo_scope.specs.Frames.{Frame};
-ghost use Rattle.mo_scope.specs.Outcome.{Gives as GivesSeen, Outcome, and_then};
+ghost use Rattle.mo_scope.specs.Outcome.{Gives as GivesSeen};
 ghost use Rattle.mo_scope.specs.Worlds.{World, Grows, IsFrame, frames_of, table_in};
 ghost use Rattle.mo_eval.specs.Ends.{Selected as SelectedFrom, IsEnded, ended_by, ended_in, ended_of, ended_seen, first_identifier, unless_removed};
 ghost use Rattle.mo_eval.specs.Keeping.{IsKept};
@@ -13,6 +13,7 @@ ghost use Rattle.mo_eval.specs.Values.{most_references};
 ghost use Rattle.mo_eval.specs.steps.Absence.{Removes, as_stopped};
 ghost use Rattle.mo_eval.specs.steps.Ending.{AreSelected, selected_by, selected_seen};
 ghost use Rattle.mo_eval.specs.steps.Naming.{AreNames, names_seen};
+ghost use Rattle.mo_syntax.specs.Outcome.{Outcome, and_then};
 
 use crate::absent::Absent;
 use crate::names::{Name, Referred, named};

@@ -1,6 +1,7 @@
 //! The layers of a binding, which are asked once for all elements of its component.
 ghost use Rattle.std.specs.Prelude.{◌≡◌, ℕ, IfOk, IfSome, Ok};
-ghost use Rattle.mo_typing.specs.Outcome.{Gives, Outcome};
+ghost use Rattle.mo_syntax.specs.Outcome.{Outcome};
+ghost use Rattle.mo_typing.specs.Outcome.{Gives};
 ghost use Rattle.mo_typing.specs.Kinds.{accepts};
 ghost use Rattle.mo_values.specs.Asked.{fitted, layered};
 ghost use Rattle.mo_values.specs.Scalars.{Known};

@@ -20,8 +20,7 @@ use crate::resolve::Site;
 use crate::sizes::count_of_dims;
 use mo_names::{Found, find_behind, find_first};
 use mo_scope::{Member, Scopes};
-use mo_syntax::{List, NoMemory, Part, Place, Reference, Stop};
-use mo_values::broken;
+use mo_syntax::{List, NoMemory, Part, Place, Reference, Stop, broken, rules};
 use std::alloc::Global;
 
 /// A component that a reference names, with its identifier.
@@ -62,7 +61,7 @@ fn counted_in<'t>(
     if n == part.subs.len() {
         Ok(())
     } else {
-        Err(Stop::Broken(broken(33, part.place)))
+        Err(Stop::Broken(broken(rules::WRONG_TYPE, part.place)))
     }
 }
 
@@ -78,11 +77,11 @@ fn counted<'t>(alloc: Global, s: &mut Scopes<'t>, at: &Latest<'_, 't>) -> Result
     }
     match at.found {
         Found::Component(_, member) => counted_in(alloc, s, &member, part),
-        Found::Class(_, _) => Err(Stop::Broken(broken(33, part.place))),
-        Found::Literal(_, _) => Err(Stop::Broken(broken(33, part.place))),
-        Found::Iteration(_) => Err(Stop::Broken(broken(33, part.place))),
-        Found::Function(_) => Err(Stop::Broken(broken(33, part.place))),
-        Found::Time => Err(Stop::Broken(broken(33, part.place))),
+        Found::Class(_, _) => Err(Stop::Broken(broken(rules::WRONG_TYPE, part.place))),
+        Found::Literal(_, _) => Err(Stop::Broken(broken(rules::WRONG_TYPE, part.place))),
+        Found::Iteration(_) => Err(Stop::Broken(broken(rules::WRONG_TYPE, part.place))),
+        Found::Function(_) => Err(Stop::Broken(broken(rules::WRONG_TYPE, part.place))),
+        Found::Time => Err(Stop::Broken(broken(rules::WRONG_TYPE, part.place))),
     }
 }
 
@@ -190,7 +189,7 @@ pub(crate) fn named<'a, 't>(
     ensures exact { GivesSeen (referred_seen (part_in s.old site.now) (frames_of s.new)) result (named (table_in s.old) (scope_of s.old site.now) (as_reference (part_in s.old site.now) reference.now)) }
 {
     match reference.parts.as_slice() {
-        [] => Err(Stop::Broken(broken(12, Place { file: 0, byte: 0 }))),
+        [] => Err(Stop::Broken(broken(rules::NAME_NOT_FOUND, Place { file: 0, byte: 0 }))),
         [part, others @ ..] => named_parts(alloc, s, site, reference.top, part, others),
     }
 }

@@ -1,7 +1,7 @@
 //! How the variables of a resolved expression are read one after another, only where they are needed.
 ghost use Rattle.std.specs.Prelude.{◌≡◌, ◌-◌, [], ℕ, List, MatchOption, IfOk, Some, length, slice_get, set};
 ghost use Rattle.mo_scope.specs.Frames.{Frame};
-ghost use Rattle.mo_typing.specs.Outcome.{Outcome, and_then};
+ghost use Rattle.mo_syntax.specs.Outcome.{Outcome, and_then};
 ghost use Rattle.mo_values.specs.Scalars.{Known, division};
 ghost use Rattle.mo_eval.specs.Virtuals.{Element, numbered, known_of_virtual, known_of_virtuals};
 ghost use Rattle.mo_values.specs.Walk.{known_by};

@@ -36,11 +36,13 @@ use crate::virtuals::{Element, Virtual};
 use mo_flat::{ArrayNode, Subscript};
 use mo_names::{Found, enter_component, walk_of};
 use mo_scope::{Declares, Member, Scopes, Sort, copied};
-use mo_syntax::{Broken, ClassId, Kind, List, NoMemory, Place, Reference, Stop, Vary};
+use mo_syntax::{
+    Broken, ClassId, Kind, List, NoMemory, Place, Reference, Stop, Vary, broken, rules,
+};
 use mo_typing::subscripted;
+use mo_values::Context;
 use mo_values::layers::answer;
 use mo_values::selecting::{are_inside, emptied};
-use mo_values::{Context, broken};
 use std::alloc::Global;
 
 /// What a reference hands in: dimensions and subscripts.
@@ -199,7 +201,7 @@ fn kind_accepted(context: Context, place: Place, kind: Option<Kind>) -> Result<K
             if context.sized {
                 Ok(Kind::Real)
             } else {
-                Err(broken(34, place))
+                Err(broken(rules::OUTSIDE_PROFILE, place))
             }
         }
     }
@@ -322,10 +324,10 @@ fn components<'t>(
     ensures exact { IsMade s.new result virtuals.new (made_named (table_in s.old) (ask_of s.old site.now) site.now.context place (Components (names_seen (part_in s.old site.now) (frames_of s.old) names.now)) (virtuals_seen (frames_of s.old) virtuals.old)) }
 {
     if names.is_empty() {
-        return Err(Stop::Broken(broken(12, place)));
+        return Err(Stop::Broken(broken(rules::NAME_NOT_FOUND, place)));
     }
     if site.left == 0 {
-        return Err(Stop::Broken(broken(29, place)));
+        return Err(Stop::Broken(broken(rules::REFERENCE_CHAIN_TOO_LONG, place)));
     }
     let deeper = site.left - 1;
     let first = names[0].member;
@@ -374,9 +376,9 @@ fn other(alloc: Global, s: &Scopes, place: Place, found: &Found) -> Result<Array
         }
         Found::Iteration(n) => Ok(ArrayNode::Whole(*n)),
         Found::Time => Ok(ArrayNode::Time),
-        Found::Component(_, _) => Err(Stop::Broken(broken(13, place))),
-        Found::Class(_, _) => Err(Stop::Broken(broken(13, place))),
-        Found::Function(_) => Err(Stop::Broken(broken(13, place))),
+        Found::Component(_, _) => Err(Stop::Broken(broken(rules::WRONG_KIND_OF_NAME, place))),
+        Found::Class(_, _) => Err(Stop::Broken(broken(rules::WRONG_KIND_OF_NAME, place))),
+        Found::Function(_) => Err(Stop::Broken(broken(rules::WRONG_KIND_OF_NAME, place))),
     }
 }
 

@@ -4,7 +4,8 @@ ghost use Rattle.mo_flat.specs.declared.array.ArrayExpr.{ArrayExpr, roll-ArrayEx
 ghost use Rattle.mo_flat.specs.declared.array.ArrayNode.{ArrayNode};
 ghost use Rattle.mo_flat.specs.declared.array.ArrayNode.TheVariants.{Decimal, Str, Not, All, Any, Array, Relation, Product};
 ghost use Rattle.mo_scope.specs.Worlds.{World, Grows, IsFrame, frames_of, table_in};
-ghost use Rattle.mo_typing.specs.Outcome.{Outcome, and_then, Gives};
+ghost use Rattle.mo_syntax.specs.Outcome.{Outcome, and_then};
+ghost use Rattle.mo_typing.specs.Outcome.{Gives};
 ghost use Rattle.mo_eval.specs.Keeping.{IsKept};
 ghost use Rattle.mo_eval.specs.declared.virtuals.Virtual.{Virtual as VirtualAt};
 ghost use Rattle.mo_eval.specs.Virtuals.{Virtual as VirtualSeen, make_each};
@@ -21,11 +22,11 @@ use crate::references::name;
 use crate::virtuals::Virtual;
 use mo_flat::{ArrayExpr, ArrayNode};
 use mo_scope::{ScopeAt, Scopes};
-use mo_syntax::{Expr, Factor, List, Node, Place, RelOp, Stop, Term, Text};
+use mo_syntax::{Expr, Factor, List, Node, Place, RelOp, Stop, Term, Text, broken, rules};
 use mo_typing::shapes::Signed;
+use mo_values::Context;
 use mo_values::layers::answer;
 use mo_values::making::{chosen, made_end, placed, power_of, sum_of};
-use mo_values::{Context, broken};
 use std::alloc::Global;
 
 /// Where an expression is resolved.
@@ -351,9 +352,9 @@ fn resolve_node<'t>(
             at_place(reader.alloc, place, array_of(parts))
         }
         Node::EndMark => at_place(reader.alloc, place, answer(made_end(site.context, place))),
-        Node::Tuple(_) => Err(Stop::Broken(broken(34, place))),
-        Node::ArrayFor(_, _) => Err(Stop::Broken(broken(34, place))),
-        Node::Matrix(_) => Err(Stop::Broken(broken(34, place))),
+        Node::Tuple(_) => Err(Stop::Broken(broken(rules::OUTSIDE_PROFILE, place))),
+        Node::ArrayFor(_, _) => Err(Stop::Broken(broken(rules::OUTSIDE_PROFILE, place))),
+        Node::Matrix(_) => Err(Stop::Broken(broken(rules::OUTSIDE_PROFILE, place))),
         Node::Ref(reference) => {
             let made = name(reader, s, site, place, reference, virtuals);
             at_place(reader.alloc, place, made)

@@ -27,8 +27,7 @@ use crate::subscripts::read_subscripts;
 use mo_flat::Subscript;
 use mo_names::{Found, Reached, enter_component, find_element, stands_for};
 use mo_scope::{Member, Scopes};
-use mo_syntax::{FrameId, List, NoMemory, Part, Place, Stop, Text};
-use mo_values::broken;
+use mo_syntax::{FrameId, List, NoMemory, Part, Place, Stop, Text, broken, rules};
 use mo_values::layers::answer;
 use mo_values::selecting::{selected, within};
 use std::alloc::Global;
@@ -165,11 +164,11 @@ fn standing<'t>(
 {
     match stands_for(alloc, s, &Found::Component(frame, *part), place) {
         Ok(Found::Component(_, member)) => Ok(member),
-        Ok(Found::Class(_, _)) => Err(Stop::Broken(broken(12, place))),
-        Ok(Found::Literal(_, _)) => Err(Stop::Broken(broken(12, place))),
-        Ok(Found::Iteration(_)) => Err(Stop::Broken(broken(12, place))),
-        Ok(Found::Function(_)) => Err(Stop::Broken(broken(12, place))),
-        Ok(Found::Time) => Err(Stop::Broken(broken(12, place))),
+        Ok(Found::Class(_, _)) => Err(Stop::Broken(broken(rules::NAME_NOT_FOUND, place))),
+        Ok(Found::Literal(_, _)) => Err(Stop::Broken(broken(rules::NAME_NOT_FOUND, place))),
+        Ok(Found::Iteration(_)) => Err(Stop::Broken(broken(rules::NAME_NOT_FOUND, place))),
+        Ok(Found::Function(_)) => Err(Stop::Broken(broken(rules::NAME_NOT_FOUND, place))),
+        Ok(Found::Time) => Err(Stop::Broken(broken(rules::NAME_NOT_FOUND, place))),
         Err(stop) => Err(stop),
     }
 }
@@ -189,8 +188,8 @@ fn component_in<'t>(
 {
     match find_element(alloc, s, frame, name, place) {
         Ok(Reached::Element(part)) => standing(alloc, s, place, frame, &part),
-        Ok(Reached::Other(_)) => Err(Stop::Broken(broken(12, place))),
-        Ok(Reached::Absent) => Err(Stop::Broken(broken(12, place))),
+        Ok(Reached::Other(_)) => Err(Stop::Broken(broken(rules::NAME_NOT_FOUND, place))),
+        Ok(Reached::Absent) => Err(Stop::Broken(broken(rules::NAME_NOT_FOUND, place))),
         Err(stop) => Err(stop),
     }
 }

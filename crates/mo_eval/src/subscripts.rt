@@ -3,7 +3,8 @@ ghost use Rattle.std.specs.Prelude.{◌≡◌, ◌<◌, Ok, drop, get_or, length
 ghost use Rattle.mo_flat.specs.declared.array.Subscript.TheVariants.{One};
 ghost use Rattle.std.specs.Option.{option_map};
 ghost use Rattle.mo_scope.specs.Worlds.{Grows, IsFrame, frames_of};
-ghost use Rattle.mo_typing.specs.Outcome.{and_then, Gives};
+ghost use Rattle.mo_syntax.specs.Outcome.{and_then};
+ghost use Rattle.mo_typing.specs.Outcome.{Gives};
 ghost use Rattle.mo_eval.specs.Keeping.{IsKept};
 ghost use Rattle.mo_values.specs.Asked.{must_be_whole};
 ghost use Rattle.mo_eval.specs.References.{numbers_of, read_subscript, read_subscripts};

@@ -2,7 +2,8 @@
 ghost use Rattle.std.specs.Prelude.{◌≡◌, ◌-◌, ◌||◌, IfOk, Some, slice_get};
 ghost use Rattle.mo_scope.specs.Worlds.{Grows, frames_of};
 ghost use Rattle.mo_names.specs.Sights.{IsMember};
-ghost use Rattle.mo_typing.specs.Outcome.{Outcome, Gives};
+ghost use Rattle.mo_syntax.specs.Outcome.{Outcome};
+ghost use Rattle.mo_typing.specs.Outcome.{Gives};
 ghost use Rattle.mo_eval.specs.Keeping.{IsKept};
 ghost use Rattle.mo_values.specs.Scalars.{has_values};
 ghost use Rattle.mo_eval.specs.References.{is_replaced};
@@ -21,8 +22,8 @@ use crate::reading::{Step, mark, unread};
 use crate::virtuals::{Element, Virtual};
 use mo_flat::ArrayExpr;
 use mo_scope::Scopes;
-use mo_syntax::{Broken, NoMemory, Stop};
-use mo_values::{Scalar, Told, broken, has_values};
+use mo_syntax::{Broken, NoMemory, Stop, broken, rules};
+use mo_values::{Scalar, Told, has_values};
 
 /// Whether an element is a constant that is replaced: it has no instance.
 pub(crate) fn is_replaced<'t>(s: &Scopes<'t>, element: &Element<'t>) -> bool
@@ -59,7 +60,7 @@ fn element_known<'t>(
         return Ok(None);
     }
     if left == 0 {
-        return Err(Stop::Broken(broken(29, element.place)));
+        return Err(Stop::Broken(broken(rules::REFERENCE_CHAIN_TOO_LONG, element.place)));
     }
     if let Some(known) = value_kept(reader, left - 1, element) {
         return Ok(known);

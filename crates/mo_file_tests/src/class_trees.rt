@@ -1,6 +1,6 @@
 use mo_syntax::{
     Body, Broken, ClassDef, ClassFlags, ClassKind, ClassTree, FileTree, List, NoMemory, Path,
-    Place, Rule, Stop, Text, class_count,
+    Place, Rule, Stop, Text, class_count, rules,
 };
 use mo_tree::{asked, build};
 use std::alloc::Global;
@@ -87,7 +87,10 @@ fn a_within_names_a_long_class_of_any_file(rt: HostRuntime) -> Result<(), Fail> 
     let found = tree(alloc, ClassKind::Model, "P");
     assert_eq!(rt; found.is_ok(), true);
     let missing = tree(alloc, ClassKind::Model, "Q");
-    assert_eq!(rt; missing.err(), broken(Rule::new(10), 1, 7));
+    assert_eq!(rt;
+        missing.err(),
+        broken(Rule::new(rules::WITHIN_NAMES_NO_CLASS), 1, 7)
+    );
     Ok(())
 }
 

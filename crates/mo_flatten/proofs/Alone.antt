@@ -1,9 +1,9 @@
 -- What is told of a class leaves no choice: what its connects are made of is sound.
 use Rattle.std.proofs.Common.{◌≡◌, ℕ, List, [], ◌∷◌, Ok, Err, refl}
+use Rattle.mo_syntax.specs.Outcome.{Outcome, and_then}
 use Rattle.mo_syntax.specs.declared.class.FileTree.{FileTree}
 use Rattle.mo_flat.specs.declared.connect.Expanded.{Expanded}
 use Rattle.mo_flat.specs.SoundConnects.{IsSoundConnects}
-use Rattle.mo_scope.specs.Outcome.{Outcome, and_then}
 use Rattle.mo_scope.specs.Instances.{Instance}
 use Rattle.mo_scope.specs.Rows.{table_of}
 use Rattle.mo_instance.specs.Instances.{instances_of}

@@ -3,6 +3,7 @@ use Rattle.std.proofs.Common.{◌≡◌, ℕ, ◌<◌, ◌≤◌, inl, inr, ◌�
 use Rattle.std.specs.Prelude.{All}
 use Rattle.std.proofs.lemmas.Bool.{cases_lt}
 use Rattle.std.proofs.Math.Nat.{eq-or-lt_of_le}
+use Rattle.mo_syntax.specs.Outcome.{Outcome}
 use Rattle.mo_syntax.specs.declared.class.FileTree.{FileTree}
 use Rattle.mo_syntax.specs.declared.place.Broken.{Broken}
 use Rattle.mo_syntax.specs.Classes.{ClassRow}
@@ -11,7 +12,6 @@ use Rattle.mo_flat.specs.declared.connect.Connect.{Connect}
 use Rattle.mo_flat.specs.declared.connect.Expanded.{Expanded}
 use Rattle.mo_flat.specs.declared.model.FlatModel.{FlatModel}
 use Rattle.mo_flat.specs.SoundConnects.{IsAt, IsSoundConnects}
-use Rattle.mo_scope.specs.Outcome.{Outcome}
 use Rattle.mo_connect.specs.Alike.{Breaks, left_end, right_end, sizes, leaves, IsConnectable, IsFirstBroken}
 use Rattle.mo_connect.proofs.JoinLemmas.{is-at-same}
 use Rattle.mo_connect.proofs.OneList.{one-list}

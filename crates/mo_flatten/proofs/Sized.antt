@@ -1,6 +1,7 @@
 -- A flat model that is not too large is sound where its parts are.
 use Rattle.std.proofs.Common.{◌≡◌, ℕ, ◌+◌, ◌<◌, ◌≤◌, Bool, true, false, ◌||◌, List, [], ◌∷◌, ◌++◌, flat_map, length, All, Result, Ok, Err, nat_lt, ltb-false, refl, ap, sym, subst, ◌∙◌, if◌then◌else◌}
 use Rattle.std.specs.Prelude.{IfOk}
+use Rattle.mo_syntax.specs.Outcome.{Outcome, breaks}
 use Rattle.mo_syntax.specs.declared.place.Stop.{Stop}
 use Rattle.mo_flat.specs.declared.connect.Connects.{Connects}
 use Rattle.mo_flat.specs.declared.connect.EndLeaf.{EndLeaf}
@@ -10,13 +11,14 @@ use Rattle.mo_flat.specs.declared.model.FlatEquation.{FlatEquation}
 use Rattle.mo_flat.specs.declared.model.FlatModel.{FlatModel}
 use Rattle.mo_flat.specs.Sound.{IsSoundAssert, IsSoundEquation, IsSoundModel, IsSoundVariable}
 use Rattle.mo_flat.specs.SoundConnects.{IsAt}
-use Rattle.mo_scope.specs.Outcome.{Outcome, Gives, breaks}
+use Rattle.mo_scope.specs.Outcome.{Gives}
 use Rattle.mo_connect.specs.Equations.{HasNumericMembers, IsNumericVariable, equations_of}
 use Rattle.mo_connect.specs.Sets.{HasLeaves, IsOfLeaf, leaf, flow}
 use Rattle.mo_flat.specs.Roles.{unknown_numbers}
 use Rattle.mo_equations.specs.Size.{has_too_many, is_too_large, most_bytes, most_equations, most_nodes, most_unknowns, nodes_of}
 use Rattle.mo_equations.specs.Sound.{IsSoundExpansion}
 use Rattle.mo_flatten.specs.Flat.{model_of, within_size}
+use Rattle.mo_syntax.specs.declared.rules.TheConstants.{FLAT_MODEL_TOO_LARGE}
 
 either_false : (a b : Bool) → (a || b) ≡ false → a ≡ false
 either_false false b h = refl
@@ -35,8 +37,8 @@ pub record IsSized (asked m : FlatModel) : Type 0 where
 pub sized : (asked m : FlatModel) → within_size asked ≡ Ok m → IsSized asked m
 sized asked m h = by (is_too_large asked) refl h
   where
-    by : (b : Bool) → is_too_large asked ≡ b → ◌≡◌ {A = Outcome FlatModel} (if b then breaks 41 asked.place else Ok asked) (Ok m) → IsSized asked m
-    by true e k = absurd (let clash : ◌≡◌ {A = Outcome FlatModel} (breaks 41 asked.place) (Ok m) = k in cc)
+    by : (b : Bool) → is_too_large asked ≡ b → ◌≡◌ {A = Outcome FlatModel} (if b then breaks FLAT_MODEL_TOO_LARGE asked.place else Ok asked) (Ok m) → IsSized asked m
+    by true e k = absurd (let clash : ◌≡◌ {A = Outcome FlatModel} (breaks FLAT_MODEL_TOO_LARGE asked.place) (Ok m) = k in cc)
     by false e k = record { same = let one : ◌≡◌ {A = Outcome FlatModel} (Ok asked) (Ok m) = k in cc; few = either_false (has_too_many asked) _ e }
 
 pub sound_model : (result : Result FlatModel Stop) (asked : FlatModel) → Gives (λ m. m) result (within_size asked) → length asked.vars ≤ 400000 →

@@ -5,6 +5,7 @@ use Rattle.std.specs.List.{list_any}
 use Rattle.std.proofs.lemmas.Bool.{eq-eqb}
 use Rattle.mo_syntax.specs.Classes.{ClassRow, Declaration, Declared, Component, Class, Home}
 use Rattle.mo_syntax.specs.ClassTable.{broken_class, class_of_path, declarations, first_row, otherwise, path_eq, path_of}
+use Rattle.mo_syntax.specs.Outcome.{Outcome, and_then, breach}
 use Rattle.mo_syntax.specs.declared.class.FileTree.{FileTree}
 use Rattle.mo_syntax.specs.declared.place.Broken.{Broken}
 use Rattle.mo_syntax.specs.declared.place.Place.{Place}
@@ -17,7 +18,7 @@ use Rattle.mo_flat.specs.declared.connect.FaceSet.{FaceSet}
 use Rattle.mo_flat.specs.declared.model.FlatModel.{FlatModel}
 use Rattle.mo_flat.specs.SoundConnects.{AreDistinct, IsSoundConnects}
 use Rattle.mo_scope.specs.Instances.{Instance}
-use Rattle.mo_scope.specs.Outcome.{Outcome, Gives, and_then, breach}
+use Rattle.mo_scope.specs.Outcome.{Gives}
 use Rattle.mo_instance.specs.Instances.{instances_of}
 use Rattle.mo_scope.specs.Places.{Every}
 use Rattle.mo_scope.specs.Rows.{ClassEntry, Row, entries_of, entry_in, number_among, number_of_classes, row_of, table_of}
@@ -34,6 +35,7 @@ use Rattle.mo_flatten.specs.Flat.{Flattens, Joins, no_class, not_expanded, not_c
 use Rattle.mo_flatten.specs.Told.{Connects, GivesExpanded, HasRow, IfTold, TellsOf}
 use Rattle.mo_flatten.specs.Told.{refuses, joins, stops, goes_on}
 use Rattle.mo_flatten.proofs.Past.{past_stays_past}
+use Rattle.mo_syntax.specs.declared.rules.TheConstants.{FLAT_MODEL_TOO_LARGE}
 
 pub if_told : (result : Result FlatModel Stop) (P Q : Outcome FlatModel → Type 0) → ((told : Outcome FlatModel) → P told → Q told) → IfTold result P → IfTold result Q
 if_told (Ok m) P Q f h = f (Ok m) h
@@ -180,7 +182,7 @@ pub sets_stop : (e : Expanded) (list : List Connect) (stop : Stop) → list ≡ 
 sets_stop e list (broken_by broken) same first = refuses broken (subst (λ (l : List Connect). IsFirstStop l (broken_by broken)) same first) refl
 sets_stop e list no_memory same first = tt
 
-pub too_large_told : (e : Expanded) (sets : List FaceSet) (place : Place) (stop : Stop) → place ≡ e.place → is_past e ≡ true → stop ≡ broken_by (breach 41 place) →
+pub too_large_told : (e : Expanded) (sets : List FaceSet) (place : Place) (stop : Stop) → place ≡ e.place → is_past e ≡ true → stop ≡ broken_by (breach FLAT_MODEL_TOO_LARGE place) →
     All IsConnectable e.connects.list → AreConnectionSets e.connects sets → IfTold (Err stop) (Connects e)
 too_large_told e sets place stop same past is connectable are =
     subst (λ (s : Stop). IfTold (Err s) (Connects e)) (sym is)
@@ -188,7 +190,7 @@ too_large_told e sets place stop same past is connectable are =
       connectable = connectable;
       sets = sets;
       are = are;
-      is = ap (λ (p : Place). Err (breach 41 p)) same ∙ sym (rw (past_stays_past e sets past) refl);
+      is = ap (λ (p : Place). Err (breach FLAT_MODEL_TOO_LARGE p)) same ∙ sym (rw (past_stays_past e sets past) refl);
     }))
 
 pub joins_told : (result : Result FlatModel Stop) (e : Expanded) (sets : List FaceSet) → All IsConnectable e.connects.list → AreConnectionSets e.connects sets →

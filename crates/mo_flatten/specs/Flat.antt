@@ -2,6 +2,7 @@
 --
 -- The phases come in this order: the asked class; its instances; variables and equations; connections; the size of the flat model.
 use Rattle.std.specs.Prelude.{◌≡◌, ℕ, true, List, ◌++◌, flat_map, All, Some, None, Ok, Err, if◌then◌else◌}
+use Rattle.mo_syntax.specs.Outcome.{Outcome, and_then, breaks}
 use Rattle.mo_syntax.specs.declared.class.FileTree.{FileTree}
 use Rattle.mo_syntax.specs.declared.place.Broken.{Broken}
 use Rattle.mo_syntax.specs.Classes.{ClassRow}
@@ -9,7 +10,6 @@ use Rattle.mo_syntax.specs.ClassTable.{class_of_path, broken_class}
 use Rattle.mo_flat.specs.declared.connect.Expanded.{Expanded}
 use Rattle.mo_flat.specs.declared.connect.FaceSet.{FaceSet}
 use Rattle.mo_flat.specs.declared.model.FlatModel.{FlatModel}
-use Rattle.mo_scope.specs.Outcome.{Outcome, and_then, breaks}
 use Rattle.mo_scope.specs.Rows.{table_of}
 use Rattle.mo_instance.specs.Instances.{instances_of}
 use Rattle.mo_connect.specs.Alike.{IsConnectable, IsFirstBroken}
@@ -17,6 +17,7 @@ use Rattle.mo_connect.specs.Equations.{equations_of}
 use Rattle.mo_connect.specs.Sets.{AreConnectionSets}
 use Rattle.mo_equations.specs.Expansion.{expansion_of}
 use Rattle.mo_equations.specs.Size.{is_past, is_too_large}
+use Rattle.mo_syntax.specs.declared.rules.TheConstants.{FLAT_MODEL_TOO_LARGE}
 
 -- ---- instances, variables and equations
 
@@ -44,7 +45,7 @@ model_of e sets = record {
 
 -- rule 41 at the name of the class
 abbrev pub within_size : FlatModel → Outcome FlatModel
-within_size m = if is_too_large m then breaks 41 m.place else Ok m
+within_size m = if is_too_large m then breaks FLAT_MODEL_TOO_LARGE m.place else Ok m
 
 -- The flat model with these connection sets, if its connects break no rule.
 pub record Joins (e : Expanded) (told : Outcome FlatModel) : Type 0 where

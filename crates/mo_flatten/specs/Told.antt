@@ -1,12 +1,12 @@
 -- What the calls that flatten a class answer.
 use Rattle.std.specs.Prelude.{◌≡◌, ℕ, List, Some, Result, Ok, Err}
+use Rattle.mo_syntax.specs.Outcome.{Outcome}
 use Rattle.mo_syntax.specs.declared.class.FileTree.{FileTree}
 use Rattle.mo_syntax.specs.declared.place.Broken.{Broken}
 use Rattle.mo_syntax.specs.declared.place.Stop.{Stop}
 use Rattle.mo_syntax.specs.declared.place.Stop.TheVariants.{Broken as broken_by, NoMemory as no_memory}
 use Rattle.mo_flat.specs.declared.connect.Expanded.{Expanded}
 use Rattle.mo_flat.specs.declared.model.FlatModel.{FlatModel}
-use Rattle.mo_scope.specs.Outcome.{Outcome}
 use Rattle.mo_scope.specs.Rows.{Table, Row, row_at}
 use Rattle.mo_connect.specs.Alike.{IsFirstBroken}
 use Rattle.mo_equations.specs.Counted.{IsExpansion}

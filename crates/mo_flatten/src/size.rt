@@ -1,14 +1,16 @@
 //! The size of a flat model: its unknowns, its equations, the nodes of its expressions and the bytes of its text.
 ghost use Rattle.std.specs.Prelude.{◌≡◌, ◌^◌, ◌-◌, Some, length, min, option_copied, sum_by};
+ghost use Rattle.mo_syntax.specs.Outcome.{breach};
 ghost use Rattle.mo_syntax.specs.declared.place.Stop.TheVariants.{Broken as broken_by};
 ghost use Rattle.mo_flat.specs.Nodes.{node_count};
 ghost use Rattle.mo_flat.specs.Roles.{is_unknown_role, unknown_numbers};
-ghost use Rattle.mo_scope.specs.Outcome.{Gives, breach};
+ghost use Rattle.mo_scope.specs.Outcome.{Gives};
 ghost use Rattle.mo_equations.specs.Size.{has_too_many as has_more, nodes_of, nodes_of_assert, nodes_of_binding, nodes_of_equation, nodes_of_option, nodes_of_variable};
 ghost use Rattle.mo_flatten.specs.Flat.{within_size as sized};
+ghost use Rattle.mo_syntax.specs.declared.rules.TheConstants.{FLAT_MODEL_TOO_LARGE};
 
 use mo_flat::{FlatAssert, FlatEquation, FlatExpr, FlatModel, FlatVar, flat_nodes};
-use mo_syntax::{Broken, Place, Role, Rule, Stop};
+use mo_syntax::{Place, Role, Stop, rules, stop};
 use mo_text_size::text_bytes;
 
 /// The most unknowns of a flat model.
@@ -38,12 +40,9 @@ pub(crate) fn within_size(m: FlatModel) -> Result<FlatModel, Stop>
 
 /// The flat model of the class whose name stands there is too large.
 pub(crate) fn too_large(place: Place) -> Stop
-    ensures { result ≡ broken_by (breach 41 place) }
+    ensures { result ≡ broken_by (breach FLAT_MODEL_TOO_LARGE place) }
 {
-    Stop::Broken(Broken {
-        rule: Rule::new(41),
-        place,
-    })
+    stop(rules::FLAT_MODEL_TOO_LARGE, place)
 }
 
 /// Whether there are more unknowns, equations or nodes than a flat model may have.

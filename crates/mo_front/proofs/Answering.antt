@@ -1,6 +1,7 @@
 -- From what each step finds to what is told.
 use Rattle.std.proofs.Common.{◌≡◌, ◌+◌, ◌-◌, ℕ, Bool, true, false, if◌then◌else◌, List, [], ◌∷◌, length, Option, Some, None, unwrap_or, IfSome, Result, Ok, Err, IfOk, refl, ap, sym, ◌∙◌, subst}
 use Rattle.std.specs.Prelude.{nat_lt}
+use Rattle.mo_syntax.specs.Outcome.{IfBroken}
 use Rattle.mo_syntax.specs.declared.class.FileTree.{FileTree}
 use Rattle.mo_syntax.specs.declared.place.Broken.{Broken}
 use Rattle.mo_syntax.specs.declared.place.NoMemory.{NoMemory}
@@ -10,7 +11,6 @@ use Rattle.mo_syntax.specs.ClassTable.{broken_tree}
 use Rattle.mo_syntax.specs.Lexeme.{Lexeme}
 use Rattle.mo_flat.specs.declared.model.FlatModel.{FlatModel}
 use Rattle.mo_flatten.specs.Told.{Tells as TellsFlat}
-use Rattle.mo_lexer.specs.Lexing.{IfBroken}
 use Rattle.mo_ports.specs.Contents.{Contents}
 use Rattle.mo_front.specs.declared.load.Unread.TheVariants.{Refused}
 use Rattle.mo_front.specs.declared.status.Status.{Status}

@@ -1,16 +1,16 @@
 -- From a right report to what is written of a model.
 use Rattle.std.proofs.Common.{◌≡◌, ℕ, Bool, true, false, List, [], ◌∷◌, length, map, Option, Some, None, Result, Ok, Err, IfOk, IfSome, if◌then◌else◌, refl, ap, sym, ◌∙◌, subst, arith}
 use Rattle.std.specs.Prelude.{MatchOption, nat_le}
+use Rattle.mo_syntax.specs.Outcome.{IfBroken, IfBroken as IfReducedBroken}
 use Rattle.mo_syntax.specs.declared.place.Broken.{Broken}
 use Rattle.mo_syntax.specs.declared.place.Place.{Place}
 use Rattle.mo_syntax.specs.declared.place.Stop.{Stop}
 use Rattle.mo_syntax.specs.declared.place.Stop.TheVariants.{Broken as broken_by, NoMemory as no_memory}
-use Rattle.mo_lexer.specs.Lexing.{IfBroken}
 use Rattle.mo_flat.specs.declared.model.FlatEquation.{FlatEquation}
 use Rattle.mo_flat.specs.declared.model.FlatModel.{FlatModel}
 use Rattle.mo_symdiff.specs.declared.reduced_model.Reduced.{Reduced}
 use Rattle.mo_symdiff.specs.Reduced.{IsWithin, first_given, reduced_lines, reduced_text, too_large}
-use Rattle.mo_symdiff.specs.Refusal.{of_given, IfBroken as IfReducedBroken}
+use Rattle.mo_symdiff.specs.Refusal.{of_given}
 use Rattle.mo_incidence.specs.declared.findings.Offsets.{Offsets}
 use Rattle.mo_incidence.specs.Model.{incidence_of, refusal_of, row_of}
 use Rattle.mo_incidence.specs.Signature.{equations}

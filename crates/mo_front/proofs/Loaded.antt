@@ -14,6 +14,7 @@ use Rattle.mo_front.specs.Loading.{IsLine, IsTextOf, RefusesBytes, RefusesFile, 
 use Rattle.mo_front.specs.Refusal.{refusal_line}
 use Rattle.mo_front.specs.Run.{IsNamedFault}
 use Rattle.mo_front.specs.Told.{bytes_of_all, line_of_broken}
+use Rattle.mo_syntax.specs.declared.rules.TheConstants.{NOT_UTF_8, FILE_TOO_LONG}
 
 -- ---- one file
 
@@ -33,10 +34,10 @@ text-within items bytes left limit (Ok t) is are short given = subst (λ (x : Li
 
 refused-bytes : (contents : Contents) (k left : ℕ) (name bytes : List ℕ) (u : Unread) → contents name ≡ Some bytes → length bytes ≤ min file_limit left → RefusesBytes k name bytes u → RefusesFile contents k left name u
 refused-bytes contents k left name bytes (Refused line) holds short refuses = record {
-  b = breaks_at 2 k (utf8_valid_len bytes);
+  b = breaks_at NOT_UTF_8 k (utf8_valid_len bytes);
   breaks = not_utf8 bytes holds short refuses.0 refl;
   at = refl;
-  is = refuses.1 ∙ ap (λ (x : List ℕ). refusal_line name x (breaks_at 2 k (utf8_valid_len bytes))) (sym (ap (λ (o : Option (List ℕ)). unwrap_or o []) holds));
+  is = refuses.1 ∙ ap (λ (x : List ℕ). refusal_line name x (breaks_at NOT_UTF_8 k (utf8_valid_len bytes))) (sym (ap (λ (o : Option (List ℕ)). unwrap_or o []) holds));
 }
 refused-bytes contents k left name bytes Fault holds short refuses = tt
 refused-bytes contents k left name bytes NoMemory holds short refuses = tt
@@ -49,9 +50,9 @@ bytes-refused (Some contents) name bytes items k left limit (Err u) is are holds
     refused-bytes contents k left name bytes u holds (subst (λ (n : ℕ). length bytes ≤ n) is short) (subst (λ (x : List ℕ). RefusesBytes k name x u) are given)
 
 refused-long : (contents : Contents) (k left limit : ℕ) (name : List ℕ) (u : Unread) (o : Option (List ℕ)) → contents name ≡ o → limit ≡ min file_limit left → IsSomeAnd o (λ bytes. limit < length bytes)
-    → IsLine (breaks_at 1 k 0) name [] u → RefusesFile contents k left name u
+    → IsLine (breaks_at FILE_TOO_LONG k 0) name [] u → RefusesFile contents k left name u
 refused-long contents k left limit name (Refused line) (Some bytes) held is long line_is = record {
-  b = breaks_at 1 k 0;
+  b = breaks_at FILE_TOO_LONG k 0;
   breaks = too_long bytes held (subst (λ (n : ℕ). n < length bytes) is long) refl;
   at = refl;
   is = line_is;
@@ -61,7 +62,7 @@ refused-long contents k left limit name Fault o held is long line_is = tt
 refused-long contents k left limit name NoMemory o held is long line_is = tt
 
 pub long-refused : (told : Option Contents) (k left limit : ℕ) (name : List ℕ) (u : Unread) → limit ≡ min file_limit left → IfSome told (λ contents. IsSomeAnd (contents name) (λ bytes. limit < length bytes))
-    → IsLine (breaks_at 1 k 0) name [] u → IfSome told (λ contents. RefusesFile contents k left name u)
+    → IsLine (breaks_at FILE_TOO_LONG k 0) name [] u → IfSome told (λ contents. RefusesFile contents k left name u)
 long-refused None k left limit name u is long line_is = tt
 long-refused (Some contents) k left limit name u is long line_is = refused-long contents k left limit name u (contents name) refl is long line_is
 

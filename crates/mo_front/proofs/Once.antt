@@ -28,6 +28,7 @@ use Rattle.mo_front.specs.Limits.{file_limit, all_files_limit}
 use Rattle.mo_syntax.specs.ClassTable.{broken_tree}
 use Rattle.mo_flatten.proofs.Alone.{flattens_alone}
 use Rattle.mo_front.specs.Told.{Outcome, flat, broken, TreesGive, no_tree, not_flattened, flattened, TextsGive, no_tokens, no_trees, trees, FilesGive, unread, read}
+use Rattle.mo_syntax.specs.declared.rules.TheConstants.{NOT_UTF_8}
 
 is_some : {A : Type 0} (a b : A) → Some a ≡ Some b → a ≡ b
 is_some a b e = cc
@@ -66,7 +67,7 @@ module _ (contents : Contents) where
       let short : length bytes ≤ min file_limit left = subst (λ x. length x ≤ min file_limit left) same within in
       absurd (omega (arith, past, short))
   one_break k left name b c (not_utf8 bytes holds within wrong is) (not_utf8 others holds' within' wrong' is') =
-      is ∙ ap (λ x. breaks_at 2 k (utf8_valid_len x)) (is_some bytes others (sym holds ∙ holds')) ∙ sym is'
+      is ∙ ap (λ x. breaks_at NOT_UTF_8 k (utf8_valid_len x)) (is_some bytes others (sym holds ∙ holds')) ∙ sym is'
 
   moved : (k left : ℕ) (names : List (List ℕ)) (r : Result (List (List ℕ)) Broken) (bytes other : List ℕ) → bytes ≡ other → Reads contents (k + 1) (left - length bytes) names r → Reads contents (k + 1) (left - length other) names r
   moved k left names r bytes other same more = subst (λ x. Reads contents (k + 1) (left - length x) names r) same more

@@ -2,14 +2,16 @@
 use Rattle.std.proofs.Common.{◌≡◌, ◌<◌, ◌+◌, ℕ, zero, suc, List, [], ◌∷◌, ◌++◌, map, length, drop, get_or, Result, Ok, Err, All, refl, ap, sym, ◌∙◌, subst, append_assoc, append-nil, arith}
 use Rattle.std.proofs.lemmas.List.{drop_more, map-append}
 use Rattle.std.proofs.lemmas.List.Elements.{All-append}
+use Rattle.mo_syntax.specs.Outcome.{IfBroken}
 use Rattle.mo_syntax.specs.declared.place.Broken.{Broken}
 use Rattle.mo_syntax.specs.declared.place.Stop.{Stop}
 use Rattle.mo_syntax.specs.declared.place.Stop.TheVariants.{Broken as broken_by, NoMemory as no_memory}
 use Rattle.mo_syntax.specs.Lexeme.{Lexeme}
-use Rattle.mo_lexer.specs.Lexing.{IfBroken, Lexes, end_of}
+use Rattle.mo_lexer.specs.Lexing.{Lexes, end_of}
 use Rattle.mo_parse_class.specs.WholeFiles.{EndsAtEnd, IsAtImpossible, IsFirstImpossible}
 use Rattle.mo_front.specs.Files.{Each, none, broken, given, later}
 use Rattle.mo_front.specs.Loading.{More}
+use Rattle.mo_syntax.specs.declared.rules.TheConstants.{FILE_TOO_LONG}
 
 module _ {A B : Type 0} (gives : ℕ → A → B → Type 0) (breaks : ℕ → A → Broken → Type 0) where
   pub more-given : (all : List A) (gathered new : List B) (k next : ℕ) (x : A) (rest after : List A) (y : B) → More gives breaks all gathered k rest → rest ≡ x ∷ after → gives k x y
@@ -17,14 +19,14 @@ module _ {A B : Type 0} (gives : ℕ → A → B → Type 0) (breaks : ℕ → A
   more-given all gathered new k next x rest after y more is gave pushed one = rw (pushed, one) go
     where
       go : More gives breaks all (gathered ++ y ∷ []) (k + 1) after
-      go (Ok ys) e = subst (λ (zs : List B). Each gives breaks 1 all (Ok zs)) (sym (append_assoc gathered (y ∷ []) ys)) (more (Ok (y ∷ ys)) (rw is (given gave e)))
+      go (Ok ys) e = subst (λ (zs : List B). Each gives breaks FILE_TOO_LONG all (Ok zs)) (sym (append_assoc gathered (y ∷ []) ys)) (more (Ok (y ∷ ys)) (rw is (given gave e)))
       go (Err b) e = more (Err b) (rw is (later y gave e))
 
-  pub more-broken : (all : List A) (gathered : List B) (k : ℕ) (x : A) (rest after : List A) (b : Broken) → More gives breaks all gathered k rest → rest ≡ x ∷ after → breaks k x b → Each gives breaks 1 all (Err b)
+  pub more-broken : (all : List A) (gathered : List B) (k : ℕ) (x : A) (rest after : List A) (b : Broken) → More gives breaks all gathered k rest → rest ≡ x ∷ after → breaks k x b → Each gives breaks FILE_TOO_LONG all (Err b)
   more-broken all gathered k x rest after b more is breaks_it = more (Err b) (rw is (broken breaks_it))
 
-  pub more-ended : (all : List A) (gathered : List B) (k : ℕ) (rest : List A) → More gives breaks all gathered k rest → rest ≡ [] → Each gives breaks 1 all (Ok gathered)
-  more-ended all gathered k rest more is = subst (λ (zs : List B). Each gives breaks 1 all (Ok zs)) (append-nil gathered) (more (Ok []) (rw is none))
+  pub more-ended : (all : List A) (gathered : List B) (k : ℕ) (rest : List A) → More gives breaks all gathered k rest → rest ≡ [] → Each gives breaks FILE_TOO_LONG all (Ok gathered)
+  more-ended all gathered k rest more is = subst (λ (zs : List B). Each gives breaks FILE_TOO_LONG all (Ok zs)) (append-nil gathered) (more (Ok []) (rw is none))
 
 pub refused-as : {T : Type 0} (U : Type 0) (r : Result T Stop) (s : Stop) (P Q : Broken → Type 0) → r ≡ Err s → IfBroken r P → ((b : Broken) → P b → Q b) → IfBroken {T = U} (Err s) Q
 refused-as {T} U r s P Q is p f = at s (rw is at p)

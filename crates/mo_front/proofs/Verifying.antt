@@ -2,15 +2,16 @@
 use Rattle.std.proofs.Common.{◌≡◌, ◌+◌, ◌<◌, ◌≤◌, ℕ, List, [], ◌∷◌, ◌++◌, length, Option, Some, None, IfSome, IsSomeAnd, Result, Ok, Err, IfOk, OnOk, refl, ap, sym, ◌∙◌, subst}
 use Rattle.std.specs.Prelude.{nat_lt}
 use Rattle.std.proofs.lemmas.List.Elements.{Contains-append_left, Contains-push}
+use Rattle.mo_syntax.specs.Outcome.{IfBroken}
 use Rattle.mo_syntax.specs.declared.place.Broken.{Broken}
 use Rattle.mo_syntax.specs.declared.place.NoMemory.{NoMemory as memory_refused}
 use Rattle.mo_syntax.specs.declared.place.Stop.{Stop}
 use Rattle.mo_syntax.specs.declared.place.Stop.TheVariants.{Broken as broken_by, NoMemory as no_memory}
-use Rattle.mo_lexer.specs.Lexing.{IfBroken}
 use Rattle.mo_flat.specs.declared.model.FlatModel.{FlatModel}
 use Rattle.mo_incidence.specs.Model.{refusal_of}
 use Rattle.mo_ports.specs.Contents.{Contents}
 use Rattle.mo_incidence.specs.declared.findings.Offsets.{Offsets}
+use Rattle.mo_syntax.specs.declared.rules.TheConstants.{FILE_TOO_LONG}
 use Rattle.mo_verify.specs.declared.verdict.Verdict.{Verdict}
 use Rattle.mo_verify.specs.declared.verdict.Verdict.TheVariants as said
 use Rattle.mo_front.specs.declared.load.Unread.{Unread}
@@ -106,14 +107,14 @@ verdict-answers path names texts bytes status line (refuses b breaks is line_is)
 -- ---- reading
 
 refused-long : (contents : Contents) (k : ℕ) (name : List ℕ) (u : Unread) (o : Option (List ℕ)) → contents name ≡ o → IsSomeAnd o (λ bytes. printed_limit < length bytes)
-    → IsLine (breaks_at 1 k 0) name [] u → RefusesReport contents k name u
+    → IsLine (breaks_at FILE_TOO_LONG k 0) name [] u → RefusesReport contents k name u
 refused-long contents k name (Refused line) (Some bytes) held long line_is = record { bytes = bytes; holds = held; past = long; is = line_is }
 refused-long contents k name (Refused line) None held long line_is = absurd long
 refused-long contents k name Fault o held long line_is = tt
 refused-long contents k name NoMemory o held long line_is = tt
 
 pub report-long : (told : Option Contents) (k : ℕ) (name : List ℕ) (u : Unread) → IfSome told (λ contents. IsSomeAnd (contents name) (λ bytes. printed_limit < length bytes))
-    → IsLine (breaks_at 1 k 0) name [] u → IfSome told (λ contents. RefusesReport contents k name u)
+    → IsLine (breaks_at FILE_TOO_LONG k 0) name [] u → IfSome told (λ contents. RefusesReport contents k name u)
 report-long None k name u long line_is = tt
 report-long (Some contents) k name u long line_is = refused-long contents k name u (contents name) refl long line_is
 
@@ -133,7 +134,7 @@ files-refused (Some contents) names report u was = files-refused-first contents 
 report-refused-last : (contents : Contents) (names texts : List (List ℕ)) (report : List ℕ) (k : ℕ) (u : Unread) → k ≡ length names + 1 → Reads contents 1 all_files_limit names (Ok texts)
     → RefusesReport contents k report u → RefusesReadingAll contents names report u
 report-refused-last contents names texts report k (Refused line) number reads was =
-    of_report (breaks_at 1 k 0) (record { texts = texts; bytes = was.bytes; reads = reads; holds = was.holds; past = was.past; is = ap (λ (n : ℕ). breaks_at 1 n 0) number }) was.is
+    of_report (breaks_at FILE_TOO_LONG k 0) (record { texts = texts; bytes = was.bytes; reads = reads; holds = was.holds; past = was.past; is = ap (λ (n : ℕ). breaks_at FILE_TOO_LONG n 0) number }) was.is
 report-refused-last contents names texts report k Fault number reads was = tt
 report-refused-last contents names texts report k NoMemory number reads was = tt
 

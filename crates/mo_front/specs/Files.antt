@@ -11,6 +11,7 @@ use Rattle.mo_grammar.specs.Language.{whole_limits, Spells}
 use Rattle.mo_parse_class.specs.WholeFiles.{IsAtImpossible}
 use Rattle.mo_ports.specs.Contents.{Contents}
 use Rattle.mo_front.specs.Limits.{file_limit}
+use Rattle.mo_syntax.specs.declared.rules.TheConstants.{FILE_TOO_LONG, NOT_UTF_8}
 
 -- a rule at that byte of a file
 abbrev pub breaks_at : ℕ → ℕ → ℕ → Broken
@@ -25,8 +26,8 @@ pub record IsText (contents : Contents) (left : ℕ) (name text : List ℕ) : Ty
 -- The named file, which has the number k, breaks a rule: past a limit rule 1 at its first byte, otherwise, where it is no
 -- UTF-8, rule 2 behind its longest valid front.
 pub data BreaksFile (contents : Contents) (k left : ℕ) (name : List ℕ) (b : Broken) : Type 0 where
-  too_long : (bytes : List ℕ) → contents name ≡ Some bytes → min file_limit left < length bytes → b ≡ breaks_at 1 k 0 → BreaksFile contents k left name b
-  not_utf8 : (bytes : List ℕ) → contents name ≡ Some bytes → length bytes ≤ min file_limit left → (IsUtf8 bytes → ⊥) → b ≡ breaks_at 2 k (utf8_valid_len bytes) → BreaksFile contents k left name b
+  too_long : (bytes : List ℕ) → contents name ≡ Some bytes → min file_limit left < length bytes → b ≡ breaks_at FILE_TOO_LONG k 0 → BreaksFile contents k left name b
+  not_utf8 : (bytes : List ℕ) → contents name ≡ Some bytes → length bytes ≤ min file_limit left → (IsUtf8 bytes → ⊥) → b ≡ breaks_at NOT_UTF_8 k (utf8_valid_len bytes) → BreaksFile contents k left name b
 
 -- Reading the files of these names, the first of which has the number k, where so many bytes are left of the limit of all
 -- files. Nothing is told of an absent file.

@@ -15,6 +15,7 @@ use Rattle.mo_front.specs.declared.words.Emit.TheVariants as emit
 use Rattle.mo_front.specs.Told.{Breaks, TellsOf, TextsGive, bytes_of_all, flat, line_of_broken}
 use Rattle.mo_front.specs.Refusal.{refusal_line}
 use Rattle.mo_front.specs.Verified.{IsJudged, IsTooLong}
+use Rattle.mo_syntax.specs.declared.rules.TheConstants.{NOT_UTF_8, FILE_TOO_LONG}
 
 -- the line of a broken rule in a file of that name with these bytes, where memory suffices
 abbrev pub IsLine : Broken → List ℕ → List ℕ → Unread → Type 0
@@ -28,7 +29,7 @@ IsTextOf bytes text = (text ≡ bytes) × IsUtf8 bytes
 
 -- the bytes of a file are no UTF-8, and the line names rule 2 behind their longest valid front
 abbrev pub RefusesBytes : ℕ → List ℕ → List ℕ → Unread → Type 0
-RefusesBytes file name bytes (Refused line) = (IsUtf8 bytes → ⊥) × (line ≡ refusal_line name bytes (breaks_at 2 file (utf8_valid_len bytes)))
+RefusesBytes file name bytes (Refused line) = (IsUtf8 bytes → ⊥) × (line ≡ refusal_line name bytes (breaks_at NOT_UTF_8 file (utf8_valid_len bytes)))
 RefusesBytes file name bytes Fault = ⊥
 RefusesBytes file name bytes NoMemory = Unit {0}
 
@@ -55,7 +56,7 @@ pub record IsLongReport (contents : Contents) (k : ℕ) (name line : List ℕ) :
   pub bytes : List ℕ
   pub holds : contents name ≡ Some bytes
   pub past : printed_limit < length bytes
-  pub is : line ≡ refusal_line name bytes (breaks_at 1 k 0)
+  pub is : line ≡ refusal_line name bytes (breaks_at FILE_TOO_LONG k 0)
 
 abbrev pub RefusesReport : Contents → ℕ → List ℕ → Unread → Type 0
 RefusesReport contents k name (Refused line) = IsLongReport contents k name line
@@ -100,7 +101,7 @@ behind_values ys (Err b) = Err b
 
 -- what comes of the files that are left comes of all files, behind what was gathered
 abbrev pub More : {A B : Type 0} → (ℕ → A → B → Type 0) → (ℕ → A → Broken → Type 0) → List A → List B → ℕ → List A → Type 0
-More {A} {B} gives breaks all gathered k rest = (r : Result (List B) Broken) → Each gives breaks k rest r → Each gives breaks 1 all (behind_values gathered r)
+More {A} {B} gives breaks all gathered k rest = (r : Result (List B) Broken) → Each gives breaks k rest r → Each gives breaks FILE_TOO_LONG all (behind_values gathered r)
 
 abbrev pub MoreFiles : Contents → List (List ℕ) → List (List ℕ) → ℕ → ℕ → List (List ℕ) → Type 0
 MoreFiles contents names gathered k left rest =

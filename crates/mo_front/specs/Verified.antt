@@ -5,6 +5,7 @@ use Rattle.mo_flat.specs.declared.model.FlatModel.{FlatModel}
 use Rattle.mo_incidence.specs.Model.{refusal_of}
 use Rattle.mo_ports.specs.Contents.{Contents}
 use Rattle.mo_incidence.specs.declared.findings.Offsets.{Offsets}
+use Rattle.mo_syntax.specs.declared.rules.TheConstants.{FILE_TOO_LONG}
 use Rattle.mo_verify.specs.declared.verdict.Verdict.{Verdict}
 use Rattle.mo_verify.specs.declared.verdict.Verdict.TheVariants as said
 use Rattle.mo_verify.specs.Verdict.{IsVerdict}
@@ -71,7 +72,7 @@ pub record IsTooLong (names : List (List ℕ)) (report : List ℕ) (contents : C
   pub reads : Reads contents 1 all_files_limit names (Ok texts)
   pub holds : contents report ≡ Some bytes
   pub past : printed_limit < length bytes
-  pub is : b ≡ breaks_at 1 (length names + 1) 0
+  pub is : b ≡ breaks_at FILE_TOO_LONG (length names + 1) 0
 
 -- ---- what is told
 

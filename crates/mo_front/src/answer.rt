@@ -1,7 +1,7 @@
 //! What files give, asked for a class.
 ghost use Rattle.std.specs.Prelude.{◌≤◌, length, IfOk, All};
+ghost use Rattle.mo_syntax.specs.Outcome.{IfBroken};
 ghost use Rattle.mo_syntax.specs.SoundTree.{IsSoundTree};
-ghost use Rattle.mo_lexer.specs.Lexing.{IfBroken};
 ghost use Rattle.mo_flat.specs.Sound.{IsSoundModel};
 ghost use Rattle.mo_front.specs.Limits.{file_limit, most_files};
 ghost use Rattle.mo_front.specs.Told.{TreesGive, TextsGive, flat as flattens, broken};

@@ -1,6 +1,5 @@
 //! What is written of a flat model.
 ghost use Rattle.std.specs.Prelude.{◌≡◌, ◌≢◌, ◌++◌, Some, None, flat_map, nat_le, string_bytes, IfOk, IfSome, OnOk};
-ghost use Rattle.mo_lexer.specs.Lexing.{IfBroken};
 ghost use Rattle.mo_flat.specs.Sound.{IsSoundModel};
 ghost use Rattle.mo_flat.specs.Text.{model_text};
 ghost use Rattle.mo_incidence.specs.Model.{incidence_of, refusal_of};
@@ -14,6 +13,7 @@ ghost use Rattle.mo_front.specs.States.{selected_lines};
 ghost use Rattle.mo_front.specs.Least.{IsLeastOf};
 ghost use Rattle.mo_front.specs.Structure.{IsFoundOf};
 ghost use Rattle.mo_front.specs.Emitted.{IsReported, IsTextOf, IsTextOfAliases, PhaseBreaks, PhasesBreak, ReducedBreaks, Refuses, Selects, Writes, asked_by, derivatives_size, least_status, part_text, reduced_part, reduced_status, status_of};
+ghost use Rattle.mo_syntax.specs.Outcome.{IfBroken};
 
 use crate::states::selection_of;
 use crate::status::Status;
@@ -27,7 +27,7 @@ use mo_json::report_json;
 use mo_report::{Report, report_fits, report_text};
 use mo_select::{Selection, selection_text};
 use mo_symdiff::{reduced, reduced_text};
-use mo_syntax::{Broken, NoMemory, Rule, Stop, Text};
+use mo_syntax::{NoMemory, Stop, Text, rules, stop};
 use std::alloc::Global;
 
 /// What is written of a sound flat model and the status, or the first rule that a phase breaks: the incidence, then the size of
@@ -286,10 +286,7 @@ fn fits(m: &FlatModel, least: &Option<Offsets>) -> bool
 fn too_large(m: &FlatModel) -> Stop
     ensures { result ≡ Stop.Broken (too_large m.now) }
 {
-    Stop::Broken(Broken {
-        rule: Rule::new(44),
-        place: m.place,
-    })
+    stop(rules::RESULT_TOO_LARGE, m.place)
 }
 
 /// The texts, one behind the other.

@@ -1,9 +1,9 @@
 //! What is told of a ladder.
 ghost use Rattle.std.specs.Prelude.{◌≡◌, ◌∷◌, [], ◌≤◌, length, IfOk, All};
-ghost use Rattle.mo_lexer.specs.Lexing.{IfBroken};
 ghost use Rattle.mo_front.specs.Ladder.{SumsUpGiven, TellsLadder, ladder_names, ladder_path, ladder_texts};
 ghost use Rattle.mo_front.specs.Limits.{file_limit, most_files};
 ghost use Rattle.mo_front.specs.Told.{Breaks, TextsGive, line_of_broken};
+ghost use Rattle.mo_syntax.specs.Outcome.{IfBroken};
 
 use crate::answer::of_texts;
 use crate::program::{bytes_of, line_of};

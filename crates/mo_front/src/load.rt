@@ -9,7 +9,7 @@ ghost use Rattle.mo_front.specs.Run.{IsNamedFault};
 
 use crate::refusal::refusal_text;
 use mo_ports::{ReadStop, Shelf, read_all};
-use mo_syntax::{Broken, List, NoMemory, Place, Rule, Text};
+use mo_syntax::{List, NoMemory, Place, Text, broken};
 use std::alloc::Global;
 
 /// The most bytes that a file may have.
@@ -122,10 +122,7 @@ pub(crate) fn refused(
     requires high { rule ≤ 46 }
     ensures { IsLine (breaks_at rule file byte) name.now bytes.now result }
 {
-    let broken = Broken {
-        rule: Rule::new(rule),
-        place: Place { file, byte },
-    };
+    let broken = broken(rule, Place { file, byte });
     match refusal_text(alloc, name, bytes, broken) {
         Ok(line) => Unread::Refused(List::from_vec(line)),
         Err(_) => Unread::NoMemory,

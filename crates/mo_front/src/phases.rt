@@ -1,9 +1,9 @@
 //! The tokens and the trees of files, file by file.
 ghost use Rattle.std.specs.Prelude.{◌≡◌, ◌<◌, ◌^◌, ◌-◌, Ok as Yes, Err as No, length, map, IfOk, All};
 ghost use Rattle.mo_syntax.specs.Lexeme.{lexemes};
-ghost use Rattle.mo_lexer.specs.Lexing.{IfBroken};
 ghost use Rattle.mo_parse_class.specs.WholeFiles.{EndsAtEnd};
 ghost use Rattle.mo_front.specs.Files.{Tokens, Trees};
+ghost use Rattle.mo_syntax.specs.Outcome.{IfBroken};
 
 use mo_lexer::tokens;
 use mo_parse_class::stored_definition;

@@ -1,6 +1,5 @@
 //! A printed report behind the files: read, verified, and told.
 ghost use Rattle.std.specs.Prelude.{◌≡◌, ◌≢◌, ◌≤◌, ◌⊎◌, ◌+◌, Some, Ok as Yes, length, IfOk, IfErr, IfSome, All};
-ghost use Rattle.mo_lexer.specs.Lexing.{IfBroken};
 ghost use Rattle.mo_ports.specs.Counts.{Rose};
 ghost use Rattle.mo_front.specs.Files.{Reads};
 ghost use Rattle.mo_front.specs.Limits.{all_files_limit, file_limit, most_files, printed_limit};
@@ -8,6 +7,7 @@ ghost use Rattle.mo_front.specs.Loading.{JudgesTexts, RefusesReadingAll, Refuses
 ghost use Rattle.mo_front.specs.Run.{IsAnswer, IsNamedFault, IsSilent, WritesFront, WritesTold, with_report};
 ghost use Rattle.mo_front.specs.Told.{Breaks, TextsGive};
 ghost use Rattle.mo_front.specs.Verified.{ReadsReport, TellsVerdict};
+ghost use Rattle.mo_syntax.specs.Outcome.{IfBroken};
 
 use crate::answer::of_texts;
 use crate::load::{Unread, read_files, refused};

@@ -1,6 +1,5 @@
 //! The program over any shelf and sink.
 ghost use Rattle.std.specs.Prelude.{◌≡◌, ◌≢◌, ℕ, ◌≤◌, ◌⊎◌, List as Seq, length, IfOk, IfErr, IfSome, All};
-ghost use Rattle.mo_lexer.specs.Lexing.{IfBroken};
 ghost use Rattle.mo_ports.specs.Counts.{Rose};
 ghost use Rattle.mo_front.specs.Ladder.{TellsLadder};
 ghost use Rattle.mo_front.specs.Limits.{most_files, file_limit};
@@ -8,6 +7,7 @@ ghost use Rattle.mo_front.specs.Loading.{TellsTexts};
 ghost use Rattle.mo_front.specs.Run.{IsAnswer, IsNamedFault, IsSilent, NamesFault, NamesReport, TellsFiles, TellsWords, WritesTold, WritesFront, with_report, words_of};
 ghost use Rattle.mo_front.specs.Told.{Breaks, Tells, TextsGive, WritesGiven, line_of_broken};
 ghost use Rattle.mo_front.specs.Words.{Names};
+ghost use Rattle.mo_syntax.specs.Outcome.{IfBroken};
 
 use crate::answer::of_texts;
 use crate::emit::written_of;

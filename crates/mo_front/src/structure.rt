@@ -1,7 +1,6 @@
 //! The report on the structure of a model: the analyses of its incidence, one after another. What goes by the offsets alone is found
 //! first, so that a phase can ask their size before blocks, dummies and states are made.
 ghost use Rattle.std.specs.Prelude.{◌≡◌, ◌<◌, Some, None, IfOk, OnOk, length};
-ghost use Rattle.mo_lexer.specs.Lexing.{IfBroken};
 ghost use Rattle.mo_flat.specs.Sound.{IsSoundModel};
 ghost use Rattle.mo_incidence.specs.Signature.{equations};
 ghost use Rattle.mo_incidence.specs.Assignment.{IsAssignment, CoversAll, IsDeficit, IsUndetermined, ListsWhere};
@@ -13,6 +12,7 @@ ghost use Rattle.mo_report.specs.Right.{IsRightReport, AreLeastOffsets};
 ghost use Rattle.mo_report.specs.Size.{unknown_names};
 ghost use Rattle.mo_front.specs.Emitted.{is_singular};
 ghost use Rattle.mo_front.specs.Structure.{IsEmptyReport, IsFoundOf, IsLeftOut, IsReportOn};
+ghost use Rattle.mo_syntax.specs.Outcome.{IfBroken};
 
 use crate::degrees::{freedom, index, orders};
 use mo_blocks::{blocks, dummies};

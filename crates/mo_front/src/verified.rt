@@ -1,12 +1,12 @@
 //! The verdict on a printed report, as a line with a status.
 ghost use Rattle.std.specs.Prelude.{◌≡◌, ◌≤◌, ◌++◌, None, Some, length, string_bytes, IfOk, OnOk};
-ghost use Rattle.mo_lexer.specs.Lexing.{IfBroken};
 ghost use Rattle.mo_flat.specs.Sound.{IsSoundModel};
 ghost use Rattle.mo_incidence.specs.Model.{refusal_of};
 ghost use Rattle.mo_front.specs.Emitted.{PhasesBreak, Refuses, asked_by, least_status};
 ghost use Rattle.mo_front.specs.Least.{IsLeastOf};
 ghost use Rattle.mo_front.specs.Limits.{printed_limit};
 ghost use Rattle.mo_front.specs.Verified.{IsJudged, SaysVerdict, equation_word, line_word, said_of, verdict_line, verdict_status};
+ghost use Rattle.mo_syntax.specs.Outcome.{IfBroken};
 
 use crate::emit::{least_status, passed};
 use crate::status::Status;

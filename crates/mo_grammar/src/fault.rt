@@ -2,7 +2,7 @@
 ghost use Rattle.std.specs.Prelude.{◌≡◌};
 ghost use Rattle.mo_grammar.specs.Faults.{rule_of};
 
-use mo_syntax::Rule;
+use mo_syntax::{Rule, rules};
 
 /// Why a token cannot stand where it stands.
 #[derive(Clone, Copy, Debug, PartialEq, Eq)]
@@ -22,9 +22,9 @@ impl Fault {
         ensures { result ≡ rule_of self }
     {
         match self {
-            Fault::Misplaced => Rule::new(6),
-            Fault::Misnamed => Rule::new(7),
-            Fault::TooDeep => Rule::new(8),
+            Fault::Misplaced => Rule::new(rules::IMPOSSIBLE_TOKEN),
+            Fault::Misnamed => Rule::new(rules::END_NAME_DIFFERS),
+            Fault::TooDeep => Rule::new(rules::NESTING_TOO_DEEP),
         }
     }
 }

@@ -4,6 +4,7 @@ use Rattle.std.specs.Prelude.{nat_le}
 use Rattle.std.specs.List.{All}
 use Rattle.std.proofs.lemmas.Bool.Decides.{nat_tests}
 use Rattle.std.proofs.lemmas.List.Elements.{All-head, All-tail}
+use Rattle.mo_syntax.specs.Outcome.{breach}
 use Rattle.mo_syntax.specs.declared.place.Broken.{Broken}
 use Rattle.mo_syntax.specs.declared.place.Place.{Place}
 use Rattle.mo_syntax.specs.declared.place.Stop.{Stop}
@@ -12,9 +13,10 @@ use Rattle.mo_flat.specs.declared.model.FlatModel.{FlatModel}
 use Rattle.mo_flat.specs.declared.model.FlatVar.{FlatVar}
 use Rattle.mo_flat.specs.Roles.{unknown_numbers}
 use Rattle.mo_flat.specs.Sound.{IsSoundEquation, IsSoundModel}
-use Rattle.mo_incidence.specs.Model.{broken, first_uncarried, incidence_of, refusal_of, refused, row_of}
+use Rattle.mo_incidence.specs.Model.{first_uncarried, incidence_of, refusal_of, refused, row_of}
 use Rattle.mo_incidence.specs.Signature.{IsSound, entries, equations, order_at, row_len, unknown_at}
 use Rattle.mo_incidence.proofs.RowLaw.{IsRowFrom, row_is_sound}
+use Rattle.mo_syntax.specs.declared.rules.TheConstants.{DERIVATIVE_OF_INPUT, INCIDENCE_TOO_LARGE}
 
 -- a row of a list of rows is the row of some equation
 row_at : (vars : List FlatVar) (qs : List FlatEquation) → All (IsSoundEquation vars) qs → (i : ℕ) → i < length (map (row_of vars) qs) →
@@ -41,10 +43,10 @@ sound_where_few m s few = record {
   few_entries = few;
 }
 
-pub refused_first : (m : FlatModel) (place : Place) (refusal : Broken) (s : Stop) → first_uncarried m.vars m.equations ≡ Some place → s ≡ Stop.Broken (broken 43 place) → s ≡ Stop.Broken refusal → refusal_of m ≡ Some refusal
+pub refused_first : (m : FlatModel) (place : Place) (refusal : Broken) (s : Stop) → first_uncarried m.vars m.equations ≡ Some place → s ≡ Stop.Broken (breach DERIVATIVE_OF_INPUT place) → s ≡ Stop.Broken refusal → refusal_of m ≡ Some refusal
 unfolding refusal_of
 refused_first m place refusal s h e f =
-    let same : broken 43 place ≡ refusal = cc in
+    let same : breach DERIVATIVE_OF_INPUT place ≡ refusal = cc in
     ap (λ o. refused o (nat_le (entries (incidence_of m)) 1000000) m.place) h ∙ ap (λ b. Some b) same
 
 accepted_by : (n : ℕ) (place : Place) (b : Bool) → nat_le n 1000000 ≡ b → n ≤ 1000000 → refused None b place ≡ None
@@ -57,14 +59,14 @@ accepted m h s =
     ap (λ o. refused o (nat_le (entries (incidence_of m)) 1000000) m.place) h
     ∙ accepted_by (entries (incidence_of m)) m.place (nat_le (entries (incidence_of m)) 1000000) refl s.few_entries
 
-refused_by : (m : FlatModel) (refusal : Broken) → IsSoundModel m → (IsSound (incidence_of m) → ⊥) → broken 42 m.place ≡ refusal → (b : Bool) → nat_le (entries (incidence_of m)) 1000000 ≡ b → refused None b m.place ≡ Some refusal
+refused_by : (m : FlatModel) (refusal : Broken) → IsSoundModel m → (IsSound (incidence_of m) → ⊥) → breach INCIDENCE_TOO_LARGE m.place ≡ refusal → (b : Bool) → nat_le (entries (incidence_of m)) 1000000 ≡ b → refused None b m.place ≡ Some refusal
 refused_by m refusal s unsound e true t = absurd (unsound (sound_where_few m s (grind (arith, nat_tests))))
 refused_by m refusal s unsound e false t = ap (λ b. Some b) e
 
 pub refused_size : (m : FlatModel) (refusal : Broken) (s : Stop) → IsSoundModel m → first_uncarried m.vars m.equations ≡ None → (IsSound (incidence_of m) → ⊥) →
-    s ≡ Stop.Broken (broken 42 m.place) → s ≡ Stop.Broken refusal → refusal_of m ≡ Some refusal
+    s ≡ Stop.Broken (breach INCIDENCE_TOO_LARGE m.place) → s ≡ Stop.Broken refusal → refusal_of m ≡ Some refusal
 unfolding refusal_of
 refused_size m refusal s sound h unsound e f =
-    let same : broken 42 m.place ≡ refusal = cc in
+    let same : breach INCIDENCE_TOO_LARGE m.place ≡ refusal = cc in
     ap (λ o. refused o (nat_le (entries (incidence_of m)) 1000000) m.place) h
     ∙ refused_by m refusal sound unsound same (nat_le (entries (incidence_of m)) 1000000) refl

@@ -1,6 +1,7 @@
 -- The incidence of a flat model: for each equation the unknowns that stand in it, with their highest orders once its
 -- derivatives are carried out (J. D. Pryce, A simple structural analysis method for DAEs, BIT 41, 2001).
 use Rattle.std.specs.Prelude.{ℕ, ◌+◌, Bool, true, false, ◌&&◌, List, [], ◌∷◌, ◌++◌, Option, Some, None, if◌then◌else◌, length, map, nat_le}
+use Rattle.mo_syntax.specs.Outcome.{breach}
 use Rattle.mo_syntax.specs.declared.place.Broken.{Broken}
 use Rattle.mo_syntax.specs.declared.place.Place.{Place}
 use Rattle.mo_flat.specs.declared.model.FlatEquation.{FlatEquation}
@@ -10,6 +11,7 @@ use Rattle.mo_flat.specs.Roles.{unknown_numbers}
 use Rattle.mo_symdiff.specs.Carried.{carries}
 use Rattle.mo_symdiff.specs.Sigma.{higher, sigma}
 use Rattle.mo_incidence.specs.Signature.{Signature, entries}
+use Rattle.mo_syntax.specs.declared.rules.TheConstants.{DERIVATIVE_OF_INPUT, INCIDENCE_TOO_LARGE}
 
 -- the highest order of an unknown, by its number as a variable, on either side of an equation
 abbrev pub order_in : List FlatVar → FlatEquation → ℕ → Option ℕ
@@ -36,13 +38,10 @@ abbrev pub first_uncarried : List FlatVar → List FlatEquation → Option Place
 first_uncarried vars [] = None
 first_uncarried vars (q ∷ qs) = if carries vars q.left && carries vars q.right then first_uncarried vars qs else Some q.place
 
-abbrev pub broken : ℕ → Place → Broken
-broken rule place = record { rule = rule; place = place }
-
 abbrev pub refused : Option Place → Bool → Place → Option Broken
-refused (Some place) few name = Some (broken 43 place)
+refused (Some place) few name = Some (breach DERIVATIVE_OF_INPUT place)
 refused None true name = None
-refused None false name = Some (broken 42 name)
+refused None false name = Some (breach INCIDENCE_TOO_LARGE name)
 
 -- The rule that a model breaks where its incidence is asked for: 43 at the first equation in which a given variable would
 -- be differentiated, then 42 at the model where there are more than 1,000,000 entries.

@@ -1,5 +1,5 @@
 //! The incidence of a flat model.
-ghost use Rattle.std.specs.Prelude.{◌≡◌, ◌+◌, ◌≤◌, None, Some, IfOk, OnOk, length, map};
+ghost use Rattle.std.specs.Prelude.{◌≡◌, ◌+◌, None, Some, IfOk, OnOk, length, map};
 ghost use Rattle.mo_syntax.specs.declared.place.Broken.{Broken as Refusal};
 ghost use Rattle.mo_flat.specs.Roles.{unknown_numbers};
 ghost use Rattle.mo_flat.specs.Sound.{IsSoundModel};
@@ -12,23 +12,8 @@ use crate::carrying::first_uncarried;
 use crate::gather::row;
 use crate::table::Incidence;
 use mo_flat::{FlatModel, FlatVar};
-use mo_syntax::{Broken, NoMemory, Place, Role, Rule, Stop};
+use mo_syntax::{NoMemory, Role, Stop, rules, stop};
 use std::alloc::Global;
-
-const DIFFERENTIATED: u8 = 43;
-
-const TOO_LARGE: u8 = 42;
-
-fn broken(rule: u8, place: Place) -> Stop
-    requires low { 1 ≤ rule }
-    requires high { rule ≤ 46 }
-    ensures { result ≡ Stop.Broken (record { rule = rule; place = place }) }
-{
-    Stop::Broken(Broken {
-        rule: Rule::new(rule),
-        place,
-    })
-}
 
 /// By the number of each variable its number among the unknowns, 0 where it is none.
 fn unknown_places(alloc: Global, vars: &[FlatVar]) -> Result<(Vec<u32>, u32), NoMemory>
@@ -71,7 +56,7 @@ fn carried_incidence(alloc: Global, m: &FlatModel) -> Result<Incidence, Stop>
     let rows = rows(alloc, m, &places)?;
     match Incidence::from_rows(alloc, unknowns, &rows) {
         Ok(incidence) => Ok(incidence),
-        Err(RowsError::Unsound) => Err(broken(TOO_LARGE, m.place)),
+        Err(RowsError::Unsound) => Err(stop(rules::INCIDENCE_TOO_LARGE, m.place)),
         Err(RowsError::NoMemory) => Err(Stop::NoMemory),
     }
 }
@@ -88,7 +73,7 @@ pub fn incidence(alloc: Global, m: &FlatModel) -> Result<Incidence, Stop>
     ensures broken { (refusal : Refusal) → IsSoundModel m.now → result ≡ Err (Stop.Broken refusal) → refusal_of m.now ≡ Some refusal }
 {
     match first_uncarried(m.vars.as_slice(), m.equations.as_slice()) {
-        Some(place) => Err(broken(DIFFERENTIATED, place)),
+        Some(place) => Err(stop(rules::DERIVATIVE_OF_INPUT, place)),
         None => carried_incidence(alloc, m),
     }
 }

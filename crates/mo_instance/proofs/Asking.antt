@@ -1,13 +1,14 @@
 -- What one component is asked for, one step after another.
 use Rattle.std.proofs.Common.{◌≡◌, ℕ, Bool, true, false, [], Ok, Err, Result, refl, ap, sym, ◌∙◌}
 use Rattle.std.specs.Prelude.{if◌then◌else◌}
+use Rattle.mo_syntax.specs.Outcome.{Outcome, and_then}
 use Rattle.mo_syntax.specs.declared.place.Stop.{Stop}
 use Rattle.mo_syntax.specs.declared.place.Stop.TheVariants.{Broken as broken_by, NoMemory as no_memory}
 use Rattle.mo_scope.specs.declared.row.Member.{Member as MemberAt}
 use Rattle.mo_scope.specs.Compatible.{prefix_of}
 use Rattle.mo_scope.specs.Frames.{Frame, Member}
 use Rattle.mo_scope.specs.Names.{Child, child_of_member}
-use Rattle.mo_scope.specs.Outcome.{Gives, Outcome, and_then}
+use Rattle.mo_scope.specs.Outcome.{Gives}
 use Rattle.mo_scope.specs.Redeclarations.{Checked}
 use Rattle.mo_scope.specs.Rows.{Table, is_class}
 use Rattle.mo_scope.specs.Worlds.{World, Grows, IsFrame, frame_at, frames_of, table_in}

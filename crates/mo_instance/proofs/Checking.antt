@@ -2,9 +2,9 @@
 use Rattle.std.proofs.Common.{◌≡◌, ℕ, ◌<◌, Bool, false, List, [], ◌∷◌, ◌++◌, length, map, reverse, drop, Option, Some, Ok, Err, refl, ap, sym, subst, ◌∙◌, arith}
 use Rattle.std.specs.Prelude.{slice_get, unwrap_or}
 use Rattle.std.proofs.lemmas.List.{reverse-append}
+use Rattle.mo_syntax.specs.Outcome.{Outcome, and_then}
 use Rattle.mo_syntax.specs.declared.meaning.FrameId.{FrameId}
 use Rattle.mo_syntax.specs.declared.place.Place.{Place}
-use Rattle.mo_scope.specs.Outcome.{Outcome, and_then}
 use Rattle.mo_scope.specs.Rows.{Table}
 use Rattle.mo_scope.specs.Frames.{Frame, Source, sources_of}
 use Rattle.mo_scope.specs.Arguments.{second_pass}

@@ -1,11 +1,11 @@
 -- The values of a table as chosen expressions, and leaves.
 use Rattle.std.proofs.Common.{◌≡◌, ℕ, Bool, true, false, List, [], ◌∷◌, length, map, Option, Some, None, Ok, refl, ap, sym, ◌∙◌}
 use Rattle.std.specs.Prelude.{◌&&◌, not, option_map, IfSome, if◌then◌else◌}
+use Rattle.mo_syntax.specs.Outcome.{breaks}
 use Rattle.mo_syntax.specs.declared.meaning.Kind.{Kind}
 use Rattle.mo_syntax.specs.declared.meaning.Role.{Role}
 use Rattle.mo_scope.specs.Frames.{Frame, Member, Top}
 use Rattle.mo_scope.specs.Instances.{Chosen, Leaf}
-use Rattle.mo_scope.specs.Outcome.{breaks}
 use Rattle.mo_scope.specs.Parts.{Picked}
 use Rattle.mo_scope.specs.Rows.{Table}
 use Rattle.mo_scope.specs.Worlds.{World, frame_in}
@@ -20,6 +20,7 @@ use Rattle.mo_scope.specs.declared.instance.Chosen.{Chosen as ChosenAt}
 use Rattle.mo_scope.specs.Trees.{IsChosen, attribute_in, chosen_in, leaf_in}
 use Rattle.mo_instance.specs.Attributes.{kind_of_leaf}
 use Rattle.mo_instance.specs.Elements.{Around, is_free, is_real, leaf_by, leaf_made}
+use Rattle.mo_syntax.specs.declared.rules.TheConstants.{OUTSIDE_PROFILE}
 
 -- what a table has for itself
 pub here_is : (F : List Frame) (env : MergedEnv) (value : Option MergedValue) → (out-MergedEnv env).value ≡ value →
@@ -64,13 +65,13 @@ leaf_is F kind role attributes binding made same_kind same_role same_attributes 
     ∙ ap (λ (o : Option Chosen). leaf_with made.kind made.role made.attributes o) same_binding
 
 module _ (table : Table) (around : Around) (member : Member) (frame leaf : Frame) where
-  pub leaf_breaks : (b : Bool) (kind : Kind) → kind ≡ kind_of_leaf leaf → b ≡ (is_free around.vary && not (is_real kind)) → b ≡ true → leaf_by table around member frame leaf ≡ breaks 34 member.declares.place
+  pub leaf_breaks : (b : Bool) (kind : Kind) → kind ≡ kind_of_leaf leaf → b ≡ (is_free around.vary && not (is_real kind)) → b ≡ true → leaf_by table around member frame leaf ≡ breaks OUTSIDE_PROFILE member.declares.place
   leaf_breaks b kind same is wrong =
-      ap (λ t. if t then breaks 34 member.declares.place else Ok (Some (leaf_made table around frame leaf)))
+      ap (λ t. if t then breaks OUTSIDE_PROFILE member.declares.place else Ok (Some (leaf_made table around frame leaf)))
       (ap (λ (k : Kind). is_free around.vary && not (is_real k)) (sym same) ∙ sym is ∙ wrong)
 
   pub leaf_stands : (b : Bool) (kind : Kind) → kind ≡ kind_of_leaf leaf → b ≡ (is_free around.vary && not (is_real kind)) → b ≡ false →
       leaf_by table around member frame leaf ≡ Ok (Some (leaf_made table around frame leaf))
   leaf_stands b kind same is right =
-      ap (λ t. if t then breaks 34 member.declares.place else Ok (Some (leaf_made table around frame leaf)))
+      ap (λ t. if t then breaks OUTSIDE_PROFILE member.declares.place else Ok (Some (leaf_made table around frame leaf)))
       (ap (λ (k : Kind). is_free around.vary && not (is_real k)) (sym same) ∙ sym is ∙ right)

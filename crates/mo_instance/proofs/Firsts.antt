@@ -2,14 +2,15 @@
 use Rattle.std.proofs.Common.{◌≡◌, ℕ, Bool, true, false, List, [], ◌∷◌, ◌++◌, map, flat_map, Option, Some, None, refl, ap, sym, ◌∙◌}
 use Rattle.std.specs.List.{list_any}
 use Rattle.std.specs.Prelude.{◌&&◌, filter, if◌then◌else◌, nat_lt, option_map}
+use Rattle.mo_syntax.specs.Outcome.{breaks}
 use Rattle.mo_syntax.specs.declared.class.Element.{Element}
 use Rattle.mo_syntax.specs.declared.place.Place.{Place}
-use Rattle.mo_scope.specs.Outcome.{breaks}
 use Rattle.mo_scope.specs.Parts.{declared_in}
 use Rattle.mo_scope.specs.Redeclarations.{Checked, fine}
 use Rattle.mo_scope.specs.Rows.{Table, Row, Declares, Part, Element_of, Base_of, Clause, is_class, clauses_in, elements_in}
 use Rattle.mo_instance.specs.Checks.{earlier_of, first_in_text, is_inner_or_outer, unless_any, unless_bases, wrongly_inner}
 use Rattle.mo_instance.specs.Firsts.{earlier_place, first_replaced, first_wrong, part_is_base, place_in_part, wrong_parts, wrong_place}
+use Rattle.mo_syntax.specs.declared.rules.TheConstants.{OUTSIDE_PROFILE, MODIFIED_ELEMENT_NOT_FOUND}
 
 place_of_earlier : (declares : Declares) (o : Option Declares) → option_map (λ one. one.place) (earlier_of declares o) ≡ earlier_place (Some declares.place) (option_map (λ one. one.place) o)
 place_of_earlier declares None = refl
@@ -43,10 +44,10 @@ pub parts_first : (parts : List Part) (behind : List Declares) → wrong_parts p
 parts_first [] behind = refl
 parts_first (part ∷ parts) behind = ap (earlier_place (place_in_part part)) (parts_first parts behind) ∙ sym (part_step part parts behind)
 
-pub wrong_breaks : (declared : List Declares) (place : Place) → first_wrong declared ≡ Some place → unless_any (first_in_text (filter is_inner_or_outer declared)) ≡ breaks 34 place
+pub wrong_breaks : (declared : List Declares) (place : Place) → first_wrong declared ≡ Some place → unless_any (first_in_text (filter is_inner_or_outer declared)) ≡ breaks OUTSIDE_PROFILE place
 wrong_breaks declared place is = by (first_in_text (filter is_inner_or_outer declared)) is
   where
-    by : (o : Option Declares) → option_map (λ (one : Declares). one.place) o ≡ Some place → unless_any o ≡ breaks 34 place
+    by : (o : Option Declares) → option_map (λ (one : Declares). one.place) o ≡ Some place → unless_any o ≡ breaks OUTSIDE_PROFILE place
     by None is = cc
     by (Some one) is = cc
 
@@ -70,7 +71,7 @@ no_clauses (Element_of declares ∷ parts) is = no_clauses parts is
 no_clauses (Base_of clause ∷ parts) is = cc
 
 pub first_breaks : (table : Table) (parts : List Part) (replacing : List Element) (place : Place) → list_any part_is_base parts ≡ false → Some place ≡ first_replaced table replacing →
-    unless_bases table (clauses_in parts) replacing ≡ breaks 20 place
+    unless_bases table (clauses_in parts) replacing ≡ breaks MODIFIED_ELEMENT_NOT_FOUND place
 first_breaks table parts [] place is first = cc
 first_breaks table parts (element ∷ others) place is first = let same : place ≡ (declared_in table element).place = cc in rw (no_clauses parts is, same) refl
 

@@ -3,15 +3,16 @@ use Rattle.std.proofs.Common.{◌≡◌, ℕ, zero, suc, ◌+◌, Bool, true, fa
 use Rattle.std.specs.Prelude.{◌||◌, nat_eq, if◌then◌else◌, IsTrue}
 use Rattle.std.specs.List.{list_any}
 use Rattle.std.specs.Str.{bytes_eq}
+use Rattle.mo_syntax.specs.Outcome.{Outcome, and_then, breaks}
 use Rattle.mo_syntax.specs.declared.place.Place.{Place}
 use Rattle.mo_syntax.specs.SoundTree.{Naming, any_name}
-use Rattle.mo_scope.specs.Outcome.{Outcome, and_then, breaks}
 use Rattle.mo_scope.specs.Places.{Every, IfAny, Answers, HoldsOf}
 use Rattle.mo_scope.specs.Rows.{Table, Row, row_at, number_of_classes, Part, Element_of, Base_of, Clause, is_left_out}
 use Rattle.mo_scope.specs.Frames.{Frame, Top, In, at_of, class_of}
 use Rattle.mo_scope.specs.Lookup.{Inherited, Walked, Asking, base_class, base_frame, base_of, contains, hidden_if, is_counted, last_place, leaf_checked, leaf_of, not_counted, nothing_walked, through_base, walked, walked_class, walked_parts, walked_row, with_base, with_busy, with_member, with_members}
 use Rattle.mo_scope.specs.Names.{walk_of}
 use Rattle.mo_scope.proofs.laws.Standing.{any_find, every_append, every_map, every_weaker, if_answers, if_list, then_answers}
+use Rattle.mo_syntax.specs.declared.rules.TheConstants.{WRONG_KIND_OF_NAME, INHERITED_ELEMENTS_CLASH}
 
 -- each element has another name than those behind it
 abbrev pub Different : List Inherited → Type 0
@@ -34,7 +35,7 @@ RowNamed naming row = Every (PartNamed naming) row.parts
 
 -- that a leaf type has no elements
 abbrev checked_by : Walked → Option Frame → List Inherited → Outcome Walked
-checked_by elements (Some leaf) (inherited ∷ others) = breaks 13 inherited.member.declares.place
+checked_by elements (Some leaf) (inherited ∷ others) = breaks WRONG_KIND_OF_NAME inherited.member.declares.place
 checked_by elements leaf members = Ok elements
 
 abbrev Anywhere : Place → Type 0
@@ -77,7 +78,7 @@ module _ (naming : Naming) (table : Table) (named : Every (RowNamed naming) tabl
     where
       by : (b : Bool) → list_any (λ other. bytes_eq other.member.name inherited.member.name) so_far.members ≡ b →
           Answers Anywhere (IsWalkedOf naming frame)
-          (if b then breaks 19 inherited.member.declares.place else
+          (if b then breaks INHERITED_ELEMENTS_CLASH inherited.member.declares.place else
           Ok (record { members = so_far.members ++ inherited ∷ []; bases = so_far.bases; sections = so_far.sections; leaf = so_far.leaf }))
       by true same = record { holds = tt }
       by false same = record {

@@ -1,12 +1,12 @@
 -- Outer components and their inner ones, in later worlds.
 use Rattle.std.proofs.Common.{◌≡◌, ℕ, Bool, true, false, List, [], ◌∷◌, Some, Result, Ok, Err, refl, ap, sym, ◌∙◌}
 use Rattle.std.specs.Prelude.{nat_eq, if◌then◌else◌}
+use Rattle.mo_syntax.specs.Outcome.{Outcome, and_then, breaks}
 use Rattle.mo_syntax.specs.declared.place.Broken.{Broken}
 use Rattle.mo_syntax.specs.declared.place.Place.{Place}
 use Rattle.mo_scope.specs.declared.row.Member.{Member as MemberAt}
 use Rattle.mo_scope.specs.Frames.{Frame, Member}
 use Rattle.mo_scope.specs.Names.{Child, child_of_member, component_frame, inner_of}
-use Rattle.mo_scope.specs.Outcome.{Outcome, and_then, breaks}
 use Rattle.mo_scope.specs.Redeclarations.{Checked}
 use Rattle.mo_scope.specs.Rows.{Table}
 use Rattle.mo_scope.specs.Worlds.{World, Grows, frames_of, table_in}
@@ -17,6 +17,7 @@ use Rattle.mo_names.proofs.Later.{grows_trans, member_later, table_later}
 use Rattle.mo_instance.specs.Outer.{as_differing, has_condition, is_alike, is_matched, is_wrongly_outer, outer_checked}
 use Rattle.mo_instance.specs.OuterSteps.{compared_frames, inner_asked, matched_children}
 use Rattle.mo_instance.proofs.Later.{child_later}
+use Rattle.mo_syntax.specs.declared.rules.TheConstants.{INNER_DIFFERS, OUTSIDE_PROFILE, NOT_COMPATIBLE}
 
 -- ---- two components, both entered
 
@@ -40,11 +41,11 @@ module _ (table : Table) (outer : Member) (child : Child) (inner : Member) (othe
   pub alike_is : (b : Bool) → b ≡ is_alike table outer child inner other → b ≡ true →
       compared_frames table outer.declares.place (component_frame inner [] other) (component_frame outer [] child) ≡ matched_children table outer child inner other
   alike_is b is alike =
-      ap (λ t. if t then compared_frames table outer.declares.place (component_frame inner [] other) (component_frame outer [] child) else breaks 46 outer.declares.place) (sym alike ∙ is)
+      ap (λ t. if t then compared_frames table outer.declares.place (component_frame inner [] other) (component_frame outer [] child) else breaks INNER_DIFFERS outer.declares.place) (sym alike ∙ is)
 
-  pub unlike_is : (b : Bool) → b ≡ is_alike table outer child inner other → b ≡ false → matched_children table outer child inner other ≡ breaks 46 outer.declares.place
+  pub unlike_is : (b : Bool) → b ≡ is_alike table outer child inner other → b ≡ false → matched_children table outer child inner other ≡ breaks INNER_DIFFERS outer.declares.place
   unlike_is b is unlike =
-      ap (λ t. if t then compared_frames table outer.declares.place (component_frame inner [] other) (component_frame outer [] child) else breaks 46 outer.declares.place) (sym is ∙ unlike)
+      ap (λ t. if t then compared_frames table outer.declares.place (component_frame inner [] other) (component_frame outer [] child) else breaks INNER_DIFFERS outer.declares.place) (sym is ∙ unlike)
 
 -- ---- the types of both
 
@@ -79,14 +80,14 @@ module _ (u v : World) (outer inner : MemberAt) (g : Grows u v) (is : IsMember u
 -- ---- all that is asked of an outer component
 
 module _ (table : Table) (member : Member) where
-  pub wrongly_is : (b : Bool) → b ≡ is_wrongly_outer table member → b ≡ true → outer_checked table member ≡ breaks 34 member.declares.place
+  pub wrongly_is : (b : Bool) → b ≡ is_wrongly_outer table member → b ≡ true → outer_checked table member ≡ breaks OUTSIDE_PROFILE member.declares.place
   wrongly_is b is wrongly =
-      ap (λ t. if t then breaks 34 member.declares.place else and_then (inner_of table member.declares.place member) (λ inner. inner_asked table member inner.1)) (sym is ∙ wrongly)
+      ap (λ t. if t then breaks OUTSIDE_PROFILE member.declares.place else and_then (inner_of table member.declares.place member) (λ inner. inner_asked table member inner.1)) (sym is ∙ wrongly)
 
   pub rightly_is : (b : Bool) → b ≡ is_wrongly_outer table member → b ≡ false →
       and_then (inner_of table member.declares.place member) (λ inner. inner_asked table member inner.1) ≡ outer_checked table member
   rightly_is b is rightly =
-      ap (λ t. if t then breaks 34 member.declares.place else and_then (inner_of table member.declares.place member) (λ inner. inner_asked table member inner.1)) (sym rightly ∙ is)
+      ap (λ t. if t then breaks OUTSIDE_PROFILE member.declares.place else and_then (inner_of table member.declares.place member) (λ inner. inner_asked table member inner.1)) (sym rightly ∙ is)
 
 pub inner_is : (u v : World) (outer inner : MemberAt) (frame : Frame) (b : Bool) → Grows u v → IsMember u outer →
     b ≡ is_wrongly_outer (table_in u) (member_of (frames_of u) outer) → b ≡ false →
@@ -100,8 +101,8 @@ inner_is u v outer inner frame b g is was rightly found =
 
 -- ---- rule 46 in place of rule 25
 
-pub differs : (place : Place) (told : Checked) (broken : Broken) → told ≡ Err broken → nat_eq broken.rule 25 ≡ true → as_differing place told ≡ breaks 46 place
-differs place told broken is same = ap (as_differing place) is ∙ ap (λ b. if b then breaks 46 place else Err broken) same
+pub differs : (place : Place) (told : Checked) (broken : Broken) → told ≡ Err broken → nat_eq broken.rule NOT_COMPATIBLE ≡ true → as_differing place told ≡ breaks INNER_DIFFERS place
+differs place told broken is same = ap (as_differing place) is ∙ ap (λ b. if b then breaks INNER_DIFFERS place else Err broken) same
 
-pub breaks_on : (place : Place) (told : Checked) (broken : Broken) → told ≡ Err broken → nat_eq broken.rule 25 ≡ false → as_differing place told ≡ Err broken
-breaks_on place told broken is other = ap (as_differing place) is ∙ ap (λ b. if b then breaks 46 place else Err broken) other
+pub breaks_on : (place : Place) (told : Checked) (broken : Broken) → told ≡ Err broken → nat_eq broken.rule NOT_COMPATIBLE ≡ false → as_differing place told ≡ Err broken
+breaks_on place told broken is other = ap (as_differing place) is ∙ ap (λ b. if b then breaks INNER_DIFFERS place else Err broken) other

@@ -3,10 +3,10 @@ use Rattle.std.proofs.Common.{◌≡◌, ℕ, Bool, true, false, List, [], ◌�
 use Rattle.std.specs.Prelude.{◌&&◌, ◌||◌, not, find, if◌then◌else◌, option_map}
 use Rattle.std.specs.List.{list_any}
 use Rattle.std.specs.Str.{bytes_eq}
+use Rattle.mo_syntax.specs.Outcome.{breach}
 use Rattle.mo_syntax.specs.declared.place.Broken.{Broken}
 use Rattle.mo_syntax.specs.declared.place.Place.{Place}
 use Rattle.mo_syntax.specs.ClassTable.{path_eq}
-use Rattle.mo_scope.specs.Outcome.{breach}
 use Rattle.mo_scope.specs.Rows.{Table}
 use Rattle.mo_scope.specs.Frames.{Frame, Member, Origin, Elsewhere, Own_of, Constraint_of, Source}
 use Rattle.mo_scope.specs.Arguments.{Claim, least, or_later}
@@ -17,6 +17,7 @@ use Rattle.mo_instance.specs.Passes.{breach_if, broken_against, broken_constrain
 use Rattle.mo_instance.specs.FirstSteps.{against, broken_source, broken_speech, first_repeated, is_in, least_found, least_of_member, least_of_none}
 use Rattle.mo_instance.specs.Speeches.{speech_of, speeches_of}
 use Rattle.mo_instance.proofs.Speaking.{from_source}
+use Rattle.mo_syntax.specs.declared.rules.TheConstants.{MODIFIED_TWICE, PROTECTED_ELEMENT, FINAL_MODIFIED, MODIFIED_ELEMENT_NOT_FOUND}
 
 -- ---- paths that may not be there
 
@@ -34,33 +35,33 @@ constraint_is table frame (Constraint_of place) claims = refl
 abbrev places : List Claim → List Claim → List Place
 places own claims = flat_map (λ one. if is_in own one then one.place ∷ [] else []) claims
 
-all_repeated : (own claims : List Claim) → broken_against own claims ≡ map (breach 21) (places own claims)
+all_repeated : (own claims : List Claim) → broken_against own claims ≡ map (breach MODIFIED_TWICE) (places own claims)
 all_repeated own [] = refl
 all_repeated own (one ∷ claims) = by (is_in own one) (all_repeated own claims)
   where
-    by : (b : Bool) → broken_against own claims ≡ map (breach 21) (places own claims) →
-        breach_if b 21 one.place ++ broken_against own claims ≡ map (breach 21) ((if b then one.place ∷ [] else []) ++ places own claims)
-    by true rest = ap (λ (xs : List Broken). breach 21 one.place ∷ xs) rest
+    by : (b : Bool) → broken_against own claims ≡ map (breach MODIFIED_TWICE) (places own claims) →
+        breach_if b MODIFIED_TWICE one.place ++ broken_against own claims ≡ map (breach MODIFIED_TWICE) ((if b then one.place ∷ [] else []) ++ places own claims)
+    by true rest = ap (λ (xs : List Broken). breach MODIFIED_TWICE one.place ∷ xs) rest
     by false rest = rest
 
-least_repeated : (ps : List Place) (o : Option Place) (others : List Broken) → others ≡ map (breach 21) ps → least others ≡ option_map (breach 21) o → (p : Place) →
-    least (breach 21 p ∷ others) ≡ Some (breach 21 p)
+least_repeated : (ps : List Place) (o : Option Place) (others : List Broken) → others ≡ map (breach MODIFIED_TWICE) ps → least others ≡ option_map (breach MODIFIED_TWICE) o → (p : Place) →
+    least (breach MODIFIED_TWICE p ∷ others) ≡ Some (breach MODIFIED_TWICE p)
 least_repeated ps None others are is p = rw is refl
 least_repeated ps (Some q) others are is p = rw is refl
 
-first_is : (own claims : List Claim) → least (broken_against own claims) ≡ option_map (breach 21) (first_repeated own claims)
+first_is : (own claims : List Claim) → least (broken_against own claims) ≡ option_map (breach MODIFIED_TWICE) (first_repeated own claims)
 first_is own [] = refl
 first_is own (one ∷ claims) = by (is_in own one) (first_is own claims)
   where
-    by : (b : Bool) → least (broken_against own claims) ≡ option_map (breach 21) (first_repeated own claims) →
-        least (breach_if b 21 one.place ++ broken_against own claims) ≡ option_map (breach 21) (if b then Some one.place else first_repeated own claims)
+    by : (b : Bool) → least (broken_against own claims) ≡ option_map (breach MODIFIED_TWICE) (first_repeated own claims) →
+        least (breach_if b MODIFIED_TWICE one.place ++ broken_against own claims) ≡ option_map (breach MODIFIED_TWICE) (if b then Some one.place else first_repeated own claims)
     by true rest = least_repeated (places own claims) (first_repeated own claims) (broken_against own claims) (all_repeated own claims) rest one.place
     by false rest = rest
 
 -- ---- the least rule of an argument
 
-least_member : (hidden last : Bool) (place : Place) (others : List Broken) (o : Option Place) → least others ≡ option_map (breach 21) o →
-    least ((breach_if hidden 17 place ++ breach_if last 22 place) ++ others) ≡ least_of_member hidden last place o
+least_member : (hidden last : Bool) (place : Place) (others : List Broken) (o : Option Place) → least others ≡ option_map (breach MODIFIED_TWICE) o →
+    least ((breach_if hidden PROTECTED_ELEMENT place ++ breach_if last FINAL_MODIFIED place) ++ others) ≡ least_of_member hidden last place o
 least_member false false place others None is = is
 least_member false false place others (Some at) is = is
 least_member false true place others None is = rw is refl
@@ -70,8 +71,8 @@ least_member true false place others (Some at) is = rw is refl
 least_member true true place others None is = rw is refl
 least_member true true place others (Some at) is = rw is refl
 
-least_none : (known : Bool) (place : Place) (others : List Broken) (o : Option Place) → least others ≡ option_map (breach 21) o →
-    least ((if known then [] else breach 20 place ∷ []) ++ others) ≡ least_of_none known place o
+least_none : (known : Bool) (place : Place) (others : List Broken) (o : Option Place) → least others ≡ option_map (breach MODIFIED_TWICE) o →
+    least ((if known then [] else breach MODIFIED_ELEMENT_NOT_FOUND place ∷ []) ++ others) ≡ least_of_none known place o
 least_none true place others None is = is
 least_none true place others (Some at) is = is
 least_none false place others None is = rw is refl

@@ -1,10 +1,10 @@
 -- Worked examples of what is refused where instances are made, and of its neighbours, by computation.
 use Rattle.std.proofs.Common.{◌≡◌, true, false, [], ◌∷◌, Some, None, Ok, codes, refl}
+use Rattle.mo_syntax.specs.Outcome.{and_then, breaks}
 use Rattle.mo_syntax.specs.declared.class.ElementFlags.{ElementFlags}
 use Rattle.mo_syntax.specs.declared.class.Give.TheVariants.{outs-Modify, outs-Redeclare}
 use Rattle.mo_syntax.specs.declared.class.What.TheVariants.{outs-Component}
 use Rattle.mo_syntax.specs.declared.class.Vary.TheVariants.{Free}
-use Rattle.mo_scope.specs.Outcome.{and_then, breaks}
 use Rattle.mo_scope.specs.Rows.{Table, Row, Constraint, no_flags}
 use Rattle.mo_scope.specs.Frames.{Top}
 use Rattle.mo_scope.specs.Lookup.{walked}
@@ -16,6 +16,7 @@ use Rattle.mo_instance.specs.Prefixes.{input_from}
 use Rattle.mo_instance.specs.Instances.{deeper, instances_of}
 use Rattle.mo_scope.proofs.rows.Notation.{byte, id, name, sets, redeclares, replaceable_flags, component, component_by, extends, extends_with, row, plain}
 use Rattle.mo_instance.proofs.Rows.{claims_value, with_flags, frame_at, told_of}
+use Rattle.mo_syntax.specs.declared.rules.TheConstants.{PARTIAL_CLASS, MODIFIED_ELEMENT_NOT_FOUND, MODIFIED_TWICE, NOT_COMPATIBLE, WRONG_REPLACEABLE, NO_INNER}
 
 -- ---- partial classes
 
@@ -44,11 +45,11 @@ with_partial =
     row 7 [] "M" 37 [] (component (name (id "P" 39 ∷ [])) "p" 41 ∷ []) ∷ []
 
 -- as the asked class, and as a component at the name of its type
-pub partial_class_asked : instances_of with_partial 6 ≡ breaks 26 (byte 14)
+pub partial_class_asked : instances_of with_partial 6 ≡ breaks PARTIAL_CLASS (byte 14)
 unfolding walked sizes_from input_from deeper reading with_partial
 partial_class_asked = refl
 
-pub partial_type : instances_of with_partial 7 ≡ breaks 26 (byte 39)
+pub partial_type : instances_of with_partial 7 ≡ breaks PARTIAL_CLASS (byte 39)
 unfolding walked sizes_from input_from deeper reading with_partial
 partial_type = refl
 
@@ -60,7 +61,7 @@ base_argument =
     row 6 [] "B" 6 [] (component (name (id "Real" 8 ∷ [])) "x" 13 ∷ []) ∷
     row 7 [] "M" 29 [] (extends_with (name (id "B" 39 ∷ [])) (sets "y" 41 1 ∷ []) ∷ []) ∷ []
 
-pub base_argument_is_refused : instances_of base_argument 7 ≡ breaks 20 (byte 41)
+pub base_argument_is_refused : instances_of base_argument 7 ≡ breaks MODIFIED_ELEMENT_NOT_FOUND (byte 41)
 unfolding walked sizes_from input_from deeper reading base_argument
 base_argument_is_refused = refl
 
@@ -76,7 +77,7 @@ twice_modified =
     limit = record { class = name (id "B" 70 ∷ []); modifiers = record { list = sets "x" 72 2 ∷ []; value = None } }
 
 -- rule 21 at the argument of the constraining clause
-pub twice_modified_is_refused : instances_of twice_modified 7 ≡ breaks 21 (byte 72)
+pub twice_modified_is_refused : instances_of twice_modified 7 ≡ breaks MODIFIED_TWICE (byte 72)
 unfolding walked sizes_from input_from deeper reading twice_modified
 twice_modified_is_refused = simp (claims_value, outs-Modify)
 
@@ -99,11 +100,11 @@ pub compatible_class : compatible loads (byte 172) (plain 7 Top) (plain 6 Top) �
 unfolding walked sizes_from compatible_from loads
 compatible_class = refl
 
-pub incompatible_class : compatible loads (byte 215) (plain 8 Top) (plain 6 Top) ≡ breaks 25 (byte 215)
+pub incompatible_class : compatible loads (byte 215) (plain 8 Top) (plain 6 Top) ≡ breaks NOT_COMPATIBLE (byte 215)
 unfolding walked sizes_from compatible_from loads
 incompatible_class = refl
 
-pub not_replaceable : and_then (frame_at loads 12 (codes "h" ∷ [])) (redeclared_checked loads) ≡ breaks 24 (byte 260)
+pub not_replaceable : and_then (frame_at loads 12 (codes "h" ∷ [])) (redeclared_checked loads) ≡ breaks WRONG_REPLACEABLE (byte 260)
 unfolding walked sizes_from compatible_from loads
 not_replaceable = simp (outs-Redeclare, outs-Component)
 
@@ -131,6 +132,6 @@ pub world_and_body :
 unfolding walked sizes_from compatible_from input_from deeper reading bodies
 world_and_body = refl
 
-pub body_without_world : instances_of bodies 9 ≡ breaks 45 (byte 54)
+pub body_without_world : instances_of bodies 9 ≡ breaks NO_INNER (byte 54)
 unfolding walked sizes_from compatible_from input_from deeper reading bodies
 body_without_world = refl

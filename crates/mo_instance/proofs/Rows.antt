@@ -1,5 +1,7 @@
 -- Worked examples of instances, by computation.
 use Rattle.std.proofs.Common.{◌≡◌, ℕ, pos, Bool, true, false, ◌||◌, List, [], ◌∷◌, ◌++◌, map, flat_map, Option, Some, None, Ok, option_map, is_some, codes, refl, ap, sym, ◌∙◌, if◌then◌else◌}
+use Rattle.mo_syntax.specs.Outcome.{Outcome, and_then, breaks}
+use Rattle.mo_syntax.specs.declared.rules.TheConstants.{NAME_NOT_FOUND, CLASS_NOT_FOUND, FINAL_MODIFIED, MODIFIED_ELEMENT_NOT_FOUND, PROTECTED_ELEMENT, OUTSIDE_PROFILE, INSTANCE_TOO_DEEP}
 use mathlib.Core.Path.{fun_ext}
 use Prim.Native.String.{String}
 use Rattle.mo_syntax.specs.declared.expr.Expr.{Expr, roll-Expr}
@@ -11,7 +13,6 @@ use Rattle.mo_syntax.specs.declared.class.Give.{Give, Give-F, roll-Give, roll-ou
 use Rattle.mo_syntax.specs.declared.class.Give.TheVariants.{Modify, outs-Modify}
 use Rattle.mo_syntax.specs.declared.class.Vary.{Vary}
 use Rattle.mo_syntax.specs.declared.class.Vary.TheVariants.{Free, Parameter}
-use Rattle.mo_scope.specs.Outcome.{Outcome, and_then, breaks}
 use Rattle.mo_scope.specs.Rows.{Table, Row, row_at, Part, no_flags}
 use Rattle.mo_scope.specs.Frames.{Frame, Member, class_of, sources_of}
 use Rattle.mo_scope.specs.Parts.{picked}
@@ -129,14 +130,14 @@ frame_below table frame [] = Ok frame
 frame_below table frame (name ∷ names) = and_then (entered_below (named name (own_members table frame))) (λ next. frame_below table next names)
   where
     entered_below : Option Member → Outcome Frame
-    entered_below None = breaks 12 (byte 0)
+    entered_below None = breaks NAME_NOT_FOUND (byte 0)
     entered_below (Some member) = and_then (child_of_member table member []) (λ child. Ok (component_frame member [] child))
 
 abbrev pub asked_class : Table → ℕ → Outcome Frame
 asked_class table class = root_of (row_at table class)
   where
     root_of : Option Row → Outcome Frame
-    root_of None = breaks 11 (byte 0)
+    root_of None = breaks CLASS_NOT_FOUND (byte 0)
     root_of (Some row) = Ok (root_frame table row)
 
 abbrev pub frame_at : Table → ℕ → List (List ℕ) → Outcome Frame
@@ -169,7 +170,7 @@ final_modifier =
 
 -- rule 22 at the argument of M
 pub final_modifier_stays :
-    and_then (frame_at final_modifier 8 (codes "a" ∷ codes "b" ∷ [])) (λ frame. second_pass final_modifier (sources_of frame)) ≡ breaks 22 (byte 74)
+    and_then (frame_at final_modifier 8 (codes "a" ∷ codes "b" ∷ [])) (λ frame. second_pass final_modifier (sources_of frame)) ≡ breaks FINAL_MODIFIED (byte 74)
 unfolding walked final_modifier
 final_modifier_stays = simp (claims_value, outs-Modify)
 
@@ -181,7 +182,7 @@ unknown_argument =
     row 6 [] "B" 6 [] (component (name (id "Real" 8 ∷ [])) "x" 13 ∷ []) ∷
     row 7 [] "M" 29 [] (with_flags no_flags Free (name (id "B" 31 ∷ [])) "b" 33 (sets "y" 35 1 ∷ []) ∷ []) ∷ []
 
-pub unknown_argument_is_refused : instances_of unknown_argument 7 ≡ breaks 20 (byte 35)
+pub unknown_argument_is_refused : instances_of unknown_argument 7 ≡ breaks MODIFIED_ELEMENT_NOT_FOUND (byte 35)
 unfolding walked sizes_from input_from deeper reading unknown_argument
 unknown_argument_is_refused = refl
 
@@ -191,7 +192,7 @@ final_element =
     row 6 [] "B" 6 [] (with_flags final_flags Free (name (id "Real" 14 ∷ [])) "x" 19 [] ∷ []) ∷
     row 7 [] "M" 35 [] (with_flags no_flags Free (name (id "B" 37 ∷ [])) "b" 39 (sets "x" 41 1 ∷ []) ∷ []) ∷ []
 
-pub final_element_is_refused : instances_of final_element 7 ≡ breaks 22 (byte 41)
+pub final_element_is_refused : instances_of final_element 7 ≡ breaks FINAL_MODIFIED (byte 41)
 unfolding walked sizes_from input_from deeper reading final_element
 final_element_is_refused = refl
 
@@ -201,7 +202,7 @@ protected_element =
     row 6 [] "B" 6 [] (with_flags hidden_flags Free (name (id "Real" 18 ∷ [])) "x" 23 [] ∷ []) ∷
     row 7 [] "M" 39 [] (with_flags no_flags Free (name (id "B" 41 ∷ [])) "b" 43 (sets "x" 45 1 ∷ []) ∷ []) ∷ []
 
-pub protected_element_is_refused : instances_of protected_element 7 ≡ breaks 17 (byte 45)
+pub protected_element_is_refused : instances_of protected_element 7 ≡ breaks PROTECTED_ELEMENT (byte 45)
 unfolding walked sizes_from input_from deeper reading protected_element
 protected_element_is_refused = refl
 
@@ -209,7 +210,7 @@ protected_element_is_refused = refl
 pub whole_variable : Table
 whole_variable = row 6 [] "M" 6 [] (component (name (id "Integer" 8 ∷ [])) "k" 16 ∷ []) ∷ []
 
-pub whole_variable_is_refused : instances_of whole_variable 6 ≡ breaks 34 (byte 16)
+pub whole_variable_is_refused : instances_of whole_variable 6 ≡ breaks OUTSIDE_PROFILE (byte 16)
 unfolding walked sizes_from input_from deeper reading whole_variable
 whole_variable_is_refused = refl
 
@@ -222,6 +223,6 @@ pub too_deep :
     and_then (asked_class without_end 6) (λ frame.
     and_then (walk_of without_end frame) (λ walked.
     parts_entered without_end (deeper without_end 3) (record { asked = byte 6; outermost = true; vary = Free; given = false }) walked []))
-    ≡ breaks 27 (byte 10)
+    ≡ breaks INSTANCE_TOO_DEEP (byte 10)
 unfolding walked sizes_from input_from deeper reading without_end
 too_deep = refl

@@ -4,9 +4,9 @@ use Rattle.std.specs.Prelude.{◌||◌, if◌then◌else◌, nat_eq}
 use Rattle.std.specs.List.{list_any}
 use Rattle.std.proofs.lemmas.List.{map-append}
 use Rattle.std.proofs.lemmas.Grind.{flat_map-append}
+use Rattle.mo_syntax.specs.Outcome.{Outcome, and_then, breaks}
 use Rattle.mo_syntax.specs.declared.place.Broken.{Broken}
 use Rattle.mo_syntax.specs.declared.place.Place.{Place}
-use Rattle.mo_scope.specs.Outcome.{Outcome, and_then, breaks}
 use Rattle.mo_scope.specs.Rows.{Table, is_class}
 use Rattle.mo_scope.specs.Frames.{Frame, Member}
 use Rattle.mo_scope.specs.Lookup.{Walked}
@@ -19,6 +19,7 @@ use Rattle.mo_scope.specs.declared.row.Member.{Member as MemberAt}
 use Rattle.mo_names.specs.declared.walk.Inherited.{Inherited as InheritedAt}
 use Rattle.mo_names.specs.Sights.{IsMember, inherited_seen, member_of}
 use Rattle.mo_names.proofs.Later.{member_later, table_later}
+use Rattle.mo_syntax.specs.declared.rules.TheConstants.{INSTANCE_TOO_DEEP}
 use Rattle.mo_typing.specs.Dims.{Dims}
 use Rattle.mo_typing.specs.Indices.{Index, indices, numbers_to}
 use Rattle.mo_eval.specs.Values.{most_references, there_of, component_dims}
@@ -78,7 +79,7 @@ component_is table deep around member so_far =
     by (Ok u) (Ok child) (Err x) = refl
     by (Ok u) (Ok child) (Ok dims) = refl
 
-pub deeper_none : (table : Table) (left : ℕ) (place : Place) → left ≡ 0 → deeper table left place ≡ breaks 27 place
+pub deeper_none : (table : Table) (left : ℕ) (place : Place) → left ≡ 0 → deeper table left place ≡ breaks INSTANCE_TOO_DEEP place
 unfolding deeper
 deeper_none table zero place none = refl
 deeper_none table (suc left) place none = absurd (omega (arith, none))
@@ -93,7 +94,7 @@ deeper_some table (suc left) place some = ap (λ n. Ok (parts_entered table (dee
 
 -- a component that is asked, where no more names are left
 pub no_depth : (table : Table) (left : ℕ) (around : Around) (member : Member) (so_far : List Instance) (asked : Around × Dims) →
-    component_asked table around member ≡ Ok asked → left ≡ 0 → component_entered table (deeper table left) around member so_far ≡ breaks 27 member.declares.place
+    component_asked table around member ≡ Ok asked → left ≡ 0 → component_entered table (deeper table left) around member so_far ≡ breaks INSTANCE_TOO_DEEP member.declares.place
 no_depth table left around member so_far asked is none =
     sym (component_is table (deeper table left) around member so_far)
     ∙ ap (λ o. and_then o (λ asked. elements_of table (deeper table left) member asked so_far)) is

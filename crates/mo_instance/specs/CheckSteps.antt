@@ -1,6 +1,5 @@
 -- Steps of the checks of a frame.
 use Rattle.std.specs.Prelude.{ℕ, Bool, List, Ok}
-use Rattle.mo_scope.specs.Outcome.{and_then}
 use Rattle.mo_scope.specs.Rows.{Table}
 use Rattle.mo_scope.specs.Frames.{Frame, Source, sources_of}
 use Rattle.mo_scope.specs.Arguments.{second_pass}
@@ -8,6 +7,7 @@ use Rattle.mo_scope.specs.Lookup.{Walked, final_frame}
 use Rattle.mo_scope.specs.Redeclarations.{Checked, redeclared_checked}
 use Rattle.mo_instance.specs.Checks.{base_passed, before_last, in_profile, replaces_inherited}
 use Rattle.mo_instance.specs.Passes.{first_pass}
+use Rattle.mo_syntax.specs.Outcome.{and_then}
 
 -- the checks of a frame with these elements, where the redeclarations find the elements themselves
 abbrev pub frame_passes : Table → (is_replaced : List ℕ → Bool) → (added : List Source) → Frame → Walked → Checked

@@ -3,11 +3,11 @@
 -- Its class is not partial; then its elements, the two passes over its arguments, its redeclarations; and all but the first of these for
 -- each of its bases, once, in the order of the extends clauses.
 use Rattle.std.specs.Prelude.{ℕ, Bool, true, false, ◌||◌, List, [], ◌∷◌, ◌++◌, map, filter, length, drop, Option, Some, None, Ok, if◌then◌else◌, nat_lt}
+use Rattle.mo_syntax.specs.Outcome.{Outcome, and_then, breaks}
 use Rattle.mo_syntax.specs.declared.class.ClassKind.{ClassKind}
 use Rattle.mo_syntax.specs.declared.class.ClassKind.TheVariants.{Function, Operator}
 use Rattle.mo_syntax.specs.declared.class.Element.{Element}
 use Rattle.mo_syntax.specs.declared.place.Place.{Place}
-use Rattle.mo_scope.specs.Outcome.{Outcome, and_then, breaks}
 use Rattle.mo_scope.specs.Rows.{Table, Row, row_at, Declares, Clause, clauses_in, elements_in, is_class}
 use Rattle.mo_scope.specs.Frames.{Frame, Source, class_of, sources_of}
 use Rattle.mo_scope.specs.Parts.{declared_in}
@@ -16,12 +16,13 @@ use Rattle.mo_scope.specs.Lookup.{Walked, final_frame}
 use Rattle.mo_scope.specs.Names.{walk_of}
 use Rattle.mo_scope.specs.Redeclarations.{Checked, fine, each_checked, redeclarations_checked}
 use Rattle.mo_instance.specs.Passes.{first_pass, inherits}
+use Rattle.mo_syntax.specs.declared.rules.TheConstants.{PARTIAL_CLASS, OUTSIDE_PROFILE, MODIFIED_ELEMENT_NOT_FOUND}
 
 -- ---- partial classes
 
 abbrev pub whole_row : Place → Option Row → Checked
 whole_row place None = fine
-whole_row place (Some row) = if row.class.flags.partial then breaks 26 place else fine
+whole_row place (Some row) = if row.class.flags.partial then breaks PARTIAL_CLASS place else fine
 
 -- The class of the frame itself decides; rule 26 stands where the class is named.
 abbrev pub whole_class : Table → Place → Frame → Checked
@@ -52,11 +53,11 @@ wrongly_inner table row = filter is_inner_or_outer (filter is_class (elements_in
 
 abbrev pub unless_any : Option Declares → Checked
 unless_any None = fine
-unless_any (Some declares) = breaks 34 declares.place
+unless_any (Some declares) = breaks OUTSIDE_PROFILE declares.place
 
 abbrev pub row_in_profile : Table → Row → Checked
 row_in_profile table row =
-    if is_function row.class.kind then breaks 34 row.class.place else unless_any (first_in_text (wrongly_inner table row))
+    if is_function row.class.kind then breaks OUTSIDE_PROFILE row.class.place else unless_any (first_in_text (wrongly_inner table row))
 
 abbrev pub profile_of : Table → Option Row → Checked
 profile_of table None = fine
@@ -69,7 +70,7 @@ in_profile table frame = profile_of table (row_at table (class_of frame))
 -- ---- a frame and its bases
 
 abbrev pub unless_bases : Table → List Clause → List Element → Checked
-unless_bases table [] (element ∷ others) = breaks 20 (declared_in table element).place
+unless_bases table [] (element ∷ others) = breaks MODIFIED_ELEMENT_NOT_FOUND (declared_in table element).place
 unless_bases table clauses replacing = fine
 
 abbrev pub replaces_by : Table → Option Row → Checked

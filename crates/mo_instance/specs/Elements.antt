@@ -1,5 +1,6 @@
 -- One element of a component (Modelica Language Specification 3.5, sections 4.4, 4.8, 7.2 and 10.1): its frame, and what it is as a leaf.
 use Rattle.std.specs.Prelude.{ℕ, Bool, true, false, ◌&&◌, not, List, [], Option, Some, None, Ok, if◌then◌else◌, nat_lt, length}
+use Rattle.mo_syntax.specs.Outcome.{Outcome, breaks}
 use Rattle.mo_syntax.specs.declared.class.ComponentOf.{ComponentOf}
 use Rattle.mo_syntax.specs.declared.class.Give.{Give}
 use Rattle.mo_syntax.specs.declared.class.Vary.{Vary}
@@ -8,7 +9,6 @@ use Rattle.mo_syntax.specs.declared.expr.Expr.{out-Expr}
 use Rattle.mo_syntax.specs.declared.meaning.Kind.{Kind}
 use Rattle.mo_syntax.specs.declared.meaning.Kind.TheVariants.{Real}
 use Rattle.mo_syntax.specs.declared.place.Place.{Place}
-use Rattle.mo_scope.specs.Outcome.{Outcome, breaks}
 use Rattle.mo_scope.specs.Rows.{Table, Declares, component_of}
 use Rattle.mo_scope.specs.Frames.{Frame, Indexed, Member, at_of, sources_of}
 use Rattle.mo_scope.specs.Parts.{Redeclaration, picked}
@@ -18,6 +18,7 @@ use Rattle.mo_scope.specs.Redeclarations.{Checked, fine}
 use Rattle.mo_scope.specs.Instances.{Chosen, Leaf, Instance}
 use Rattle.mo_instance.specs.Attributes.{chosen_attributes, kind_of_leaf}
 use Rattle.mo_instance.specs.Prefixes.{joined_vary, role_of, is_declared_input}
+use Rattle.mo_syntax.specs.declared.rules.TheConstants.{OUTSIDE_PROFILE, FLAT_MODEL_TOO_LARGE}
 
 -- What holds of all components below one: where the name of the asked class stands; whether they are components of the asked class
 -- itself; the variability around them; and whether the component of the asked class that they lie in is declared `input`.
@@ -71,13 +72,13 @@ leaf_made table around frame leaf = record {
 -- A variable that is neither parameter nor constant is a Real.
 abbrev pub leaf_by : Table → Around → Member → Frame → (leaf : Frame) → Outcome (Option Leaf)
 leaf_by table around member frame leaf =
-    if is_free around.vary && not (is_real (kind_of_leaf leaf)) then breaks 34 member.declares.place
+    if is_free around.vary && not (is_real (kind_of_leaf leaf)) then breaks OUTSIDE_PROFILE member.declares.place
     else Ok (Some (leaf_made table around frame leaf))
 
 -- A component that is no leaf has no binding.
 abbrev pub no_leaf : Option Chosen → Outcome (Option Leaf)
 no_leaf None = Ok None
-no_leaf (Some binding) = breaks 34 (out-Expr binding.value).place
+no_leaf (Some binding) = breaks OUTSIDE_PROFILE (out-Expr binding.value).place
 
 abbrev pub leaf_in : Table → Around → Member → Frame → Option Frame → Outcome (Option Leaf)
 leaf_in table around member frame None = no_leaf (picked table (sources_of frame) [])
@@ -101,4 +102,4 @@ most_instances = 400000
 
 -- Rule 41 is broken where more components than that are entered; the asked class, the first instance, does not count.
 abbrev pub room_for_one : Place → List Instance → Checked
-room_for_one asked so_far = if nat_lt most_instances (length so_far) then breaks 41 asked else fine
+room_for_one asked so_far = if nat_lt most_instances (length so_far) then breaks FLAT_MODEL_TOO_LARGE asked else fine

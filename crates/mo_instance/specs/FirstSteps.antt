@@ -1,10 +1,10 @@
 -- Steps of the first pass over the arguments of a frame.
 use Rattle.std.specs.Prelude.{ℕ, Bool, false, ◌&&◌, List, [], ◌∷◌, ◌++◌, flat_map, map, Option, Some, None, if◌then◌else◌}
 use Rattle.std.specs.List.{list_any}
+use Rattle.mo_syntax.specs.Outcome.{breach}
 use Rattle.mo_syntax.specs.declared.place.Broken.{Broken}
 use Rattle.mo_syntax.specs.declared.place.Place.{Place}
 use Rattle.mo_syntax.specs.ClassTable.{path_eq}
-use Rattle.mo_scope.specs.Outcome.{breach}
 use Rattle.mo_scope.specs.Rows.{Table}
 use Rattle.mo_scope.specs.Frames.{Frame, Member, Origin, Constraint_of, Source}
 use Rattle.mo_scope.specs.Arguments.{Claim, least}
@@ -13,6 +13,7 @@ use Rattle.mo_scope.specs.Spoken.{spoken_of}
 use Rattle.mo_instance.specs.Attributes.{is_attribute}
 use Rattle.mo_instance.specs.Passes.{breach_if, broken_against, broken_spoken, first_of_all, inherits, own_claims}
 use Rattle.mo_instance.specs.Speeches.{Speech}
+use Rattle.mo_syntax.specs.declared.rules.TheConstants.{PROTECTED_ELEMENT, MODIFIED_TWICE, FINAL_MODIFIED, MODIFIED_ELEMENT_NOT_FOUND}
 
 -- what an element with `redeclare` may replace: what the frame has of which it is asked for a base, if it is
 abbrev pub is_replaced_by : Option Walked → List ℕ → Bool
@@ -34,18 +35,18 @@ first_repeated own (one ∷ claims) = if is_in own one then Some one.place else 
 
 -- the least rule of an element that is found: 17, 21 at a path that is among these, 22
 abbrev pub least_of_member : (hidden : Bool) → (last : Bool) → Place → Option Place → Option Broken
-least_of_member hidden last place repeated = if hidden then Some (breach 17 place) else least_by repeated
+least_of_member hidden last place repeated = if hidden then Some (breach PROTECTED_ELEMENT place) else least_by repeated
   where
     least_by : Option Place → Option Broken
-    least_by (Some at) = Some (breach 21 at)
-    least_by None = if last then Some (breach 22 place) else None
+    least_by (Some at) = Some (breach MODIFIED_TWICE at)
+    least_by None = if last then Some (breach FINAL_MODIFIED place) else None
 
 -- the least rule where no element is found
 abbrev pub least_of_none : (known : Bool) → Place → Option Place → Option Broken
-least_of_none known place repeated = if known then least_by repeated else Some (breach 20 place)
+least_of_none known place repeated = if known then least_by repeated else Some (breach MODIFIED_ELEMENT_NOT_FOUND place)
   where
     least_by : Option Place → Option Broken
-    least_by (Some at) = Some (breach 21 at)
+    least_by (Some at) = Some (breach MODIFIED_TWICE at)
     least_by None = None
 
 abbrev pub is_known_speech : (List ℕ → Bool) → Walked → Speech → Bool

@@ -4,17 +4,18 @@
 -- fastest, is entered, and the parts of an element before the next one.
 use Rattle.std.specs.Prelude.{ℕ, zero, suc, Bool, true, false, ◌&&◌, List, [], ◌∷◌, ◌++◌, find, Option, Some, None, Ok, if◌then◌else◌}
 use Rattle.std.specs.Str.{bytes_eq}
+use Rattle.mo_syntax.specs.Outcome.{Outcome, and_then, breaks}
 use Rattle.mo_syntax.specs.declared.class.Vary.TheVariants.{Free}
 use Rattle.mo_syntax.specs.declared.place.Place.{Place}
 use Rattle.mo_syntax.specs.Classes.{Home, Under}
 use Rattle.mo_syntax.specs.ClassTable.{path_eq}
-use Rattle.mo_scope.specs.Outcome.{Outcome, and_then, breaks}
 use Rattle.mo_scope.specs.Rows.{Table, Row, row_at, is_class}
 use Rattle.mo_scope.specs.Frames.{Frame, Top, In, No_source, Member, looked_up}
 use Rattle.mo_scope.specs.Lookup.{Walked, members_in}
 use Rattle.mo_scope.specs.Names.{child_of_member, component_frame}
 use Rattle.mo_scope.specs.Compatible.{prefix_of}
 use Rattle.mo_scope.specs.Instances.{Instance}
+use Rattle.mo_syntax.specs.declared.rules.TheConstants.{INSTANCE_TOO_DEEP}
 use Rattle.mo_typing.specs.Dims.{Dims}
 use Rattle.mo_typing.specs.Indices.{Index, indices}
 use Rattle.mo_eval.specs.Values.{most_references, there_of, component_dims}
@@ -78,7 +79,7 @@ parts_entered table deeper around walked = adding_each (member_entered table dee
 
 -- The number tells how many names a path may still gain.
 unfoldable pub deeper : Table → ℕ → Deeper
-deeper table zero place = breaks 27 place
+deeper table zero place = breaks INSTANCE_TOO_DEEP place
 deeper table (suc left) place = Ok (parts_entered table (deeper table left))
 
 -- ---- the asked class

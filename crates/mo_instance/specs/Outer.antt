@@ -3,11 +3,11 @@
 use Rattle.std.specs.Prelude.{ℕ, Bool, false, ◌&&◌, ◌||◌, not, List, [], Option, Some, None, Ok, Err, is_some, if◌then◌else◌, nat_eq}
 use Rattle.std.specs.List.{list_any}
 use Rattle.std.specs.Str.{bytes_eq}
+use Rattle.mo_syntax.specs.Outcome.{and_then, breaks}
 use Rattle.mo_syntax.specs.declared.class.ComponentOf.{ComponentOf}
 use Rattle.mo_syntax.specs.declared.class.Give.{Give}
 use Rattle.mo_syntax.specs.declared.class.Prefix.{Prefix}
 use Rattle.mo_syntax.specs.declared.place.Place.{Place}
-use Rattle.mo_scope.specs.Outcome.{and_then, breaks}
 use Rattle.mo_scope.specs.Rows.{Table, component_of}
 use Rattle.mo_scope.specs.Frames.{Member, sources_of}
 use Rattle.mo_scope.specs.Parts.{is_nothing}
@@ -17,6 +17,7 @@ use Rattle.mo_scope.specs.Compatible.{bool_eq, compatible, dimensions_of, prefix
 use Rattle.mo_scope.specs.Spoken.{Spoken, spoken_in}
 use Rattle.mo_scope.specs.Redeclarations.{Checked, fine}
 use Rattle.mo_instance.specs.Prefixes.{is_discrete}
+use Rattle.mo_syntax.specs.declared.rules.TheConstants.{INNER_DIFFERS, NOT_COMPATIBLE, OUTSIDE_PROFILE}
 
 -- ---- what an outer component may not have
 
@@ -46,7 +47,7 @@ is_wrongly_outer table member =
 -- that the types are not compatible is rule 46
 abbrev pub as_differing : Place → Checked → Checked
 as_differing place (Ok done) = fine
-as_differing place (Err broken) = if nat_eq broken.rule 25 then breaks 46 place else Err broken
+as_differing place (Err broken) = if nat_eq broken.rule NOT_COMPATIBLE then breaks INNER_DIFFERS place else Err broken
 
 abbrev pub is_alike : Table → Member → Child → Member → Child → Bool
 is_alike table outer outer_child inner inner_child =
@@ -61,13 +62,13 @@ is_matched table outer inner =
     if is_alike table outer outer_child inner inner_child then
     as_differing outer.declares.place
     (compatible table outer.declares.place (component_frame inner [] inner_child) (component_frame outer [] outer_child))
-    else breaks 46 outer.declares.place))
+    else breaks INNER_DIFFERS outer.declares.place))
 
 -- ---- the checks
 
 -- All of it stands at the name of the outer component: rule 34, then 45 where there is no inner one, then 46.
 abbrev pub outer_checked : Table → Member → Checked
 outer_checked table member =
-    if is_wrongly_outer table member then breaks 34 member.declares.place else
+    if is_wrongly_outer table member then breaks OUTSIDE_PROFILE member.declares.place else
     and_then (inner_of table member.declares.place member) (λ inner.
-    if has_condition inner.1 then breaks 34 member.declares.place else is_matched table member inner.1)
+    if has_condition inner.1 then breaks OUTSIDE_PROFILE member.declares.place else is_matched table member inner.1)

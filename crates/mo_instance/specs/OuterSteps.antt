@@ -2,8 +2,8 @@
 use Rattle.std.specs.Prelude.{ℕ, Bool, ◌&&◌, ◌||◌, not, List, [], if◌then◌else◌}
 use Rattle.std.specs.List.{list_any}
 use Rattle.std.specs.Str.{bytes_eq}
+use Rattle.mo_syntax.specs.Outcome.{breaks}
 use Rattle.mo_syntax.specs.declared.place.Place.{Place}
-use Rattle.mo_scope.specs.Outcome.{breaks}
 use Rattle.mo_scope.specs.Rows.{Table}
 use Rattle.mo_scope.specs.Frames.{Frame, Member, sources_of}
 use Rattle.mo_scope.specs.Names.{Child, component_frame}
@@ -14,6 +14,7 @@ use Rattle.mo_scope.specs.Redeclarations.{Checked}
 use Rattle.mo_scope.specs.Spoken.{spoken_in}
 use Rattle.mo_instance.specs.Outer.{as_differing, has_condition, is_alike, is_matched, speaks_of}
 use Rattle.mo_instance.specs.Speeches.{Speech}
+use Rattle.mo_syntax.specs.declared.rules.TheConstants.{INNER_DIFFERS, OUTSIDE_PROFILE}
 
 -- an argument that gives something for a name
 abbrev pub speaks_for : List ℕ → Speech → Bool
@@ -35,8 +36,8 @@ abbrev pub matched_children : Table → (outer : Member) → Child → (inner : 
 matched_children table outer outer_child inner inner_child =
     if is_alike table outer outer_child inner inner_child then
     compared_frames table outer.declares.place (component_frame inner [] inner_child) (component_frame outer [] outer_child)
-    else breaks 46 outer.declares.place
+    else breaks INNER_DIFFERS outer.declares.place
 
 -- what is asked of the inner component
 abbrev pub inner_asked : Table → (outer : Member) → (inner : Member) → Checked
-inner_asked table outer inner = if has_condition inner then breaks 34 outer.declares.place else is_matched table outer inner
+inner_asked table outer inner = if has_condition inner then breaks OUTSIDE_PROFILE outer.declares.place else is_matched table outer inner

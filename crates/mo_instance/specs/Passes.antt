@@ -6,12 +6,13 @@
 use Rattle.std.specs.Prelude.{ℕ, Bool, false, ◌&&◌, ◌||◌, not, List, [], ◌∷◌, ◌++◌, flat_map, Option, Some, None, if◌then◌else◌}
 use Rattle.std.specs.List.{list_any}
 use Rattle.std.specs.Str.{bytes_eq}
+use Rattle.mo_syntax.specs.Outcome.{breach}
 use Rattle.mo_syntax.specs.declared.class.ArgumentOf.{ArgumentOf}
 use Rattle.mo_syntax.specs.declared.class.Give.{Give}
 use Rattle.mo_syntax.specs.declared.place.Broken.{Broken}
 use Rattle.mo_syntax.specs.declared.place.Place.{Place}
 use Rattle.mo_syntax.specs.ClassTable.{path_eq}
-use Rattle.mo_scope.specs.Outcome.{breach, unless_broken}
+use Rattle.mo_scope.specs.Outcome.{unless_broken}
 use Rattle.mo_scope.specs.Rows.{Table, Row, row_at, place_eq, short_modifiers}
 use Rattle.mo_scope.specs.Frames.{Origin, Own_of, Constraint_of, Frame, Source, Member, class_of, sources_of}
 use Rattle.mo_scope.specs.Arguments.{Claim, claims_of, least, or_later}
@@ -20,6 +21,7 @@ use Rattle.mo_scope.specs.Sizes.{is_nothing}
 use Rattle.mo_scope.specs.Spoken.{Spoken, spoken_of, spoken_in}
 use Rattle.mo_scope.specs.Redeclarations.{Checked}
 use Rattle.mo_instance.specs.Attributes.{is_attribute}
+use Rattle.mo_syntax.specs.declared.rules.TheConstants.{MODIFIED_TWICE, PROTECTED_ELEMENT, FINAL_MODIFIED, MODIFIED_ELEMENT_NOT_FOUND}
 
 abbrev pub breach_if : Bool → ℕ → Place → List Broken
 breach_if test rule place = if test then breach rule place ∷ [] else []
@@ -49,7 +51,7 @@ own_claims table frame place =
     flat_map (source_claims table place) (sources_of frame) ++ short_claims place (row_at table (class_of frame))
 
 abbrev pub broken_against : List Claim → List Claim → List Broken
-broken_against own claims = flat_map (λ one. breach_if (list_any (λ other. path_eq other.path one.path) own) 21 one.place) claims
+broken_against own claims = flat_map (λ one. breach_if (list_any (λ other. path_eq other.path one.path) own) MODIFIED_TWICE one.place) claims
 
 abbrev pub broken_constraint : Table → Frame → Origin → List Claim → List Broken
 broken_constraint table frame (Constraint_of place) claims = broken_against (own_claims table frame place) claims
@@ -59,7 +61,7 @@ broken_constraint table frame origin claims = []
 
 abbrev pub broken_member : Spoken → Member → List Broken
 broken_member spoken member =
-    breach_if (spoken.source.piece.outside && member.hidden) 17 spoken.place ++ breach_if member.declares.flags.last 22 spoken.place
+    breach_if (spoken.source.piece.outside && member.hidden) PROTECTED_ELEMENT spoken.place ++ breach_if member.declares.flags.last FINAL_MODIFIED spoken.place
 
 abbrev pub is_inherited : List ℕ → Inherited → Bool
 is_inherited name inherited = not (is_nothing inherited.through) && bytes_eq inherited.member.name name
@@ -73,7 +75,7 @@ is_known is_replaced walked spoken = if spoken.replacing then is_replaced spoken
 
 abbrev pub broken_found : (List ℕ → Bool) → Walked → Spoken → Option Member → List Broken
 broken_found is_replaced walked spoken (Some member) = broken_member spoken member
-broken_found is_replaced walked spoken None = if is_known is_replaced walked spoken then [] else breach 20 spoken.place ∷ []
+broken_found is_replaced walked spoken None = if is_known is_replaced walked spoken then [] else breach MODIFIED_ELEMENT_NOT_FOUND spoken.place ∷ []
 
 -- An element with `redeclare` of a class is asked for among what all bases of that class have.
 abbrev pub broken_name : (List ℕ → Bool) → Walked → Spoken → List Broken

@@ -1,6 +1,7 @@
 -- What prefixes make of a component (Modelica Language Specification 3.5, sections 4.4.2 and 4.5): its variability, with that of the
 -- components around it, and whether it is given from outside.
 use Rattle.std.specs.Prelude.{ℕ, zero, suc, Bool, true, false, ◌||◌, Option, Some, None, Ok, Err, if◌then◌else◌}
+use Rattle.mo_syntax.specs.Outcome.{Outcome, breaks}
 use Rattle.mo_syntax.specs.declared.class.Causal.{Causal}
 use Rattle.mo_syntax.specs.declared.class.Causal.TheVariants.{Input}
 use Rattle.mo_syntax.specs.declared.class.Prefix.{Prefix}
@@ -9,13 +10,13 @@ use Rattle.mo_syntax.specs.declared.class.Vary.TheVariants.{Free, Discrete, Para
 use Rattle.mo_syntax.specs.declared.meaning.Role.{Role}
 use Rattle.mo_syntax.specs.declared.meaning.Role.TheVariants as role
 use Rattle.mo_syntax.specs.declared.place.Place.{Place}
-use Rattle.mo_scope.specs.Outcome.{Outcome, breaks}
 use Rattle.mo_scope.specs.Rows.{Table, Row, row_at, number_of_classes, Form, Short_class, Long_class}
 use Rattle.mo_scope.specs.Frames.{Frame, Member, class_of}
 use Rattle.mo_scope.specs.Names.{walk_of, clauses_of}
 use Rattle.mo_scope.specs.Sizes.{is_leaf, leaf_base, first_base}
 use Rattle.mo_scope.specs.Compatible.{prefix_of}
 use Rattle.mo_scope.specs.Redeclarations.{Checked, fine}
+use Rattle.mo_syntax.specs.declared.rules.TheConstants.{OUTSIDE_PROFILE}
 
 abbrev pub is_input : Causal → Bool
 is_input Input = true
@@ -27,7 +28,7 @@ is_discrete vary = false
 
 -- `stream` and `discrete` are left out
 abbrev pub prefix_in_profile : Place → Prefix → Checked
-prefix_in_profile place prefix = if prefix.stream || is_discrete prefix.vary then breaks 34 place else fine
+prefix_in_profile place prefix = if prefix.stream || is_discrete prefix.vary then breaks OUTSIDE_PROFILE place else fine
 
 -- ---- variability
 

@@ -2,10 +2,10 @@
 use Rattle.std.specs.Prelude.{ℕ, suc, Bool, true, false, List, [], ◌∷◌, ◌++◌, drop, flat_map, length, map, None, Ok, if◌then◌else◌, nat_lt}
 use Rattle.std.specs.List.{list_any}
 use Rattle.std.specs.Str.{bytes_eq}
+use Rattle.mo_syntax.specs.Outcome.{Outcome, and_then, breaks}
 use Rattle.mo_syntax.specs.declared.class.Vary.TheVariants.{Free}
 use Rattle.mo_flat.specs.Text.{attribute_name}
 use Rattle.mo_syntax.specs.declared.place.Place.{Place}
-use Rattle.mo_scope.specs.Outcome.{Outcome, and_then, breaks}
 use Rattle.mo_scope.specs.Rows.{Table, is_class}
 use Rattle.mo_scope.specs.Frames.{Frame, Member}
 use Rattle.mo_scope.specs.Lookup.{Inherited, Walked}
@@ -13,6 +13,7 @@ use Rattle.mo_scope.specs.Names.{child_of_member, component_frame}
 use Rattle.mo_scope.specs.Compatible.{prefix_of}
 use Rattle.mo_scope.specs.Instances.{Instance}
 use Rattle.mo_scope.specs.Redeclarations.{Checked, fine}
+use Rattle.mo_syntax.specs.declared.rules.TheConstants.{FLAT_MODEL_TOO_LARGE}
 use Rattle.mo_typing.specs.Dims.{Dims}
 use Rattle.mo_typing.specs.Indices.{Index, indices, numbers_to}
 use Rattle.mo_eval.specs.Values.{most_references, there_of, component_dims}
@@ -57,7 +58,7 @@ members_added table left around members =
 -- ---- one element
 
 abbrev pub room_among : Place → ℕ → Checked
-room_among asked count = if nat_lt most_instances count then breaks 41 asked else fine
+room_among asked count = if nat_lt most_instances count then breaks FLAT_MODEL_TOO_LARGE asked else fine
 
 -- the frame of an element, and where its class is named
 abbrev pub element_frame : Table → Member → Index → Outcome (Place × Frame)

@@ -19,10 +19,9 @@ use crate::checks::frame_checked;
 use crate::leaf::leaf_of;
 use crate::paths::path_of;
 use crate::prefixes::Around;
-use crate::stops::stop;
 use mo_names::{Walk, child_of_member, enter_child};
 use mo_scope::{Declares, Instance, Leaf, Member, Redeclaration, Scopes, component_of, copied};
-use mo_syntax::{FrameId, NoMemory, Part, Place, Stop, both};
+use mo_syntax::{FrameId, NoMemory, Part, Place, Stop, both, rules, stop};
 use std::alloc::Global;
 
 /// How many components a class may have: one more breaks rule 41.
@@ -63,7 +62,7 @@ fn room_for_one(asked: Place, count: usize) -> Result<(), Stop>
     ensures { Gives (λ _. tt) result (room_among asked count) }
 {
     if MOST_INSTANCES < count {
-        return Err(stop(41, asked));
+        return Err(stop(rules::FLAT_MODEL_TOO_LARGE, asked));
     }
     Ok(())
 }

@@ -17,11 +17,10 @@ ghost use Rattle.mo_instance.specs.Walks.{IsWalkOrNone, inherits_name, members_h
 use crate::attributes::is_attribute;
 use crate::own::claims_against;
 use crate::spoken::{Spoken, spoken_of};
-use crate::stops::broken;
 use mo_mods::{Claim, is_path};
 use mo_names::{Inherited, Walk};
 use mo_scope::{Member, MemberTable, Scopes, Source};
-use mo_syntax::{Broken, FrameId, NoMemory, Place, Stop, Text};
+use mo_syntax::{Broken, FrameId, NoMemory, Place, Stop, Text, broken, rules};
 use std::alloc::Global;
 
 /// Whether two paths are one.
@@ -117,11 +116,17 @@ fn broken_member(hidden: bool, last: bool, place: Place, repeated: Option<Place>
     ensures { result ≡ least_of_member hidden last place repeated }
 {
     if hidden {
-        return Some(broken(17, place));
+        return Some(broken(rules::PROTECTED_ELEMENT, place));
     }
     match repeated {
-        Some(at) => Some(broken(21, at)),
-        None => { if last { Some(broken(22, place)) } else { None } }
+        Some(at) => Some(broken(rules::MODIFIED_TWICE, at)),
+        None => {
+            if last {
+                Some(broken(rules::FINAL_MODIFIED, place))
+            } else {
+                None
+            }
+        }
     }
 }
 
@@ -142,10 +147,10 @@ fn broken_none(known: bool, place: Place, repeated: Option<Place>) -> Option<Bro
     ensures { result ≡ least_of_none known place repeated }
 {
     if !known {
-        return Some(broken(20, place));
+        return Some(broken(rules::MODIFIED_ELEMENT_NOT_FOUND, place));
     }
     match repeated {
-        Some(at) => Some(broken(21, at)),
+        Some(at) => Some(broken(rules::MODIFIED_TWICE, at)),
         None => None,
     }
 }

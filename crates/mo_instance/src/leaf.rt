@@ -18,11 +18,10 @@ ghost use Rattle.mo_instance.specs.Sights.{around_seen};
 
 use crate::attributes::{attributes_of, kind_of_leaf, name_of_attribute};
 use crate::prefixes::{Around, is_free, role_of};
-use crate::stops::stop;
 use mo_mods::{MergedEnv, MergedValue, merged_sources};
 use mo_names::Walk;
 use mo_scope::{Chosen, Leaf, Member, Scopes, copied, copied_scope};
-use mo_syntax::{FrameId, Kind, List, NoMemory, Stop, Vary, both};
+use mo_syntax::{FrameId, Kind, List, NoMemory, Stop, Vary, both, rules, stop};
 use std::alloc::Global;
 
 /// A value of a table as a chosen expression.
@@ -190,7 +189,7 @@ fn leaf_by<'t>(
 {
     let kind = kind_of_leaf(s, leaf);
     if is_left_out(around.vary, kind) {
-        return Err(stop(34, member.declares.place));
+        return Err(stop(rules::OUTSIDE_PROFILE, member.declares.place));
     }
     let made = leaf_made(alloc, s, around, frame, leaf)?;
     Ok(Some(made))
@@ -204,7 +203,7 @@ fn no_leaf<'t>(alloc: Global, s: &Scopes<'t>, frame: FrameId) -> Result<Option<L
 {
     let found = binding_of(alloc, s, frame)?;
     match found {
-        Some(binding) => Err(stop(34, binding.value.place)),
+        Some(binding) => Err(stop(rules::OUTSIDE_PROFILE, binding.value.place)),
         None => Ok(None),
     }
 }

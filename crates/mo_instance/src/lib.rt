@@ -22,7 +22,6 @@ mod prefixes;
 mod profile;
 mod root;
 mod spoken;
-mod stops;
 mod walk;
 
 pub use asked_class::instantiate;

@@ -20,11 +20,10 @@ ghost use Rattle.mo_instance.specs.OuterSteps.{compared_frames as frames_compare
 
 use crate::prefixes::is_left_out;
 use crate::spoken::{Spoken, all_spoken};
-use crate::stops::stop;
 use mo_names::{Child, child_of_member, enter_child, inner_of};
 use mo_redeclare::{compatible, dimension_count, prefix_of};
 use mo_scope::{Declares, Member, Modifiers, Scopes, component_of};
-use mo_syntax::{NoMemory, Place, Stop, Text};
+use mo_syntax::{NoMemory, Place, Stop, Text, rules, stop};
 use std::alloc::Global;
 
 /// Whether there is neither an argument nor a value.
@@ -142,7 +141,7 @@ fn as_differing(compared: Result<(), Stop>, place: Place) -> Result<(), Stop>
         Err(Stop::Broken(broken)) => {
             let number = broken.rule.number();
             if number == 25 {
-                Err(stop(46, place))
+                Err(stop(rules::INNER_DIFFERS, place))
             } else {
                 Err(Stop::Broken(broken))
             }
@@ -190,7 +189,7 @@ fn is_matched_by<'t>(
     if alike {
         return compared_frames(alloc, s, place, outer, inner);
     }
-    Err(stop(46, place))
+    Err(stop(rules::INNER_DIFFERS, place))
 }
 
 /// Asks that an inner component may stand in the place of an outer one.
@@ -223,7 +222,7 @@ fn inner_checked<'t>(
     ensures value { Gives (λ _. tt) result (inner_asked (table_in s.old) (member_of (frames_of s.old) outer.now) (member_of (frames_of s.old) inner.now)) }
 {
     if has_condition(&inner.declares) {
-        return Err(stop(34, outer.declares.place));
+        return Err(stop(rules::OUTSIDE_PROFILE, outer.declares.place));
     }
     is_matched(alloc, s, outer, inner)
 }
@@ -242,7 +241,7 @@ pub(crate) fn outer_checked<'t>(
     let place = member.declares.place;
     let wrongly = is_wrongly_outer(alloc, s, member)?;
     if wrongly {
-        return Err(stop(34, place));
+        return Err(stop(rules::OUTSIDE_PROFILE, place));
     }
     match inner_of(alloc, s, member, place) {
         Ok(found) => inner_checked(alloc, s, member, &found.1),

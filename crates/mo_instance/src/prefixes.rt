@@ -5,8 +5,7 @@ ghost use Rattle.mo_instance.specs.Elements.{is_free as vary_is_free};
 ghost use Rattle.mo_instance.specs.Outer.{is_left_out_prefix};
 ghost use Rattle.mo_instance.specs.Prefixes.{is_discrete as vary_is_discrete, is_input as causal_is_input, joined_vary as vary_joined, prefix_in_profile, role_of as role_by};
 
-use crate::stops::stop;
-use mo_syntax::{Causal, Place, Prefix, Role, Stop, Vary};
+use mo_syntax::{Causal, Place, Prefix, Role, Stop, Vary, rules, stop};
 
 /// What holds of all components below one.
 #[derive(Clone, Copy)]
@@ -67,7 +66,7 @@ pub(crate) fn in_profile(place: Place, prefix: Prefix) -> Result<(), Stop>
     ensures { Gives (λ _. tt) result (prefix_in_profile place prefix) }
 {
     if is_left_out(prefix) {
-        return Err(stop(34, place));
+        return Err(stop(rules::OUTSIDE_PROFILE, place));
     }
     Ok(())
 }

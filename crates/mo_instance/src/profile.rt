@@ -11,9 +11,8 @@ ghost use Rattle.mo_scope.specs.Worlds.{IsFrame, frame_at, table_in};
 ghost use Rattle.mo_instance.specs.Checks.{first_in_text, in_profile as frame_in_profile, is_function as kind_is_function, replaces_inherited as frame_replaces, row_in_profile as profile_of_row, unless_any, unless_bases, whole_class as class_is_whole, wrongly_inner};
 ghost use Rattle.mo_instance.specs.Firsts.{earlier_place, first_replaced, first_wrong, part_is_base, place_in_part, wrong_at, wrong_items, wrong_parts, wrong_place as place_if_wrong};
 
-use crate::stops::stop;
 use mo_scope::{Declares, Part, Row, Scopes, is_class, replacing};
-use mo_syntax::{ClassKind, Element, ElementFlags, FrameId, Item, Place, Stop, What};
+use mo_syntax::{ClassKind, Element, ElementFlags, FrameId, Item, Place, Stop, What, rules, stop};
 
 /// Breaks rule 26 at the place where the class of a frame is partial.
 pub(crate) fn whole_class(s: &Scopes, place: Place, frame: FrameId) -> Result<(), Stop>
@@ -23,7 +22,7 @@ pub(crate) fn whole_class(s: &Scopes, place: Place, frame: FrameId) -> Result<()
     match s.row(s.class_of(frame)) {
         Some(row) => {
             if row.class.flags.partial {
-                Err(stop(26, place))
+                Err(stop(rules::PARTIAL_CLASS, place))
             } else {
                 Ok(())
             }
@@ -147,7 +146,7 @@ fn parts_in_profile(row: &Row) -> Result<(), Stop>
 {
     let behind = first_item(row.replacing);
     match first_part(row.parts.as_slice(), behind) {
-        Some(place) => Err(stop(34, place)),
+        Some(place) => Err(stop(rules::OUTSIDE_PROFILE, place)),
         None => Ok(()),
     }
 }
@@ -158,7 +157,7 @@ fn row_in_profile(row: &Row) -> Result<(), Stop>
     ensures { (table : Table) → Gives (λ _. tt) result (profile_of_row table (row_seen row.now)) }
 {
     if is_function(row.class.kind) {
-        return Err(stop(34, row.class.place));
+        return Err(stop(rules::OUTSIDE_PROFILE, row.class.place));
     }
     parts_in_profile(row)
 }
@@ -227,7 +226,7 @@ fn row_replaces(row: &Row) -> Result<(), Stop>
         return Ok(());
     }
     match first_replacing(row.replacing) {
-        Some(place) => Err(stop(20, place)),
+        Some(place) => Err(stop(rules::MODIFIED_ELEMENT_NOT_FOUND, place)),
         None => Ok(()),
     }
 }

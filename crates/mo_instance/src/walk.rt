@@ -16,11 +16,10 @@ ghost use Rattle.mo_instance.specs.Steps.{elements_under as elements_added, memb
 use crate::component::{component_asked, is_entered};
 use crate::element::element_made;
 use crate::prefixes::Around;
-use crate::stops::stop;
 use mo_eval::Reader;
 use mo_names::Inherited;
 use mo_scope::{Instance, Member, Scopes, copied};
-use mo_syntax::{List, NoMemory, Stop};
+use mo_syntax::{List, NoMemory, Stop, rules, stop};
 use std::alloc::Global;
 
 /// What is read on the way, and the instances so far.
@@ -141,7 +140,7 @@ fn component_entered<'t>(
     let asked = component_asked(alloc, s, &mut work.reader, &level.around, member)?;
     let (around, dims) = asked;
     if level.left == 0 {
-        return Err(stop(27, member.declares.place));
+        return Err(stop(rules::INSTANCE_TOO_DEEP, member.declares.place));
     }
     if has_none(dims.as_slice()) {
         return Ok(());

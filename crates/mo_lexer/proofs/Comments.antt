@@ -17,6 +17,7 @@ use Rattle.mo_lexer.proofs.Shapes.{some_of_separator, some_of_spelling, Marks, c
 use Rattle.mo_lexer.proofs.OneKind.{slash_mark}
 use Rattle.mo_lexer.proofs.Stuck.{fits_from, bounded, cut_after}
 use Rattle.mo_lexer.proofs.Words.{Front}
+use Rattle.mo_syntax.specs.declared.rules.TheConstants.{TEXT_WITHOUT_END}
 
 -- ---- up to the end of the line
 line_front : (a b : ℕ) (t : List ℕ) → a ≡ 47 → b ≡ 47 → (n : ℕ) → n ≡ prefix_len is_line_byte t → Front IsSeparator (a ∷ b ∷ t) (suc (suc n))
@@ -117,7 +118,7 @@ module _ (a b : ℕ) (t : List ℕ) (first : a ≡ 47) (second : b ≡ 42) where
   not_opened s after e fits =
       fits.comment (let same : a ∷ b ∷ t ≡ a ∷ (s ++ after) = ap (λ x. a ∷ x) e in subst (λ x. opens_block x ≡ true) same (rw (first, second) refl))
 
-  pub block_open : (rule : ℕ) → rule ≡ 4 → IsFirstClose t None → IsStuck (a ∷ b ∷ t) × Breaks (a ∷ b ∷ t) rule 0
+  pub block_open : (rule : ℕ) → rule ≡ TEXT_WITHOUT_END → IsFirstClose t None → IsStuck (a ∷ b ∷ t) × Breaks (a ∷ b ∷ t) rule 0
   block_open rule is none =
       let never = never_where_none t none in (
         record { some = omega arith; separator = λ piece after e s f. no_fit never piece after e (some_of_separator piece s) f; token = λ kind piece after e s f l. no_fit never piece after e (some_of_spelling kind piece s) f },
@@ -172,7 +173,7 @@ module _ (a b : ℕ) (t : List ℕ) (first : a ≡ 47) (second : b ≡ 42) where
           let same : found.0 ≡ take n t = same_body found.0 (take n t) after (drop (n + 2) t) found.1 never (sym found.3 ∙ whole) in
           omega (arith, ap length found.2, length-append found.0 (42 ∷ 47 ∷ []), ap length same, length-take-le n t within)
 
-pub block_open_at : (rest : List ℕ) → opens_block rest ≡ true → (rule : ℕ) → rule ≡ 4 → IsFirstClose (drop 2 rest) None → (0 < length rest) × IsStuck rest × Breaks rest rule 0
+pub block_open_at : (rest : List ℕ) → opens_block rest ≡ true → (rule : ℕ) → rule ≡ TEXT_WITHOUT_END → IsFirstClose (drop 2 rest) None → (0 < length rest) × IsStuck rest × Breaks rest rule 0
 block_open_at [] opens rule is none = cc
 block_open_at (a ∷ []) opens rule is none = cc
 block_open_at (a ∷ b ∷ t) opens rule is none =

@@ -1,5 +1,6 @@
 -- The operator at the front.
 use Rattle.std.proofs.Common.{◌≡◌, ℕ, suc, ◌<◌, ◌≤◌, ◌⊎◌, inl, inr, Bool, true, false, ◌&&◌, ◌||◌, not, List, [], ◌∷◌, ◌++◌, length, take, get_or, eqb, ltb, Some, None, refl, sym, ap, subst, ◌∙◌, arith}
+use Rattle.mo_syntax.specs.declared.rules.TheConstants.{BAD_CHARACTER}
 use mathlib.Core.Bool.{false≢true}
 use Rattle.std.proofs.lemmas.Bool.Decides.{nat_tests}
 use Rattle.mo_tables.specs.Words.{code_in, operators}
@@ -163,7 +164,7 @@ pub one_found : (rest : List ℕ) → IsLone rest → (code : ℕ) → IsOperato
 one_found [] lone code is no_two = absurd (omega (arith, lone.some))
 one_found (b ∷ t) lone code is no_two = one_front b t lone code is no_two
 
-pub none_found : (rest : List ℕ) → IsLone rest → (rule : ℕ) → rule ≡ 3 → ((code : ℕ) → IsOperator code (take 1 rest) → ⊥) → (1 < length rest → (code : ℕ) → IsOperator code (take 2 rest) → ⊥)
+pub none_found : (rest : List ℕ) → IsLone rest → (rule : ℕ) → rule ≡ BAD_CHARACTER → ((code : ℕ) → IsOperator code (take 1 rest) → ⊥) → (1 < length rest → (code : ℕ) → IsOperator code (take 2 rest) → ⊥)
     → (0 < length rest) × IsStuck rest × Breaks rest rule 0
 none_found [] lone rule is no_one no_two = absurd (omega (arith, lone.some))
 none_found (b ∷ t) lone rule is no_one no_two =

@@ -1,6 +1,7 @@
 -- The longest number at the front.
 use Rattle.std.proofs.Common.{◌≡◌, ℕ, zero, suc, ◌+◌, ◌-◌, ◌<◌, ◌≤◌, ◌⊎◌, inl, inr, Bool, true, false, ◌&&◌, not, List, [], ◌∷◌, ◌++◌, length, take, drop, get_or, eqb, ltb, refl, sym, ap, subst, ◌∙◌, arith, length-append, append_assoc, append-nil, length-take-le}
 use Rattle.std.specs.List.{list_all, prefix_len}
+use Rattle.mo_syntax.specs.declared.rules.TheConstants.{LITERAL_TOO_WIDE}
 use mathlib.Core.Bool.{false≢true}
 use Rattle.std.specs.Str.Parse.{digits_value}
 use Rattle.std.proofs.lemmas.Bool.Decides.{nat_tests}
@@ -370,7 +371,7 @@ pub number_front_decimal : (rest : List ℕ) (is_whole : Bool) (n : ℕ) → IsN
 number_front_decimal rest true n front e = cc
 number_front_decimal rest false n front e = (front.cut, front.spells, front.fits, tt)
 
-pub number_front_wide : (rest : List ℕ) (is_whole : Bool) (n rule : ℕ) → rule ≡ 5 → IsNumberFront rest is_whole n → is_whole ≡ true → (digits_value 10 (take n rest) ≤ 9223372036854775807 → ⊥)
+pub number_front_wide : (rest : List ℕ) (is_whole : Bool) (n rule : ℕ) → rule ≡ LITERAL_TOO_WIDE → IsNumberFront rest is_whole n → is_whole ≡ true → (digits_value 10 (take n rest) ≤ 9223372036854775807 → ⊥)
     → (0 < length rest) × IsStuck rest × Breaks rest rule 0
 number_front_wide rest false n rule is front e past = absurd (false≢true e)
 number_front_wide rest true n rule is front e past = wide_front rest n Whole rule is (omega (arith, front.cut.some, front.cut.within)) front.spells front.fits past

@@ -2,6 +2,7 @@
 use Rattle.std.proofs.Common.{◌≡◌, ℕ, suc, ◌+◌, ◌-◌, ◌<◌, ◌≤◌, ◌⊎◌, inl, inr, Bool, false, List, [], ◌∷◌, ◌++◌, length, take, drop, get_or, refl, sym, ap, subst, ◌∙◌, arith, length-append, append_assoc, append-nil, take-append-drop, length-take-le}
 use Rattle.std.proofs.lemmas.List.{drop_more, take_all, take_more}
 use Rattle.std.proofs.lemmas.Bool.Decides.{nat_tests}
+use Rattle.mo_syntax.specs.declared.rules.TheConstants.{TEXT_WITHOUT_END, BAD_CHARACTER, LITERAL_TOO_WIDE}
 use Rattle.mo_syntax.specs.declared.token.TokenKind.TheVariants.{Ident}
 use Rattle.mo_lexer.specs.Bytes.{is_quotable, is_string_byte}
 use Rattle.mo_lexer.specs.Spelling.{AreContents, IsQuoted, IsString}
@@ -63,7 +64,7 @@ module _ (b : ℕ) (t : List ℕ) (first : b ≡ 39) where
   single = rw first refl
 
   -- nothing closes it
-  pub quoted_open : (rule n : ℕ) → rule ≡ 4 → n ≡ length t → IsContentsEnd is_quotable t n → IsStuck (b ∷ t) × Breaks (b ∷ t) rule 0
+  pub quoted_open : (rule n : ℕ) → rule ≡ TEXT_WITHOUT_END → n ≡ length t → IsContentsEnd is_quotable t n → IsStuck (b ∷ t) × Breaks (b ∷ t) rule 0
   quoted_open rule n is whole ends =
       let all = all_contents is_quotable t n whole ends in
       let none : HasNoPiece (b ∷ t) = no_piece SingleQuotes b t single (λ s after e q. unclosed is_quotable refl t q.body after 39 all q.contents (joined t s after q.body 39 e (tail_is b 39 s _ q.is)) (stop_at_single after)) in
@@ -83,7 +84,7 @@ module _ (b : ℕ) (t : List ℕ) (first : b ≡ 39) where
     not_cut (quoted body e all) = unfinished is_quotable refl t body n at (tail_is b 39 t body e) all
 
     -- a byte stands there that may not
-    pub quoted_bad : (rule place : ℕ) → rule ≡ 3 → place ≡ 1 + n → (at.next ≡ 39 → n ≡ 0) → IsStuck (b ∷ t) × Breaks (b ∷ t) rule place
+    pub quoted_bad : (rule place : ℕ) → rule ≡ BAD_CHARACTER → place ≡ 1 + n → (at.next ≡ 39 → n ≡ 0) → IsStuck (b ∷ t) × Breaks (b ∷ t) rule place
     quoted_bad rule place is there unless_empty =
         let none : HasNoPiece (b ∷ t) = no_piece SingleQuotes b t single (λ s after e q.
         let same = closes s after e q in
@@ -120,7 +121,7 @@ module _ (b : ℕ) (t : List ℕ) (first : b ≡ 34) where
   double : class b ≡ DoubleQuotes
   double = rw first refl
 
-  pub string_open : (rule n : ℕ) → rule ≡ 4 → n ≡ length t → IsContentsEnd is_string_byte t n → IsStuck (b ∷ t) × Breaks (b ∷ t) rule 0
+  pub string_open : (rule n : ℕ) → rule ≡ TEXT_WITHOUT_END → n ≡ length t → IsContentsEnd is_string_byte t n → IsStuck (b ∷ t) × Breaks (b ∷ t) rule 0
   string_open rule n is whole ends =
       let all = all_contents is_string_byte t n whole ends in
       let none : HasNoPiece (b ∷ t) = no_piece DoubleQuotes b t double (λ s after e q. unclosed is_string_byte refl t q.body after 34 all q.contents (joined t s after q.body 34 e (tail_is b 34 s _ q.is)) (stop_at_double after)) in
@@ -141,7 +142,7 @@ module _ (b : ℕ) (t : List ℕ) (first : b ≡ 34) where
     backslash : (x : ℕ) → is_string_byte x ≡ false → (x ≡ 34 → ⊥) → x ≡ 92
     backslash x off apart = grind (arith, nat_tests)
 
-    pub string_bad : (rule place : ℕ) → rule ≡ 3 → place ≡ 1 + n → (at.next ≡ 34 → ⊥) → IsStuck (b ∷ t) × Breaks (b ∷ t) rule place
+    pub string_bad : (rule place : ℕ) → rule ≡ BAD_CHARACTER → place ≡ 1 + n → (at.next ≡ 34 → ⊥) → IsStuck (b ∷ t) × Breaks (b ∷ t) rule place
     string_bad rule place is there apart =
         let none : HasNoPiece (b ∷ t) = no_piece DoubleQuotes b t double (λ s after e q. apart (closes_string s after e q).1) in
         let slash : at.next ≡ 92 = backslash at.next at.stops.0 apart in
@@ -170,12 +171,12 @@ module _ (b : ℕ) (t : List ℕ) (first : b ≡ 34) where
         }
 
 -- ---- in the form of the code
-pub quoted_open_at : (rest : List ℕ) → 0 < length rest → get_or rest 0 0 ≡ 39 → (rule n : ℕ) → rule ≡ 4 → 1 + n ≡ length rest → IsContentsEnd is_quotable (drop 1 rest) n
+pub quoted_open_at : (rest : List ℕ) → 0 < length rest → get_or rest 0 0 ≡ 39 → (rule n : ℕ) → rule ≡ TEXT_WITHOUT_END → 1 + n ≡ length rest → IsContentsEnd is_quotable (drop 1 rest) n
     → (0 < length rest) × IsStuck rest × Breaks rest rule 0
 quoted_open_at [] some first rule n is whole ends = absurd (omega arith)
 quoted_open_at (b ∷ t) some first rule n is whole ends = let r = quoted_open b t first rule n is (omega arith) ends in (some, r.0, r.1)
 
-pub quoted_bad_at : (rest : List ℕ) → 0 < length rest → get_or rest 0 0 ≡ 39 → (rule n : ℕ) → rule ≡ 3 → 1 + n < length rest → IsContentsEnd is_quotable (drop 1 rest) n → (get_or rest (1 + n) 0 ≡ 39 → n ≡ 0)
+pub quoted_bad_at : (rest : List ℕ) → 0 < length rest → get_or rest 0 0 ≡ 39 → (rule n : ℕ) → rule ≡ BAD_CHARACTER → 1 + n < length rest → IsContentsEnd is_quotable (drop 1 rest) n → (get_or rest (1 + n) 0 ≡ 39 → n ≡ 0)
     → (1 + n < length rest) × IsStuck rest × Breaks rest rule (1 + n)
 quoted_bad_at [] some first rule n is below ends unless = absurd (omega arith)
 quoted_bad_at (b ∷ t) some first rule n is below ends unless =
@@ -191,12 +192,12 @@ quoted_found_at (b ∷ t) some first n below ends close more =
     let one : 1 + n ≡ suc n = omega arith in
     quoted_found b t first n at (at.next_is ∙ (rw one at close)) more (1 + n + 1) refl
 
-pub string_open_at : (rest : List ℕ) → 0 < length rest → get_or rest 0 0 ≡ 34 → (rule n : ℕ) → rule ≡ 4 → 1 + n ≡ length rest → IsContentsEnd is_string_byte (drop 1 rest) n
+pub string_open_at : (rest : List ℕ) → 0 < length rest → get_or rest 0 0 ≡ 34 → (rule n : ℕ) → rule ≡ TEXT_WITHOUT_END → 1 + n ≡ length rest → IsContentsEnd is_string_byte (drop 1 rest) n
     → (0 < length rest) × IsStuck rest × Breaks rest rule 0
 string_open_at [] some first rule n is whole ends = absurd (omega arith)
 string_open_at (b ∷ t) some first rule n is whole ends = let r = string_open b t first rule n is (omega arith) ends in (some, r.0, r.1)
 
-pub string_bad_at : (rest : List ℕ) → 0 < length rest → get_or rest 0 0 ≡ 34 → (rule n : ℕ) → rule ≡ 3 → 1 + n < length rest → IsContentsEnd is_string_byte (drop 1 rest) n → (get_or rest (1 + n) 0 ≡ 34 → ⊥)
+pub string_bad_at : (rest : List ℕ) → 0 < length rest → get_or rest 0 0 ≡ 34 → (rule n : ℕ) → rule ≡ BAD_CHARACTER → 1 + n < length rest → IsContentsEnd is_string_byte (drop 1 rest) n → (get_or rest (1 + n) 0 ≡ 34 → ⊥)
     → (1 + n < length rest) × IsStuck rest × Breaks rest rule (1 + n)
 string_bad_at [] some first rule n is below ends apart = absurd (omega arith)
 string_bad_at (b ∷ t) some first rule n is below ends apart =
@@ -212,7 +213,7 @@ string_found_at (b ∷ t) some first n below ends close =
     let one : 1 + n ≡ suc n = omega arith in
     string_found b t first n at (at.next_is ∙ (rw one at close)) (1 + n + 1) refl
 
-pub quoted_too_wide : (rest : List ℕ) (m rule : ℕ) → rule ≡ 5 → Front IsQuoted rest m → 256 < m → (0 < length rest) × IsStuck rest × Breaks rest rule 0
+pub quoted_too_wide : (rest : List ℕ) (m rule : ℕ) → rule ≡ LITERAL_TOO_WIDE → Front IsQuoted rest m → 256 < m → (0 < length rest) × IsStuck rest × Breaks rest rule 0
 quoted_too_wide rest m rule is front wide =
     wide_front rest m Ident rule is (omega (arith, front.cut.within)) (inr front.is) front.fits (λ short. omega (arith, short, length-take-le m rest front.cut.within))
 

@@ -2,6 +2,7 @@
 use Rattle.std.proofs.Common.{◌≡◌, ℕ, suc, ◌+◌, ◌-◌, ◌<◌, ◌≤◌, inl, inr, true, List, [], ◌∷◌, ◌++◌, length, take, drop, get_or, refl, sym, ap, subst, ◌∙◌, arith, append_assoc, take-append-drop, length-append, length-take-le}
 use Rattle.std.specs.Str.{IsCharBoundary}
 use Rattle.std.proofs.lemmas.Str.{IsCharBoundary-after_ascii}
+use Rattle.mo_syntax.specs.declared.rules.TheConstants.{LITERAL_TOO_WIDE}
 use Rattle.mo_syntax.specs.declared.token.TokenKind.{TokenKind}
 use Rattle.mo_lexer.specs.Spelling.{Spells, IsWithinLimit, IsComment, IsSeparator}
 use Rattle.mo_lexer.specs.Lexing.{IsPiece, opens_block, Fits, IsStuck, IsTooWide, Breaks, too_wide}
@@ -72,7 +73,7 @@ stuck_where_wide rest some wide = record {
 }
 
 -- the front of n bytes is spelled past its limit
-pub wide_front : (rest : List ℕ) (n : ℕ) (kind : TokenKind) (rule : ℕ) → rule ≡ 5 → 0 < length rest → Spells kind (take n rest) → Fits (take n rest) (drop n rest) → (IsWithinLimit kind (take n rest) → ⊥)
+pub wide_front : (rest : List ℕ) (n : ℕ) (kind : TokenKind) (rule : ℕ) → rule ≡ LITERAL_TOO_WIDE → 0 < length rest → Spells kind (take n rest) → Fits (take n rest) (drop n rest) → (IsWithinLimit kind (take n rest) → ⊥)
     → (0 < length rest) × IsStuck rest × Breaks rest rule 0
 wide_front rest n kind rule is some spells fits past =
     let wide : IsTooWide rest = record { kind = kind; piece = take n rest; after = drop n rest; is = sym (take-append-drop n rest); spells = spells; fits = fits; past = past } in

@@ -3,6 +3,7 @@ use Rattle.std.proofs.Common.{◌≡◌, ℕ, suc, ◌+◌, ◌-◌, ◌<◌, �
 use Rattle.std.specs.List.{prefix_len}
 use Rattle.std.proofs.lemmas.Bool.Decides.{nat_tests}
 use Rattle.std.proofs.lemmas.List.Sums.{prefix_len_passes, prefix_len-le-length}
+use Rattle.mo_syntax.specs.declared.rules.TheConstants.{LITERAL_TOO_WIDE}
 use Rattle.mo_syntax.specs.declared.token.TokenKind.TheVariants.{Ident}
 use Rattle.mo_tables.specs.Words.{code_in, keywords}
 use Rattle.mo_lexer.specs.Bytes.{is_blank, is_letter, is_word_byte}
@@ -50,7 +51,7 @@ word_found (b ∷ t) first n e =
     let size : n ≡ suc (prefix_len is_word_byte t) = omega arith in
     rw size (word_front b t first)
 
-pub word_too_wide : (rest : List ℕ) (n : ℕ) (rule : ℕ) → rule ≡ 5 → Front (λ text. is_word text ≡ true) rest n → code_in keywords (take n rest) ≡ None → 256 < n
+pub word_too_wide : (rest : List ℕ) (n : ℕ) (rule : ℕ) → rule ≡ LITERAL_TOO_WIDE → Front (λ text. is_word text ≡ true) rest n → code_in keywords (take n rest) ≡ None → 256 < n
     → (0 < length rest) × IsStuck rest × Breaks rest rule 0
 word_too_wide rest n rule is front none wide =
     wide_front rest n Ident rule is (omega (arith, front.cut.within)) (inl (front.is, none)) front.fits (λ short. omega (arith, short, length-take-le n rest front.cut.within))

@@ -1,10 +1,9 @@
 -- Which tokens a text has, or which rule it breaks and where (Modelica Language Specification 3.5, chapter 2).
-use Rattle.std.specs.Prelude.{◌≡◌, ℕ, ◌+◌, ◌-◌, ◌<◌, Bool, true, false, ◌==◌, ◌&&◌, List, [], ◌∷◌, ◌++◌, length, ◌⊎◌, if◌then◌else◌, Result, Ok, Err}
+use Rattle.std.specs.Prelude.{◌≡◌, ℕ, ◌+◌, ◌-◌, ◌<◌, Bool, true, false, ◌==◌, ◌&&◌, List, [], ◌∷◌, ◌++◌, length, ◌⊎◌, if◌then◌else◌}
 use Rattle.mo_syntax.specs.Lexeme.{Lexeme}
 use Rattle.mo_syntax.specs.declared.place.Broken.{Broken}
-use Rattle.mo_syntax.specs.declared.place.Stop.{Stop}
-use Rattle.mo_syntax.specs.declared.place.Stop.TheVariants.{Broken as broken_by, NoMemory as no_memory}
 use Rattle.mo_syntax.specs.declared.place.Place.{Place}
+use Rattle.mo_syntax.specs.declared.rules.TheConstants.{LITERAL_TOO_WIDE, TEXT_WITHOUT_END, BAD_CHARACTER}
 use Rattle.mo_syntax.specs.declared.token.TokenKind.{TokenKind}
 use Rattle.mo_syntax.specs.declared.token.TokenKind.TheVariants.{End}
 use Rattle.mo_lexer.specs.Bytes.{is_escaped, is_quotable, is_string_byte}
@@ -89,10 +88,10 @@ pub data IsBadAt (left : List ℕ) : ℕ → Type 0 where
 
 -- the rule that is broken where left is what no piece covers, and how many bytes after its front: the first that applies
 pub data Breaks (left : List ℕ) : ℕ → ℕ → Type 0 where
-  too_wide : {rule at : ℕ} → IsTooWide left → rule ≡ 5 → at ≡ 0 → Breaks left rule at
-  cut_by_end : {rule at : ℕ} → (IsTooWide left → ⊥) → IsCutByEnd left → rule ≡ 4 → at ≡ 0 → Breaks left rule at
-  bad_byte : {rule at : ℕ} → (IsTooWide left → ⊥) → (IsCutByEnd left → ⊥) → IsBadAt left at → rule ≡ 3 → Breaks left rule at
-  no_token : {rule at : ℕ} → (IsTooWide left → ⊥) → (IsCutByEnd left → ⊥) → ((k : ℕ) → IsBadAt left k → ⊥) → rule ≡ 3 → at ≡ 0 → Breaks left rule at
+  too_wide : {rule at : ℕ} → IsTooWide left → rule ≡ LITERAL_TOO_WIDE → at ≡ 0 → Breaks left rule at
+  cut_by_end : {rule at : ℕ} → (IsTooWide left → ⊥) → IsCutByEnd left → rule ≡ TEXT_WITHOUT_END → at ≡ 0 → Breaks left rule at
+  bad_byte : {rule at : ℕ} → (IsTooWide left → ⊥) → (IsCutByEnd left → ⊥) → IsBadAt left at → rule ≡ BAD_CHARACTER → Breaks left rule at
+  no_token : {rule at : ℕ} → (IsTooWide left → ⊥) → (IsCutByEnd left → ⊥) → ((k : ℕ) → IsBadAt left k → ⊥) → rule ≡ BAD_CHARACTER → at ≡ 0 → Breaks left rule at
 
 -- The text has no tokens: the longest sequence of pieces ends where this rule is broken, and this is the place.
 pub record IsRefused (file : ℕ) (text : List ℕ) (broken : Broken) : Type 0 where
@@ -103,9 +102,3 @@ pub record IsRefused (file : ℕ) (text : List ℕ) (broken : Broken) : Type 0 w
   pub stuck : IsStuck left
   pub breaks : Breaks left broken.rule at
   pub place : broken.place ≡ record { file = file; byte = (length text - length left) + at }
-
--- the fact of the refusal, where the answer is one
-abbrev pub IfBroken : {T : Type 0} → Result T Stop → (Broken → Type 0) → Type 0
-IfBroken (Ok value) P = Unit {0}
-IfBroken (Err (broken_by broken)) P = P broken
-IfBroken (Err no_memory) P = Unit {0}

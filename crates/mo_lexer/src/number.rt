@@ -6,8 +6,8 @@ ghost use Rattle.mo_lexer.specs.Spelling.{are_digits};
 ghost use Rattle.mo_lexer.specs.Finding.{Finds, IsNumberFront, point_len, mark_len, exponent_len, begins_number};
 
 use crate::bytes::{digits_len, is_exponent_mark, is_sign};
-use crate::piece::{Found, LITERAL_TOO_WIDE};
-use mo_syntax::{Rule, TokenKind};
+use crate::piece::Found;
+use mo_syntax::{Rule, TokenKind, rules};
 
 // The greatest Integer literal.
 const WHOLE_MAX: u64 = 9223372036854775807;
@@ -92,7 +92,7 @@ pub(crate) fn number(rest: &[u8]) -> Found
         return Found::Spelled(TokenKind::Decimal, len);
     }
     if !is_narrow(&rest[..len]) {
-        return Found::Unfit(Rule::new(LITERAL_TOO_WIDE), 0);
+        return Found::Unfit(Rule::new(rules::LITERAL_TOO_WIDE), 0);
     }
     Found::Spelled(TokenKind::Whole, len)
 }

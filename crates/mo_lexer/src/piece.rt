@@ -9,15 +9,8 @@ ghost use Rattle.mo_lexer.specs.Finding.{Finds, is_mark, begins_number, opens_li
 use crate::bytes::{is_blank, is_digit, is_letter, line_len, word_len};
 use crate::contents::{Quotes, close_at, contents_len};
 use crate::number::number;
-use mo_syntax::{Rule, TokenKind};
+use mo_syntax::{Rule, TokenKind, rules};
 use mo_tables::{keyword, operator};
-
-// The rules that a text may break.
-pub(crate) const BAD_CHARACTER: u8 = 3;
-
-pub(crate) const TEXT_WITHOUT_END: u8 = 4;
-
-pub(crate) const LITERAL_TOO_WIDE: u8 = 5;
 
 // The most bytes that an identifier may have, its quotes included.
 const IDENTIFIER_MAX: usize = 256;
@@ -65,7 +58,7 @@ fn word(rest: &[u8]) -> Found
     let len = word_len(rest);
     match keyword(&rest[..len]) {
         Some(code) => Found::Spelled(TokenKind::Keyword(code), len),
-        None if len > IDENTIFIER_MAX => Found::Unfit(Rule::new(LITERAL_TOO_WIDE), 0),
+        None if len > IDENTIFIER_MAX => Found::Unfit(Rule::new(rules::LITERAL_TOO_WIDE), 0),
         None => Found::Spelled(TokenKind::Ident, len),
     }
 }
@@ -79,11 +72,11 @@ fn quoted(rest: &[u8]) -> Found
     let body = contents_len(Quotes::Single, &rest[1..]);
     let close = 1 + body;
     if close == rest.len() {
-        Found::Unfit(Rule::new(TEXT_WITHOUT_END), 0)
+        Found::Unfit(Rule::new(rules::TEXT_WITHOUT_END), 0)
     } else if rest[close] != b'\'' || body < QUOTED_MIN {
-        Found::Unfit(Rule::new(BAD_CHARACTER), close)
+        Found::Unfit(Rule::new(rules::BAD_CHARACTER), close)
     } else if close >= IDENTIFIER_MAX {
-        Found::Unfit(Rule::new(LITERAL_TOO_WIDE), 0)
+        Found::Unfit(Rule::new(rules::LITERAL_TOO_WIDE), 0)
     } else {
         Found::Spelled(TokenKind::Ident, close + 1)
     }
@@ -97,9 +90,9 @@ fn string(rest: &[u8]) -> Found
 {
     let close = 1 + contents_len(Quotes::Double, &rest[1..]);
     if close == rest.len() {
-        Found::Unfit(Rule::new(TEXT_WITHOUT_END), 0)
+        Found::Unfit(Rule::new(rules::TEXT_WITHOUT_END), 0)
     } else if rest[close] != b'"' {
-        Found::Unfit(Rule::new(BAD_CHARACTER), close)
+        Found::Unfit(Rule::new(rules::BAD_CHARACTER), close)
     } else {
         Found::Spelled(TokenKind::Str, close + 1)
     }
@@ -134,7 +127,7 @@ fn block(rest: &[u8]) -> Found
 {
     match close_at(&rest[2..]) {
         Some(body) => Found::Separator(2 + body + 2),
-        None => Found::Unfit(Rule::new(TEXT_WITHOUT_END), 0),
+        None => Found::Unfit(Rule::new(rules::TEXT_WITHOUT_END), 0),
     }
 }
 
@@ -163,6 +156,6 @@ fn lone_mark(rest: &[u8]) -> Found
     }
     match operator(&rest[..1]) {
         Some(code) => Found::Spelled(TokenKind::Operator(code), 1),
-        None => Found::Unfit(Rule::new(BAD_CHARACTER), 0),
+        None => Found::Unfit(Rule::new(rules::BAD_CHARACTER), 0),
     }
 }

@@ -1,9 +1,10 @@
 //! The tokens of a whole text.
 
 ghost use Rattle.std.specs.Prelude.{◌≡◌, ◌<◌, ◌^◌, ◌≤◌, List as Seq, length, IfOk};
+ghost use Rattle.mo_syntax.specs.Outcome.{IfBroken};
 ghost use Rattle.mo_syntax.specs.declared.place.Broken.{Broken as Refusal};
 ghost use Rattle.mo_syntax.specs.Lexeme.{Lexeme, lexemes};
-ghost use Rattle.mo_lexer.specs.Lexing.{Lexes, IsRefused, after_mark, place_before, IfBroken};
+ghost use Rattle.mo_lexer.specs.Lexing.{Lexes, IsRefused, after_mark, place_before};
 
 use crate::piece::{Found, piece};
 use mo_syntax::{Broken, List, Place, Stop, Token, TokenKind};

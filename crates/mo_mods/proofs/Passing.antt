@@ -7,12 +7,12 @@ use Rattle.std.specs.Str.{bytes_eq}
 use Rattle.std.proofs.lemmas.Grind.{flat_map-append}
 use Rattle.std.proofs.lemmas.List.{drop_more, take_more, map-append, length-map, take-map, get_or-map}
 use Rattle.std.proofs.lemmas.List.Folds.{list_any-append}
+use Rattle.mo_syntax.specs.Outcome.{breach}
 use Rattle.mo_syntax.specs.declared.place.Broken.{Broken}
 use Rattle.mo_syntax.specs.declared.place.Place.{Place}
 use Rattle.mo_syntax.specs.ClassTable.{path_eq, otherwise}
 use Rattle.mo_syntax.proofs.Searching.{path_eq-same}
 use Rattle.mo_scope.specs.Frames.{Listing, listing_eq}
-use Rattle.mo_scope.specs.Outcome.{breach}
 use Rattle.mo_scope.specs.Rows.{place_eq}
 use Rattle.mo_scope.specs.Arguments.{Asked, Claim, is_repeated, is_among, is_front, is_below_final, broken_claims, broken_argument, least, or_later, first_broken}
 use Rattle.mo_scope.specs.Held.{path_key}
@@ -20,6 +20,7 @@ use Rattle.mo_mods.specs.declared.paths.ByPath.{ByPath}
 use Rattle.mo_mods.specs.PathSights.{HasPaths, lists_held}
 use Rattle.mo_mods.proofs.PathTests.{has_more, has_swapped}
 use Rattle.mo_mods.specs.Passes.{Listed_path, paths_of, all_paths, finals_of, all_finals, is_path_of, or_first, first_repeated, all_repeated, first_below, least_broken}
+use Rattle.mo_syntax.specs.declared.rules.TheConstants.{MODIFIED_TWICE, FINAL_MODIFIED, WRONG_EACH}
 
 -- ---- tests of lists
 
@@ -227,31 +228,31 @@ below_more after listing rest one None is all test before_is =
 
 module _ (each : Bool) (at : Place) where
   repeated_first : (place : Place) (others : List Broken) (repeated below : Option Place) → least others ≡ least_broken repeated below each at →
-      least (breach 21 place ∷ others) ≡ least_broken (Some place) below each at
+      least (breach MODIFIED_TWICE place ∷ others) ≡ least_broken (Some place) below each at
   repeated_first place others (Some other) below is = rw is refl
   repeated_first place others None (Some other) is = rw is refl
   repeated_first place others None None is = by each is
     where
-      by : (b : Bool) → least others ≡ least_broken None None b at → least (breach 21 place ∷ others) ≡ Some (breach 21 place)
+      by : (b : Bool) → least others ≡ least_broken None None b at → least (breach MODIFIED_TWICE place ∷ others) ≡ Some (breach MODIFIED_TWICE place)
       by true is = rw is refl
       by false is = rw is refl
 
   below_first : (place : Place) (others : List Broken) (repeated below : Option Place) → least others ≡ least_broken repeated below each at →
-      least (breach 22 place ∷ others) ≡ least_broken repeated (Some place) each at
+      least (breach FINAL_MODIFIED place ∷ others) ≡ least_broken repeated (Some place) each at
   below_first place others (Some other) below is = rw is refl
   below_first place others None (Some other) is = rw is refl
   below_first place others None None is = by each is
     where
-      by : (b : Bool) → least others ≡ least_broken None None b at → least (breach 22 place ∷ others) ≡ Some (breach 22 place)
+      by : (b : Bool) → least others ≡ least_broken None None b at → least (breach FINAL_MODIFIED place ∷ others) ≡ Some (breach FINAL_MODIFIED place)
       by true is = rw is refl
       by false is = rw is refl
 
   claims_least : (before after : List Asked) (listing : Listing) (passed claims : List Claim) →
-      least (broken_claims before after listing passed claims ++ (if each then breach 23 at ∷ [] else []))
+      least (broken_claims before after listing passed claims ++ (if each then breach WRONG_EACH at ∷ [] else []))
       ≡ least_broken (first_repeated before listing passed claims) (first_below after listing claims) each at
   claims_least before after listing passed [] = by each
     where
-      by : (b : Bool) → least (if b then breach 23 at ∷ [] else []) ≡ least_broken None None b at
+      by : (b : Bool) → least (if b then breach WRONG_EACH at ∷ [] else []) ≡ least_broken None None b at
       by true = refl
       by false = refl
   claims_least before after listing passed (one ∷ claims) =
@@ -261,16 +262,16 @@ module _ (each : Bool) (at : Place) where
       rest = broken_claims before after listing (passed ++ one ∷ []) claims
 
       by : (r b : Bool) →
-          least (rest ++ (if each then breach 23 at ∷ [] else [])) ≡ least_broken (first_repeated before listing (passed ++ one ∷ []) claims) (first_below after listing claims) each at →
-          least (((if r then breach 21 one.place ∷ [] else []) ++ (if b then breach 22 one.place ∷ [] else []) ++ rest) ++ (if each then breach 23 at ∷ [] else []))
+          least (rest ++ (if each then breach WRONG_EACH at ∷ [] else [])) ≡ least_broken (first_repeated before listing (passed ++ one ∷ []) claims) (first_below after listing claims) each at →
+          least (((if r then breach MODIFIED_TWICE one.place ∷ [] else []) ++ (if b then breach FINAL_MODIFIED one.place ∷ [] else []) ++ rest) ++ (if each then breach WRONG_EACH at ∷ [] else []))
           ≡ least_broken (if r then Some one.place else first_repeated before listing (passed ++ one ∷ []) claims) (if b then Some one.place else first_below after listing claims) each at
       by true true is =
-          repeated_first one.place (breach 22 one.place ∷ (rest ++ (if each then breach 23 at ∷ [] else []))) (first_repeated before listing (passed ++ one ∷ []) claims) (Some one.place)
-          (below_first one.place (rest ++ (if each then breach 23 at ∷ [] else [])) (first_repeated before listing (passed ++ one ∷ []) claims) (first_below after listing claims) is)
+          repeated_first one.place (breach FINAL_MODIFIED one.place ∷ (rest ++ (if each then breach WRONG_EACH at ∷ [] else []))) (first_repeated before listing (passed ++ one ∷ []) claims) (Some one.place)
+          (below_first one.place (rest ++ (if each then breach WRONG_EACH at ∷ [] else [])) (first_repeated before listing (passed ++ one ∷ []) claims) (first_below after listing claims) is)
       by true false is =
-          repeated_first one.place (rest ++ (if each then breach 23 at ∷ [] else [])) (first_repeated before listing (passed ++ one ∷ []) claims) (first_below after listing claims) is
+          repeated_first one.place (rest ++ (if each then breach WRONG_EACH at ∷ [] else [])) (first_repeated before listing (passed ++ one ∷ []) claims) (first_below after listing claims) is
       by false true is =
-          below_first one.place (rest ++ (if each then breach 23 at ∷ [] else [])) (first_repeated before listing (passed ++ one ∷ []) claims) (first_below after listing claims) is
+          below_first one.place (rest ++ (if each then breach WRONG_EACH at ∷ [] else [])) (first_repeated before listing (passed ++ one ∷ []) claims) (first_below after listing claims) is
       by false false is = is
 
 pub argument_least : (before after : List Asked) (asked : Asked) →

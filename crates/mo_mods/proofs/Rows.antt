@@ -1,13 +1,13 @@
 -- Worked examples of merged modifiers, by computation.
 use Rattle.std.proofs.Common.{◌≡◌, ℕ, pos, Bool, true, false, List, [], ◌∷◌, Option, Some, None, Ok, option_map, codes, refl}
 use Prim.Native.String.{String}
+use Rattle.mo_syntax.specs.Outcome.{Outcome, and_then, breaks}
 use Rattle.mo_syntax.specs.declared.expr.Expr.{Expr, roll-Expr}
 use Rattle.mo_syntax.specs.declared.expr.Node.TheVariants.{Whole}
 use Rattle.mo_syntax.specs.declared.class.ArgumentOf.{ArgumentOf}
 use Rattle.mo_syntax.specs.declared.class.Give.{Give}
 use Rattle.mo_syntax.specs.declared.class.Give.TheVariants.{Modify, outs-Modify}
 use Rattle.mo_syntax.specs.declared.class.Vary.TheVariants.{Free, Parameter}
-use Rattle.mo_scope.specs.Outcome.{Outcome, and_then, breaks}
 use Rattle.mo_scope.specs.Rows.{Table, Part, no_flags}
 use Rattle.mo_scope.specs.Frames.{Frame, Top, In, No_source, Scope, Source, Member}
 use Rattle.mo_scope.specs.Parts.{picked}
@@ -16,6 +16,7 @@ use Rattle.mo_scope.specs.Names.{child_of_member, component_frame}
 use Rattle.mo_mods.specs.Marks.{marks_of}
 use Rattle.mo_mods.specs.Merged.{Merged, Table_of, Nothing_below, Below_then, Merged_value, binding, marks}
 use Rattle.mo_scope.proofs.rows.Notation.{byte, id, name, sets, component_by, row}
+use Rattle.mo_syntax.specs.declared.rules.TheConstants.{NAME_NOT_FOUND}
 
 -- ---- notation
 
@@ -67,7 +68,7 @@ sources_below table frame (step ∷ steps) sources =
     and_then (entered_below (named step.0 (own_members table frame))) (λ next. sources_below table next.0 steps next.1)
   where
     entered_below : Option Member → Outcome (Frame × List Source)
-    entered_below None = breaks 12 (byte 0)
+    entered_below None = breaks NAME_NOT_FOUND (byte 0)
     entered_below (Some member) = and_then (child_of_member table member step.1) (λ child. Ok (component_frame member step.1 child, child.sources))
 
 -- the value for a path, its pending indices and its marks

@@ -2,14 +2,15 @@
 -- which final paths a later list has (Modelica Language Specification 3.5, sections 7.2.2 to 7.2.6).
 use Rattle.std.specs.Prelude.{ℕ, Bool, ◌&&◌, ◌||◌, List, [], ◌∷◌, ◌++◌, map, flat_map, Option, Some, None, if◌then◌else◌}
 use Rattle.std.specs.List.{list_any}
+use Rattle.mo_syntax.specs.Outcome.{breach}
 use Rattle.mo_syntax.specs.declared.class.ArgumentOf.{ArgumentOf}
 use Rattle.mo_syntax.specs.declared.class.Give.{Give}
 use Rattle.mo_syntax.specs.declared.place.Broken.{Broken}
 use Rattle.mo_syntax.specs.declared.place.Place.{Place}
 use Rattle.mo_syntax.specs.ClassTable.{path_eq}
 use Rattle.mo_scope.specs.Frames.{Listing}
-use Rattle.mo_scope.specs.Outcome.{breach}
 use Rattle.mo_scope.specs.Arguments.{Asked, Claim, claims_of, is_repeated, is_among, is_below_final}
+use Rattle.mo_syntax.specs.declared.rules.TheConstants.{MODIFIED_TWICE, FINAL_MODIFIED, WRONG_EACH}
 
 -- the paths that the arguments of a nested list give something for
 abbrev pub nested_claims : List (ArgumentOf Give) → List (List ℕ) → Bool → List Claim
@@ -65,6 +66,6 @@ first_below after listing (one ∷ claims) = if is_below_final after listing one
 
 -- the rule of the least number: a repeated path, one below a final one, `each` where no index is pending
 abbrev pub least_broken : Option Place → Option Place → Bool → Place → Option Broken
-least_broken (Some place) below each at = Some (breach 21 place)
-least_broken None (Some place) each at = Some (breach 22 place)
-least_broken None None each at = if each then Some (breach 23 at) else None
+least_broken (Some place) below each at = Some (breach MODIFIED_TWICE place)
+least_broken None (Some place) each at = Some (breach FINAL_MODIFIED place)
+least_broken None None each at = if each then Some (breach WRONG_EACH at) else None

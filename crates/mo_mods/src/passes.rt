@@ -1,6 +1,6 @@
 //! The second pass over arguments, in two runs: from the front, which paths an argument before has; from the back, which final
 //! paths a later list has. Each run is linear in the paths.
-ghost use Rattle.std.specs.Prelude.{◌≡◌, ◌≤◌, ◌||◌, ◌++◌, ◌∷◌, [], None, List as Seq, map, slice_get, unwrap_or, IfOk, OnOk};
+ghost use Rattle.std.specs.Prelude.{◌≡◌, ◌||◌, ◌++◌, ◌∷◌, [], None, List as Seq, map, slice_get, unwrap_or, IfOk, OnOk};
 ghost use Rattle.mo_scope.specs.Arguments.{Asked as AskedOf, first_broken as first_broken_argument, is_below_final, or_later};
 ghost use Rattle.mo_scope.specs.Sights.{listing_seen};
 ghost use Rattle.mo_mods.specs.Passes.{Listed_path, all_finals, all_paths, all_repeated, finals_of, first_below as first_below_final, first_repeated as first_repeated_path, least_broken, or_first as or_first_place};
@@ -9,7 +9,7 @@ ghost use Rattle.mo_mods.specs.PathSights.{HasPaths, asked_seen, claim_seen};
 use crate::asked::{Asked, Claim};
 use crate::paths::{ByPath, key_of, write_name};
 use mo_scope::Listing;
-use mo_syntax::{Broken, List, NoMemory, Place, Rule};
+use mo_syntax::{Broken, List, NoMemory, Place, broken, rules};
 use std::alloc::Global;
 
 /// The place that was found first, else this one if a rule is broken there.
@@ -124,29 +124,17 @@ fn add_finals<'s, 't>(
     Ok(())
 }
 
-/// A broken rule.
-fn broken(rule: u8, place: Place) -> Broken
-    requires low { 1 ≤ rule }
-    requires high { rule ≤ 46 }
-    ensures { result ≡ record { rule = rule; place = place } }
-{
-    Broken {
-        rule: Rule::new(rule),
-        place,
-    }
-}
-
 /// The rule of the least number that an argument breaks.
 fn least(repeated: Option<Place>, below: Option<Place>, asked: &Asked<'_, '_>) -> Option<Broken>
     ensures { result ≡ least_broken repeated below asked.now.each asked.now.place }
 {
     match repeated {
-        Some(place) => Some(broken(21, place)),
+        Some(place) => Some(broken(rules::MODIFIED_TWICE, place)),
         None => match below {
-            Some(place) => Some(broken(22, place)),
+            Some(place) => Some(broken(rules::FINAL_MODIFIED, place)),
             None => {
                 if asked.each {
-                    Some(broken(23, asked.place))
+                    Some(broken(rules::WRONG_EACH, asked.place))
                 } else {
                     None
                 }

@@ -2,6 +2,7 @@
 -- another that answers at least as much.
 use Rattle.std.proofs.Common.{◌≡◌, ℕ, ℤ, Bool, true, false, List, [], ◌∷◌, Option, Some, None, Ok, Err, refl, if◌then◌else◌}
 use Rattle.std.specs.List.{list_all}
+use Rattle.mo_syntax.specs.Outcome.{Outcome, and_then}
 use Rattle.mo_syntax.specs.declared.expr.Expr.{Expr}
 use Rattle.mo_syntax.specs.declared.expr.PartOf.{PartOf}
 use Rattle.mo_syntax.specs.declared.expr.ReferenceOf.{ReferenceOf}
@@ -9,7 +10,6 @@ use Rattle.mo_syntax.specs.declared.class.Import.{Import}
 use Rattle.mo_syntax.specs.declared.class.Import.TheVariants.{Renamed, Named, Group, All as Star}
 use Rattle.mo_syntax.specs.declared.place.Broken.{Broken}
 use Rattle.mo_syntax.specs.declared.place.Place.{Place}
-use Rattle.mo_scope.specs.Outcome.{Outcome, and_then}
 use Rattle.mo_scope.specs.Rows.{Table, Row, row_at, Clause}
 use Rattle.mo_scope.specs.Frames.{Frame, Top, In, Scope, Member, class_of}
 use Rattle.mo_scope.specs.Lookup.{Found, Walked, Asking, contains, own_members, named, members_in, counts_in_package, Element, Other, Absent, reached, reached_own, is_package, counted, behind_class, class_wanted, first_at_top, import_behind, imported, imported_package, through_star, and_also, imported_as, found_by_import, found_by_star, found_by_each, found_by_imports, Met, found_element, found_in, found_from, is_closed, iteration, found_by_name, found_first, Classed, classed, class_behind, class_named, base_class, base_of}

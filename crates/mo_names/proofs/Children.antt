@@ -1,11 +1,12 @@
 -- Elements that are entered.
 use Rattle.std.proofs.Common.{◌≡◌, ℕ, ◌+◌, Bool, true, false, cond, List, [], ◌∷◌, length, map, Option, Some, None, Result, Ok, Err, refl, ap, sym, subst, ◌∙◌}
 use Rattle.std.specs.Prelude.{option_map, IfSome}
+use Rattle.mo_syntax.specs.Outcome.{Outcome, and_then, breaks}
 use Rattle.mo_syntax.specs.declared.class.ComponentOf.{ComponentOf}
 use Rattle.mo_syntax.specs.declared.class.Give.{Give}
 use Rattle.mo_syntax.specs.declared.place.Stop.{Stop}
 use Rattle.mo_scope.specs.declared.saying.Redeclaration.{Redeclaration as RedeclarationAt}
-use Rattle.mo_scope.specs.Outcome.{Outcome, Gives, and_then, breaks}
+use Rattle.mo_scope.specs.Outcome.{Gives}
 use Rattle.mo_scope.specs.Rows.{Table, class_number, component_of, is_class}
 use Rattle.mo_scope.specs.Frames.{Frame, Scope, Source, Member, gathered, listed, looked_up, sources_of}
 use Rattle.mo_scope.specs.Lookup.{Classed, asking_of, class_named, entered}
@@ -17,6 +18,7 @@ use Rattle.mo_scope.proofs.Numbered.{alike_sources, frames_stay, listed-gathered
 use Rattle.mo_names.specs.Children.{class_child, component_child, type_by}
 use Rattle.mo_names.proofs.Chains.{then_after}
 use Rattle.mo_names.proofs.Later.{frame_later, is_frame_later}
+use Rattle.mo_syntax.specs.declared.rules.TheConstants.{WRONG_KIND_OF_NAME}
 
 -- ---- later worlds
 
@@ -49,7 +51,7 @@ looked_up_sources n xs outer class o is same = let one : looked_up n xs outer �
 pub entered_sources : (table : Table) (member : Member) (class : Frame) → entered table member ≡ Ok class → sources_of class ≡ class_sources table member
 entered_sources table member class = by (class_sources table member) refl (redeclared table (sources_of member.home) member.name []) refl
   where
-    by_class : (b : Bool) (r : Redeclaration) → cond b (Ok (looked_up (class_number r.declares) (class_sources table member) r.source.scope.frame)) (breaks 13 r.place) ≡ Ok class → sources_of class ≡ class_sources table member
+    by_class : (b : Bool) (r : Redeclaration) → cond b (Ok (looked_up (class_number r.declares) (class_sources table member) r.source.scope.frame)) (breaks WRONG_KIND_OF_NAME r.place) ≡ Ok class → sources_of class ≡ class_sources table member
     by_class true r is = looked_up_sources (class_number r.declares) (class_sources table member) r.source.scope.frame class _ refl is
     by_class false r is = absurd cc
 

@@ -1,16 +1,18 @@
 -- Steps of lookup, one after another.
 use Rattle.std.proofs.Common.{◌≡◌, ℕ, zero, suc, ◌+◌, ◌-◌, ◌<◌, Bool, true, false, cond, List, [], ◌∷◌, ◌++◌, length, map, drop, get_or, Option, Some, None, Result, Ok, Err, refl, ap, sym, subst, ◌∙◌, arith}
 use Rattle.std.specs.Prelude.{slice_get}
+use Rattle.mo_syntax.specs.Outcome.{Outcome, and_then, breach, breaks}
 use Rattle.mo_syntax.specs.declared.expr.Expr.{Expr}
 use Rattle.mo_syntax.specs.declared.expr.PartOf.{PartOf}
 use Rattle.mo_syntax.specs.declared.class.Import.{Import}
 use Rattle.mo_syntax.specs.declared.class.Import.TheVariants.{All as Star}
+use Rattle.mo_syntax.specs.declared.rules.TheConstants.{OUTSIDE_PROFILE, BASE_CLASS_CYCLE}
 use Rattle.mo_syntax.specs.declared.text.Path.{Path}
 use Rattle.mo_syntax.specs.declared.place.Broken.{Broken}
 use Rattle.mo_syntax.specs.declared.place.Place.{Place}
 use Rattle.mo_syntax.specs.declared.place.Stop.{Stop}
 use Rattle.mo_syntax.specs.declared.place.Stop.TheVariants.{Broken as broken_by, NoMemory as no_memory}
-use Rattle.mo_scope.specs.Outcome.{Outcome, Gives, and_then, breach, breaks}
+use Rattle.mo_scope.specs.Outcome.{Gives}
 use Rattle.mo_scope.specs.Rows.{Table, Row, row_at, Part, Element_of, Base_of, is_left_out}
 use Rattle.mo_scope.specs.Frames.{Frame, Top, In, class_of, is_top}
 use Rattle.mo_scope.specs.Lookup.{Found, Met, Classed, Walked, Asking, behind_class, class_wanted, classed, import_behind, imported_package, and_also, found_by_each, found_by_import, found_by_imports, found_element, first_at_top, through_star, found_by_star, class_behind, found_in, found_from, met_far, or_absent, at_top, predefined, is_closed, contains, walked, walked_class, walked_parts, with_member, with_base, base_of, leaf_checked, leaf_of, nothing_walked, last_place}
@@ -150,19 +152,19 @@ pub class_is : (table : Table) (asking : Asking) (frame : Frame) (row : Option R
 class_is table asking frame None = refl
 class_is table asking frame (Some row) = by (is_left_out row)
   where
-    by : (b : Bool) → and_then (cond b (Err (breach 34 row.class.place)) (Ok (nothing_walked (leaf_of row frame)))) (λ w. and_then (parts_walked table asking frame (Some row) 0 row.parts w) leaf_checked)
-        ≡ cond b (Err (breach 34 row.class.place)) (and_then (walked_parts table asking frame row 0 row.parts (nothing_walked (leaf_of row frame))) leaf_checked)
+    by : (b : Bool) → and_then (cond b (Err (breach OUTSIDE_PROFILE row.class.place)) (Ok (nothing_walked (leaf_of row frame)))) (λ w. and_then (parts_walked table asking frame (Some row) 0 row.parts w) leaf_checked)
+        ≡ cond b (Err (breach OUTSIDE_PROFILE row.class.place)) (and_then (walked_parts table asking frame row 0 row.parts (nothing_walked (leaf_of row frame))) leaf_checked)
     by true = refl
     by false = ap (λ o. and_then o leaf_checked) (parts_are table asking frame row 0 row.parts (nothing_walked (leaf_of row frame)))
 
 -- ---- the knot
 
-pub none_left : (table : Table) (left : ℕ) (busy : List ℕ) (place : Place) (frame : Frame) → left ≡ 0 → walked table left busy place frame ≡ breaks 18 place
+pub none_left : (table : Table) (left : ℕ) (busy : List ℕ) (place : Place) (frame : Frame) → left ≡ 0 → walked table left busy place frame ≡ breaks BASE_CLASS_CYCLE place
 unfolding walked
 none_left table zero busy place frame none = refl
 none_left table (suc left) busy place frame none = absurd (omega arith)
 
-pub is_busy_still : (table : Table) (left : ℕ) (busy : List ℕ) (place : Place) (frame : Frame) → contains busy (class_of frame) ≡ true → walked table left busy place frame ≡ breaks 18 place
+pub is_busy_still : (table : Table) (left : ℕ) (busy : List ℕ) (place : Place) (frame : Frame) → contains busy (class_of frame) ≡ true → walked table left busy place frame ≡ breaks BASE_CLASS_CYCLE place
 unfolding walked
 is_busy_still table zero busy place frame is = refl
 is_busy_still table (suc left) busy place frame is = rw is refl

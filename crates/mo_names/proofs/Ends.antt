@@ -5,14 +5,15 @@ use Rattle.std.specs.List.{list_any}
 use Rattle.std.specs.Str.{bytes_eq}
 use Rattle.std.proofs.lemmas.List.{reverse-append}
 use Rattle.std.proofs.Math.Seq.{drop-cons}
+use Rattle.mo_syntax.specs.Outcome.{breaks}
 use Rattle.mo_syntax.specs.declared.class.Import.{Import}
 use Rattle.mo_syntax.specs.declared.class.Import.TheVariants.{Group}
 use Rattle.mo_syntax.specs.declared.meaning.FrameId.{FrameId}
+use Rattle.mo_syntax.specs.declared.rules.TheConstants.{WRONG_KIND_OF_NAME}
 use Rattle.mo_syntax.specs.declared.text.Path.{Path}
 use Rattle.mo_syntax.specs.declared.expr.Expr.{Expr}
 use Rattle.mo_syntax.specs.declared.expr.PartOf.{PartOf}
 use Rattle.mo_syntax.specs.declared.place.Place.{Place}
-use Rattle.mo_scope.specs.Outcome.{breaks}
 use Rattle.mo_scope.specs.Rows.{Part, Element_of, Base_of}
 use Rattle.mo_scope.specs.Frames.{Frame}
 use Rattle.mo_scope.specs.Lookup.{Inherited, Walked, final_frame, imported_as, last_name, last_place, leaf_checked}
@@ -51,7 +52,7 @@ part_exists classes parts k (Base_of clause) exist at = tt
 
 -- ---- leaf types
 
-pub leaf_breaks : (walked : Walked) (leaf : Frame) (first : Inherited) (others : List Inherited) → walked.leaf ≡ Some leaf → walked.members ≡ first ∷ others → leaf_checked walked ≡ breaks 13 first.member.declares.place
+pub leaf_breaks : (walked : Walked) (leaf : Frame) (first : Inherited) (others : List Inherited) → walked.leaf ≡ Some leaf → walked.members ≡ first ∷ others → leaf_checked walked ≡ breaks WRONG_KIND_OF_NAME first.member.declares.place
 leaf_breaks walked leaf first others is are = rw (is, are) refl
 
 pub leaf_alone : (walked : Walked) → walked.members ≡ [] → leaf_checked walked ≡ Ok walked

@@ -2,10 +2,11 @@
 use Rattle.std.proofs.Common.{◌≡◌, ℕ, Bool, true, false, cond, List, map, Option, Some, None, option_map, Result, Ok, Err, refl, ap, sym, subst, ◌∙◌}
 use Rattle.std.specs.List.{list_all}
 use Rattle.std.specs.Prelude.{IfSome}
+use Rattle.mo_syntax.specs.Outcome.{Outcome, and_then, breach}
 use Rattle.mo_syntax.specs.declared.place.Place.{Place}
 use Rattle.mo_syntax.specs.declared.place.Stop.{Stop}
 use Rattle.mo_syntax.specs.declared.place.Stop.TheVariants.{Broken as broken_by, NoMemory as no_memory}
-use Rattle.mo_scope.specs.Outcome.{Outcome, Gives, and_then, breach}
+use Rattle.mo_scope.specs.Outcome.{Gives}
 use Rattle.mo_scope.specs.Rows.{Table, is_class}
 use Rattle.mo_scope.specs.Frames.{Frame, Member, class_of, is_top}
 use Rattle.mo_scope.specs.Lookup.{Found, Reached, Element, Other, Absent, Met, Asking, behind_class, contains, counted, counts_in_package, found_element, found_from, found_in, is_package, members_in, met, named, own_members, reached, reached_in, reached_own, through_star, walked}
@@ -20,6 +21,7 @@ use Rattle.mo_names.specs.Steps.{all_met, counted_reached, element_behind, eleme
 use Rattle.mo_names.proofs.Circling.{go_on, or_on, outwards_step, then_same, then_then}
 use Rattle.mo_names.proofs.Outwards.{here_told, past_told}
 use Rattle.mo_names.proofs.Later.{found_later, frame_later, is_frame_later, table_later}
+use Rattle.mo_syntax.specs.declared.rules.TheConstants.{WRONG_KIND_OF_NAME, NAME_NOT_FOUND}
 
 -- a value that is given
 pub given_ok : {T U A B : Type 0} (view : T → A) (view' : U → B) (r : Result T Stop) (x : T) (told : Outcome A) (f : A → Outcome B) (result : Result U Stop) → r ≡ Ok x → Gives view r told → Gives view' result (f (view x)) →
@@ -38,10 +40,10 @@ behind_is table asking ask place component frame name =
   where
     element : Option Place → Member → Outcome Found
     element None member = open_element table place frame member
-    element (Some wrong) member = cond (is_class member.declares) (open_element table place frame member) (Err (breach 13 wrong))
+    element (Some wrong) member = cond (is_class member.declares) (open_element table place frame member) (Err (breach WRONG_KIND_OF_NAME wrong))
 
     found_at : Reached → Outcome Found
-    found_at Absent = Err (breach 12 place)
+    found_at Absent = Err (breach NAME_NOT_FOUND place)
     found_at (Other found) = Ok found
     found_at (Element member) = and_then (counted table asking ask place frame member) (element component)
 

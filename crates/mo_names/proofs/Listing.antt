@@ -3,7 +3,6 @@ use Rattle.std.proofs.Common.{◌≡◌, ℕ, zero, suc, List, [], ◌∷◌, ma
 use Rattle.mo_scope.specs.declared.row.Member.{Member as MemberAt}
 use Rattle.mo_scope.specs.Frames.{Frame, Member}
 use Rattle.mo_scope.specs.Lookup.{Walked, members_in}
-use Rattle.mo_scope.specs.Outcome.{Outcome, and_then}
 use Rattle.mo_scope.specs.Places.{Every}
 use Rattle.mo_scope.specs.Sights.{member_seen}
 use Rattle.mo_scope.specs.Worlds.{World, MemberEntry, AreHomes, Grows, IsFrame, frames_of, member_in}
@@ -12,6 +11,7 @@ use Rattle.mo_names.specs.declared.walk.Walk.{Walk}
 use Rattle.mo_names.specs.Sights.{IsInherited, IsMember, inherited_seen, member_of, walk_seen}
 use Rattle.mo_names.proofs.Later.{is_member_later, member_later}
 use Rattle.mo_names.proofs.MembersExist.{kept_exist}
+use Rattle.mo_syntax.specs.Outcome.{Outcome, and_then}
 
 abbrev pub held : List InheritedAt → List MemberAt
 held xs = map (λ (inherited : InheritedAt). inherited.member) xs

@@ -1,7 +1,8 @@
 -- Outcomes, one after another, and answers that are told of them.
 use Rattle.std.proofs.Common.{◌≡◌, Result, Ok, Err, sym, subst, ◌∙◌}
+use Rattle.mo_syntax.specs.Outcome.{Outcome, and_then}
 use Rattle.mo_syntax.specs.declared.place.Stop.{Stop}
-use Rattle.mo_scope.specs.Outcome.{Outcome, Gives, and_then}
+use Rattle.mo_scope.specs.Outcome.{Gives}
 use Rattle.mo_names.proofs.Circling.{err_on, then_ok}
 
 -- an answer that is no value, where what it is told of comes to the same outcome

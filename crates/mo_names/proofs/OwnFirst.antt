@@ -6,12 +6,13 @@ use Rattle.std.specs.List.{list_any}
 use Rattle.std.specs.Str.{bytes_eq}
 use Rattle.std.proofs.lemmas.List.{map-append}
 use Rattle.std.proofs.lemmas.Slice.Eq.{bytes_eq-Decides}
+use Rattle.mo_syntax.specs.Outcome.{Outcome, and_then, breach, breaks}
 use Rattle.mo_syntax.specs.declared.place.Place.{Place}
-use Rattle.mo_scope.specs.Outcome.{Outcome, and_then, breach, breaks}
 use Rattle.mo_scope.specs.Rows.{Table, Row, row_at, Part, Element_of, Base_of, Declares, Clause, elements_in, is_left_out, number_of_classes}
 use Rattle.mo_scope.specs.Frames.{Frame, Member, class_of}
 use Rattle.mo_scope.specs.Lookup.{Inherited, Walked, Asking, Element, Absent, asking_of, base_of, contains, last_place, leaf_checked, leaf_of, members_from, members_in, named, not_counted, nothing_walked, own_members, reached, reached_in, walked, walked_class, walked_parts, with_base, with_busy, with_member, with_members}
 use Rattle.mo_scope.specs.Names.{elements_of, walk_of}
+use Rattle.mo_syntax.specs.declared.rules.TheConstants.{INHERITED_ELEMENTS_CLASH, OUTSIDE_PROFILE}
 
 -- what comes of a value came of one
 pub then_value : {A B C : Type 0} (o : Outcome A) (f : A → Outcome B) (b : B) → and_then o f ≡ Ok b → ((a : A) → o ≡ Ok a → f a ≡ Ok b → C) → C
@@ -38,7 +39,7 @@ is_added : (inherited : Inherited) (so_far w : Walked) → with_member inherited
 unfolding added
 is_added inherited so_far w is = by (list_any (λ other. bytes_eq other.member.name inherited.member.name) so_far.members) refl is
   where
-    by : (b : Bool) → list_any (λ other. bytes_eq other.member.name inherited.member.name) so_far.members ≡ b → cond b (Err (breach 19 inherited.member.declares.place)) (Ok (added inherited so_far)) ≡ Ok w →
+    by : (b : Bool) → list_any (λ other. bytes_eq other.member.name inherited.member.name) so_far.members ≡ b → cond b (Err (breach INHERITED_ELEMENTS_CLASH inherited.member.declares.place)) (Ok (added inherited so_far)) ≡ Ok w →
         (list_any (λ other. bytes_eq other.member.name inherited.member.name) so_far.members ≡ false) × (added inherited so_far ≡ w)
     by true e is = absurd cc
     by false e is = let same : added inherited so_far ≡ w = cc in (e, same)
@@ -155,7 +156,7 @@ AreFirst table frame name walked =
 class_first : (table : Table) (asking : Asking) (frame : Frame) (name : List ℕ) (w : Walked) → walked_class table asking frame (row_at table (class_of frame)) ≡ Ok w → AreFirst table frame name w
 class_first table asking frame name w is = by (row_at table (class_of frame)) refl is
   where
-    by_row : (row : Row) (b : Bool) → cond b (Err (breach 34 row.class.place)) (named_row table asking frame row) ≡ Ok w →
+    by_row : (row : Row) (b : Bool) → cond b (Err (breach OUTSIDE_PROFILE row.class.place)) (named_row table asking frame row) ≡ Ok w →
         ((m : Member) → named name (members_from frame 0 (elements_in row.parts)) ≡ Some m → named name (members_in w) ≡ Some m)
         × ((first : Member) (others : List Member) → members_in w ≡ first ∷ others → w.leaf ≡ None)
     by_row row true e = absurd cc

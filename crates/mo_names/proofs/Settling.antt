@@ -3,8 +3,8 @@
 use Rattle.std.proofs.Common.{◌≡◌, ℕ, zero, ◌+◌, ◌-◌, ◌<◌, ◌≤◌, Bool, true, false, ◌||◌, List, [], ◌∷◌, ◌++◌, drop, get_or, length, Option, Some, None, Result, Ok, Err, nat_eq, refl, sym, ap, subst, ◌∙◌, arith, eqb-true, eq-eqb}
 use Rattle.std.specs.Prelude.{IfOk, IfSome, is_some, slice_get}
 use Rattle.std.proofs.lemmas.List.{drop_all}
+use Rattle.mo_syntax.specs.Outcome.{Outcome, and_then, breach}
 use Rattle.mo_syntax.specs.declared.place.Place.{Place}
-use Rattle.mo_scope.specs.Outcome.{Outcome, and_then, breach}
 use Rattle.mo_scope.specs.Rows.{Table, Row, row_at, number_of_classes, Part, Element_of, Declares, Clause}
 use Rattle.mo_scope.specs.Frames.{Frame, class_of, is_top, looked_up, outer_of, sources_of}
 use Rattle.mo_scope.specs.Lookup.{Asking, Walked, asking_of, base_of, contains, last_place, leaf_checked, walked, walked_class, with_base, with_member}
@@ -27,12 +27,13 @@ use Rattle.mo_names.proofs.Later.{added_later, frame_later, grows_trans, is_adde
 use Rattle.mo_names.proofs.OwnedWalks.{unowned_bare}
 use Rattle.mo_names.proofs.Reading.{at_element}
 use Rattle.mo_names.proofs.Twins.{base_part_owned, class_of_twin, leaf_owned, own_part_owned, owned_is_twin, started_owned}
+use Rattle.mo_syntax.specs.declared.rules.TheConstants.{BASE_CLASS_CYCLE}
 
 -- ---- where no elements can be asked for
 
 never : (table : Table) (busy : List ℕ) (place : Place) (frame : Frame) (o : Outcome Walked) → Also (walked table zero busy place frame) o
 unfolding walked
-never table busy place frame o = also_never (breach 18 place) o
+never table busy place frame o = also_never (breach BASE_CLASS_CYCLE place) o
 
 none_given : (table : Table) (place : Place) (frame : Frame) (walk : Walked) {B : Type 0} → walked table zero [] place frame ≡ Ok walk → B
 unfolding walked

@@ -3,8 +3,8 @@ use Rattle.std.proofs.Common.{◌≡◌, ℕ, ◌<◌, Bool, true, false, cond, 
 use Rattle.std.specs.Prelude.{◌&&◌, option_map}
 use Rattle.std.specs.List.{list_all}
 use Rattle.std.specs.Str.{bytes_eq}
+use Rattle.mo_syntax.specs.Outcome.{Outcome, and_then}
 use Rattle.mo_syntax.specs.declared.place.Place.{Place}
-use Rattle.mo_scope.specs.Outcome.{Outcome, and_then}
 use Rattle.mo_scope.specs.Rows.{Table, number_of_classes}
 use Rattle.mo_scope.specs.Frames.{Frame, Member}
 use Rattle.mo_scope.specs.Lookup.{Walked, Asking, Element, Absent, asking_of, counts_in_package, is_package, members_in, named, reached}

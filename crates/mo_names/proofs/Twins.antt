@@ -4,11 +4,11 @@ use Rattle.std.proofs.Common.{◌≡◌, ℕ, ◌+◌, Bool, true, false, cond, 
 use Rattle.std.specs.List.{list_any}
 use Rattle.std.specs.Str.{bytes_eq}
 use Rattle.std.proofs.lemmas.List.{map-append}
+use Rattle.mo_syntax.specs.Outcome.{Outcome, and_then, breach}
 use Rattle.mo_syntax.specs.declared.expr.Expr.{Expr}
 use Rattle.mo_syntax.specs.declared.expr.PartOf.{PartOf}
 use Rattle.mo_syntax.specs.declared.class.Element.{Element}
 use Rattle.mo_syntax.specs.declared.place.Place.{Place}
-use Rattle.mo_scope.specs.Outcome.{Outcome, and_then, breach}
 use Rattle.mo_scope.specs.Rows.{Table, Row, row_at, elements_in, Modifiers, Declares, Clause, is_left_out, is_short_redeclaration, literals_in}
 use Rattle.mo_scope.specs.Frames.{Frame, Top, In, Member, Source, at_of, class_of, gathered, owner_of_base, is_same_base, is_top, outer_of, sources_of, Elsewhere, Listed, Replacing}
 use Rattle.mo_scope.specs.Parts.{added_sources, base_sources, clause_source, is_nothing, place_of_list, replacing_source, written}
@@ -17,6 +17,7 @@ use Rattle.mo_scope.proofs.Numbered.{listed-gathered}
 use Rattle.mo_names.specs.Bases.{base_walked}
 use Rattle.mo_names.specs.Steps.{own_inherited, started}
 use Rattle.mo_names.specs.Twins.{BeginsElsewhere, owned_by, owned_inherited, owned_outcome, owned_through, owned_walk, unowned}
+use Rattle.mo_syntax.specs.declared.rules.TheConstants.{INHERITED_ELEMENTS_CLASH, OUTSIDE_PROFILE}
 
 -- ---- what counts already
 
@@ -71,7 +72,7 @@ named_owned f (other ∷ members) name = ap (λ (b : Bool). bytes_eq other.membe
 
 pub member_owned : (f : Frame) (inherited : Inherited) (so_far : Walked) → with_member (owned_inherited f inherited) (owned_walk f so_far) ≡ owned_outcome f (with_member inherited so_far)
 member_owned f inherited so_far =
-    ap (λ b. cond b (Err (breach 19 inherited.member.declares.place)) seen) (named_owned f so_far.members inherited.member.name)
+    ap (λ b. cond b (Err (breach INHERITED_ELEMENTS_CLASH inherited.member.declares.place)) seen) (named_owned f so_far.members inherited.member.name)
     ∙ by (list_any (λ other. bytes_eq other.member.name inherited.member.name) so_far.members)
   where
     joined : Walked
@@ -80,7 +81,7 @@ member_owned f inherited so_far =
     seen : Outcome Walked
     seen = Ok (record { members = map (owned_inherited f) so_far.members ++ owned_inherited f inherited ∷ []; bases = map (owned_through f) so_far.bases; sections = map (owned_through f) so_far.sections; leaf = None })
 
-    by : (b : Bool) → cond b (Err (breach 19 inherited.member.declares.place)) seen ≡ owned_outcome f (cond b (Err (breach 19 inherited.member.declares.place)) (Ok joined))
+    by : (b : Bool) → cond b (Err (breach INHERITED_ELEMENTS_CLASH inherited.member.declares.place)) seen ≡ owned_outcome f (cond b (Err (breach INHERITED_ELEMENTS_CLASH inherited.member.declares.place)) (Ok joined))
     by true = refl
     by false = ap (λ (ms : List Inherited). Ok (record { members = ms; bases = map (owned_through f) so_far.bases; sections = map (owned_through f) so_far.sections; leaf = None })) (sym (map-append (owned_inherited f) so_far.members (inherited ∷ [])))
 
@@ -317,8 +318,8 @@ started_owned frame None begun is none =
     absurd (cc)
 started_owned frame (Some row) begun is none = by (is_left_out row) (literals_in row.form) refl is
   where
-    by : (b : Bool) (literals : Option (List (List ℕ))) → literals_in row.form ≡ literals → cond b (Err (breach 34 row.class.place)) (Ok (nothing_walked (leaf_of row (unowned frame)))) ≡ Ok begun →
-        cond b (Err (breach 34 row.class.place)) (Ok (nothing_walked (leaf_of row frame))) ≡ Ok (owned_walk frame begun)
+    by : (b : Bool) (literals : Option (List (List ℕ))) → literals_in row.form ≡ literals → cond b (Err (breach OUTSIDE_PROFILE row.class.place)) (Ok (nothing_walked (leaf_of row (unowned frame)))) ≡ Ok begun →
+        cond b (Err (breach OUTSIDE_PROFILE row.class.place)) (Ok (nothing_walked (leaf_of row frame))) ≡ Ok (owned_walk frame begun)
     by true literals have is = absurd cc
     by false None have is =
         let whole : Ok (nothing_walked None) ≡ Ok begun = rw have at is in

@@ -1,17 +1,18 @@
 -- Steps of inheritance by name: what each does for the name of a base, for one extends clause, and for one part of a class.
 use Rattle.std.specs.Prelude.{◌≡◌, ℕ, ◌<◌, Bool, List, [], ◌∷◌, Option, Some, Ok, slice_get}
+use Rattle.mo_syntax.specs.Outcome.{Outcome, and_then, breaks}
 use Rattle.mo_syntax.specs.declared.expr.Expr.{Expr}
 use Rattle.mo_syntax.specs.declared.expr.PartOf.{PartOf}
-use Rattle.mo_scope.specs.Outcome.{Outcome, and_then, breaks}
 use Rattle.mo_scope.specs.Rows.{Row, Table, Part, Element_of, Base_of, Clause, class_number}
 use Rattle.mo_scope.specs.Frames.{Frame, Scope}
 use Rattle.mo_scope.specs.Own.{own_declared}
 use Rattle.mo_scope.specs.Lookup.{Classed, Walked, Asking, last_place, with_member, with_base}
 use Rattle.mo_names.specs.Steps.{base_at, first_class, next_item, own_inherited}
+use Rattle.mo_syntax.specs.declared.rules.TheConstants.{NAME_NOT_FOUND}
 
 -- the first of the identifiers of a name
 abbrev pub first_of_parts : Table → Asking → (bare : Bool) → (top : Bool) → Scope → List (PartOf Expr) → Outcome Classed
-first_of_parts table asking bare top scope [] = breaks 12 (record { file = 0; byte = 0 })
+first_of_parts table asking bare top scope [] = breaks NAME_NOT_FOUND (record { file = 0; byte = 0 })
 first_of_parts table asking bare top scope (part ∷ parts) = first_class table asking bare top scope part
 
 -- an extends clause, its base being found, with the elements of that

@@ -1,5 +1,6 @@
 -- Children, inner components and what is behind a component, as the values of the code are data.
 use Rattle.std.specs.Prelude.{ℕ, Bool, false, List, [], map, find, option_map, Option, Some, None, IfSome, Ok, if◌then◌else◌}
+use Rattle.mo_syntax.specs.Outcome.{Outcome, and_then, breaks}
 use Rattle.mo_syntax.specs.declared.class.ComponentOf.{ComponentOf}
 use Rattle.mo_syntax.specs.declared.class.Give.{Give}
 use Rattle.mo_syntax.specs.declared.meaning.FrameId.{FrameId}
@@ -7,7 +8,6 @@ use Rattle.mo_syntax.specs.declared.expr.Expr.{Expr}
 use Rattle.mo_syntax.specs.declared.expr.PartOf.{PartOf}
 use Rattle.mo_syntax.specs.declared.place.Place.{Place}
 use Rattle.mo_scope.specs.declared.row.Member.{Member as MemberAt}
-use Rattle.mo_scope.specs.Outcome.{Outcome, and_then, breaks}
 use Rattle.mo_scope.specs.Rows.{Table, component_of, is_class}
 use Rattle.mo_scope.specs.Frames.{Frame, Scope, Member, sources_of}
 use Rattle.mo_scope.specs.Lookup.{Found, Component, Inherited, Reached, Element, asking_of, behind_class, class_named, entered, reached}
@@ -18,6 +18,7 @@ use Rattle.mo_scope.specs.Worlds.{World, AreFrames, IsFrame, frame_in, sources_i
 use Rattle.mo_names.specs.declared.found.Child.{Child as ChildAt}
 use Rattle.mo_names.specs.Past.{first_met}
 use Rattle.mo_names.specs.Sights.{IsMember, member_of}
+use Rattle.mo_syntax.specs.declared.rules.TheConstants.{WRONG_KIND_OF_NAME, PROTECTED_ELEMENT, NAME_NOT_FOUND}
 
 -- ---- what they are, where frames have these numbers
 
@@ -74,7 +75,7 @@ abbrev pub type_redeclared : Table → Redeclaration → Outcome Frame
 type_redeclared table redeclaration = type_in (component_of redeclaration.declares)
   where
     type_in : Option (ComponentOf Give) → Outcome Frame
-    type_in None = breaks 13 redeclaration.place
+    type_in None = breaks WRONG_KIND_OF_NAME redeclaration.place
     type_in (Some component) =
         and_then (class_named table (asking_of table) false redeclaration.source.scope component.base) (λ class. Ok class.frame)
 
@@ -121,8 +122,8 @@ inner_in_frame table ask outer frame =
 -- a part of a component; a class breaks rule 13, and a protected element rule 17
 abbrev pub found_in_component : Table → Place → Frame → Member → Outcome Found
 found_in_component table place frame part =
-    if is_class part.declares then breaks 13 place else
-    (if part.hidden then breaks 17 place else stands_for table place (Component frame part))
+    if is_class part.declares then breaks WRONG_KIND_OF_NAME place else
+    (if part.hidden then breaks PROTECTED_ELEMENT place else stands_for table place (Component frame part))
 
 -- what a name finds in the frame of a component; absent is rule 12
 abbrev pub reached_in_component : Table → Place → Frame → List ℕ → Outcome Found
@@ -130,7 +131,7 @@ reached_in_component table place frame name = and_then (reached table (asking_of
   where
     found_at : Reached → Outcome Found
     found_at (Element part) = found_in_component table place frame part
-    found_at other = breaks 12 place
+    found_at other = breaks NAME_NOT_FOUND place
 
 -- what a name finds in a component, which is entered
 abbrev pub component_next : Table → Place → Member → List ℕ → Outcome Found

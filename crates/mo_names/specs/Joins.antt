@@ -1,9 +1,9 @@
 -- Steps of joining the elements of bases.
 use Rattle.std.specs.Prelude.{Bool, ◌||◌, List, [], ◌∷◌, ◌++◌, map, Option}
 use Rattle.std.specs.List.{list_any}
-use Rattle.mo_scope.specs.Outcome.{Outcome}
 use Rattle.mo_scope.specs.Frames.{Frame, Member, is_same_base}
 use Rattle.mo_scope.specs.Lookup.{Inherited, Walked, final_frame, hidden_if, is_counted, not_counted, or_leaf, through_base, with_members}
+use Rattle.mo_syntax.specs.Outcome.{Outcome}
 
 -- whether a frame is the innermost one of some base
 abbrev pub is_among : List (List Frame) → Frame → Bool

@@ -1,10 +1,11 @@
 -- The parts and imports of rows.
 use Rattle.std.specs.Prelude.{ℕ, Bool, true, false, List, [], Option, Some, None, Ok, if◌then◌else◌}
+use Rattle.mo_syntax.specs.Outcome.{Outcome, breaks}
 use Rattle.mo_syntax.specs.declared.class.Import.{Import}
-use Rattle.mo_scope.specs.Outcome.{Outcome, breaks}
 use Rattle.mo_scope.specs.Rows.{Table, Row, Form, Enumeration_class, Part, is_class, class_number}
 use Rattle.mo_scope.specs.Frames.{Frame, Member, looked_up}
 use Rattle.mo_scope.specs.Parts.{Redeclaration, class_sources}
+use Rattle.mo_syntax.specs.declared.rules.TheConstants.{WRONG_KIND_OF_NAME}
 
 -- the parts of a class, none of a predefined type
 abbrev pub parts_of : Option Row → List Part
@@ -25,7 +26,7 @@ abbrev pub entered_by_redeclaration : Table → Member → Redeclaration → Out
 entered_by_redeclaration table member redeclaration =
     if is_class redeclaration.declares then
     Ok (looked_up (class_number redeclaration.declares) (class_sources table member) redeclaration.source.scope.frame) else
-    breaks 13 redeclaration.place
+    breaks WRONG_KIND_OF_NAME redeclaration.place
 
 abbrev pub is_enumeration_form : Form → Bool
 is_enumeration_form (Enumeration_class literals) = true

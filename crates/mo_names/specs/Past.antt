@@ -1,8 +1,8 @@
 -- The walk outwards, one frame after another.
 use Rattle.std.specs.Prelude.{◌≡◌, ℕ, Bool, false, List, Option, Some, None, Ok, Err, IfOk, if◌then◌else◌}
+use Rattle.mo_syntax.specs.Outcome.{Outcome, and_then}
 use Rattle.mo_syntax.specs.declared.place.Place.{Place}
 use Rattle.mo_syntax.specs.declared.place.Stop.TheVariants.{Broken as broken_by, NoMemory as no_memory}
-use Rattle.mo_scope.specs.Outcome.{Outcome, and_then}
 use Rattle.mo_scope.specs.Rows.{Table}
 use Rattle.mo_scope.specs.Frames.{Frame, Top, In, Scope, outer_of}
 use Rattle.mo_scope.specs.Lookup.{Found, Met, Asking, first_at_top, or_absent, at_top, predefined, met_far, is_closed, found_by_name}

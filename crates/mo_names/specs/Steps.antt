@@ -1,29 +1,30 @@
 -- Steps of the definitions of lookup and inheritance by name: what each does for one element of the list that it goes down.
 use Rattle.std.specs.Prelude.{ℕ, ◌+◌, Bool, true, false, List, [], ◌∷◌, Option, Some, None, Ok, if◌then◌else◌}
+use Rattle.mo_syntax.specs.Outcome.{Outcome, and_then, breaks}
 use Rattle.mo_syntax.specs.declared.expr.Expr.{Expr}
 use Rattle.mo_syntax.specs.declared.expr.PartOf.{PartOf}
 use Rattle.mo_syntax.specs.declared.class.Import.{Import}
 use Rattle.mo_syntax.specs.declared.place.Place.{Place}
-use Rattle.mo_scope.specs.Outcome.{Outcome, and_then, breaks}
 use Rattle.mo_scope.specs.Rows.{Table, Row, Part, Element_of, Base_of, Declares, Clause, is_class, is_left_out}
 use Rattle.mo_scope.specs.Frames.{Frame, Scope, Member}
 use Rattle.mo_scope.specs.Lookup.{Found, Reached, Element, Other, Absent, Met, Classed, Inherited, Walked, Asking, met, counted, behind_class, class_wanted, first_at_top, and_also, found_by_import, found_by_star, found_first, classed, base_frame, base_of, leaf_of, nothing_walked}
+use Rattle.mo_syntax.specs.declared.rules.TheConstants.{PROTECTED_ELEMENT, WRONG_KIND_OF_NAME, NAME_NOT_FOUND, OUTSIDE_PROFILE}
 
 -- ---- a name behind a dot
 
 abbrev pub open_element : Table → Place → Frame → Member → Outcome Found
-open_element table place frame member = if member.hidden then breaks 17 place else met table frame member
+open_element table place frame member = if member.hidden then breaks PROTECTED_ELEMENT place else met table frame member
 
 -- an element behind a class, where it counts
 abbrev pub element_behind : Table → Place → Option Place → Frame → Member → Outcome Found
 element_behind table place None frame member = open_element table place frame member
-element_behind table place (Some wrong) frame member = if is_class member.declares then open_element table place frame member else breaks 13 wrong
+element_behind table place (Some wrong) frame member = if is_class member.declares then open_element table place frame member else breaks WRONG_KIND_OF_NAME wrong
 
 -- what stands behind a class, of what was reached there and counts
 abbrev pub reached_behind : Table → Place → Option Place → Frame → Reached → Outcome Found
 reached_behind table place component frame (Element member) = element_behind table place component frame member
 reached_behind table place component frame (Other found) = Ok found
-reached_behind table place component frame Absent = breaks 12 place
+reached_behind table place component frame Absent = breaks NAME_NOT_FOUND place
 
 -- asks that an element that is reached counts
 abbrev pub counted_reached : Table → Asking → (ask : Place) → (place : Place) → Frame → Reached → Outcome Reached
@@ -135,7 +136,7 @@ class_step table asking class part =
 -- what the elements of a class begin with
 abbrev pub started : Frame → Option Row → Outcome Walked
 started frame None = Ok (nothing_walked (Some frame))
-started frame (Some row) = if is_left_out row then breaks 34 row.class.place else Ok (nothing_walked (leaf_of row frame))
+started frame (Some row) = if is_left_out row then breaks OUTSIDE_PROFILE row.class.place else Ok (nothing_walked (leaf_of row frame))
 
 -- the base frame of an extends clause, whose class was found
 abbrev pub entered_base : Frame → Option Row → Clause → Frame → Frame

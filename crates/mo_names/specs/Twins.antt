@@ -1,8 +1,8 @@
 -- Frames that differ in their paths and owners alone.
 use Rattle.std.specs.Prelude.{◌≡◌, Bool, true, false, List, [], ◌∷◌, map, None, Ok}
+use Rattle.mo_syntax.specs.Outcome.{Outcome, and_then}
 use Rattle.mo_syntax.specs.declared.expr.Expr.{Expr}
 use Rattle.mo_syntax.specs.declared.expr.PartOf.{PartOf}
-use Rattle.mo_scope.specs.Outcome.{Outcome, and_then}
 use Rattle.mo_scope.specs.Frames.{Frame, Top, In, No_source, at_of, owner_of_base}
 use Rattle.mo_scope.specs.Lookup.{Inherited, Walked, named, own_members}
 use Rattle.mo_scope.specs.Rows.{Table}

@@ -24,10 +24,9 @@ use crate::parts::{part_at, part_count};
 use crate::past::{Next, next_past};
 use crate::reach::iteration;
 use crate::start::{base_entered, last_place, started, walk_checked};
-use crate::stops::stop;
 use crate::walk::Walk;
 use mo_scope::{Clause, Part, ScopeAt, Scopes};
-use mo_syntax::{FrameId, List, Part as Identifier, Place, Reference, Stop, Text};
+use mo_syntax::{FrameId, List, Part as Identifier, Place, Reference, Stop, Text, rules, stop};
 use std::alloc::Global;
 
 /// The walk outwards: the frame of the text, each enclosing frame, and the top. It ends behind an encapsulated class.
@@ -133,7 +132,7 @@ fn class_first(
 {
     match reference.parts.get(0) {
         Some(part) => first_class(alloc, s, ask, bare, reference.top, scope, part),
-        None => Err(stop(12, Place { file: 0, byte: 0 })),
+        None => Err(stop(rules::NAME_NOT_FOUND, Place { file: 0, byte: 0 })),
     }
 }
 
@@ -239,7 +238,10 @@ fn base_class(
     };
     let class = class_named(alloc, s, &here, true, &scope, clause.base)?;
     if class.replaceable {
-        return Err(stop(24, last_place(clause.base.parts.as_slice())));
+        return Err(stop(
+            rules::WRONG_REPLACEABLE,
+            last_place(clause.base.parts.as_slice()),
+        ));
     }
     Ok(class.frame)
 }

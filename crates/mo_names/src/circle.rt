@@ -4,12 +4,13 @@
 ghost use Rattle.std.specs.Prelude.{◌≡◌, ◌+◌, ◌<◌, ◌∷◌, drop, length, map, option_map, IfOk, IfSome, Some, None};
 ghost use Rattle.mo_scope.specs.Frames.{class_of};
 ghost use Rattle.mo_scope.specs.Lookup.{Reached as ReachedSeen, behind_class as found_behind_class, counted as counted_member, found_element as element_found, found_in as found_in_frame, found_by_import as found_by_clause, found_by_star as found_by_its_star, import_behind as names_behind, imported as found_imported, imported_package as package_imported, is_package as is_package_frame, reached as reached_of, through_star as found_through_star, walked as walked_of};
-ghost use Rattle.mo_scope.specs.Outcome.{Gives, Outcome, and_then};
+ghost use Rattle.mo_scope.specs.Outcome.{Gives};
 ghost use Rattle.mo_scope.specs.Rows.{row_at};
 ghost use Rattle.mo_scope.specs.Worlds.{Grows, IsFrame, frame_at, frames_of, table_in};
 ghost use Rattle.mo_names.specs.Sights.{IsFound, IsMember, IsReached, IsWalk, asks, found_in as found_seen, member_of, met_seen, reached_seen, walk_seen};
 ghost use Rattle.mo_names.specs.Parts.{imports_of};
 ghost use Rattle.mo_names.specs.Steps.{also_found, counted_reached as reached_counted, before_dot as place_before, found_by as found_by_kind, found_by_all, found_by_names_or_stars, imports_met, import_step as found_step, package_at_top as top_package, package_behind as packages_behind, package_step as stepped_package};
+ghost use Rattle.mo_syntax.specs.Outcome.{Outcome, and_then};
 
 use crate::bases::walked_class;
 use crate::depth::depth_inside;
@@ -23,10 +24,9 @@ use crate::kept::{kept_package, reached_at_hand, walk_given};
 use crate::own::are_own_open;
 use crate::reach::{class_wanted, first_at_top, is_busy, shown};
 use crate::start::busy_with;
-use crate::stops::stop;
 use crate::walk::Walk;
 use mo_scope::{Member, Scopes, is_encapsulated};
-use mo_syntax::{FrameId, Import, Place, Stop, Text};
+use mo_syntax::{FrameId, Import, Place, Stop, Text, rules, stop};
 use std::alloc::Global;
 
 /// The elements of a frame. A class whose bases are being found breaks rule 18 where they are asked for again.
@@ -44,10 +44,10 @@ pub(crate) fn walked<'t>(
 {
     let class = s.class_of(frame);
     if ask.left == 0 {
-        return Err(stop(18, ask.place));
+        return Err(stop(rules::BASE_CLASS_CYCLE, ask.place));
     }
     if is_busy(ask.busy, class) {
-        return Err(stop(18, ask.place));
+        return Err(stop(rules::BASE_CLASS_CYCLE, ask.place));
     }
     let depth = depth_inside(ask.depth)?;
     let busy = busy_with(alloc, ask.busy, class.0)?;
@@ -139,7 +139,7 @@ fn counted<'t>(
     if is_encapsulated(&member.declares) {
         return Ok(());
     }
-    Err(stop(16, place))
+    Err(stop(rules::NOT_A_PACKAGE, place))
 }
 
 /// What was reached in a frame, if it counts behind a class.
@@ -264,7 +264,7 @@ fn imported<'t>(
             let first = first_at_top(alloc, s, place, name)?;
             import_behind(alloc, s, ask, place, first, rest)
         }
-        [] => Err(stop(12, place)),
+        [] => Err(stop(rules::NAME_NOT_FOUND, place)),
     }
 }
 
@@ -352,7 +352,7 @@ fn imported_package(
 {
     match names {
         [name, rest @ ..] => package_named(alloc, s, ask, place, name, rest),
-        [] => Err(stop(12, place)),
+        [] => Err(stop(rules::NAME_NOT_FOUND, place)),
     }
 }
 

@@ -11,10 +11,9 @@ ghost use Rattle.mo_names.specs.Sights.{IsFound, IsMember, found_in, member_of};
 ghost use Rattle.mo_names.specs.Parts.{entered_by_redeclaration};
 
 use crate::found::Found;
-use crate::stops::stop;
 use crate::top::looked_up_class;
 use mo_scope::{Declares, Member, Redeclaration, Scopes, Sort, is_class};
-use mo_syntax::{ClassId, FrameId, NoMemory, Stop};
+use mo_syntax::{ClassId, FrameId, NoMemory, Stop, rules, stop};
 use std::alloc::Global;
 
 /// The number of the class that is declared, 0 where a component is.
@@ -67,7 +66,7 @@ fn entered_redeclared<'t>(
     ensures stand { IfOk result (λ frame. IsFrame s.new frame.0) }
 {
     if !is_class(&redeclaration.declares) {
-        return Err(stop(13, redeclaration.place));
+        return Err(stop(rules::WRONG_KIND_OF_NAME, redeclaration.place));
     }
     Ok(entered_as(
         alloc,

@@ -17,9 +17,10 @@ use crate::found::{Child, Reached};
 use crate::free::class_named_at;
 use crate::lookup::find_element;
 use crate::start::{name_copied, names_copied};
-use crate::stops::stop;
 use mo_scope::{Declares, Member, Redeclaration, ScopeAt, Scopes, Sort};
-use mo_syntax::{Component, FrameId, InstancePath, List, NoMemory, Place, Stop, Text, pushed};
+use mo_syntax::{
+    Component, FrameId, InstancePath, List, NoMemory, Place, Stop, Text, pushed, rules, stop,
+};
 use std::alloc::Global;
 
 /// The component that is declared, None where a class is.
@@ -51,7 +52,7 @@ fn type_in_redeclaration<'t>(
             let class = class_named_at(alloc, s, &redeclaration.source.scope, &component.base)?;
             Ok(class.frame)
         }
-        None => Err(stop(13, redeclaration.place)),
+        None => Err(stop(rules::WRONG_KIND_OF_NAME, redeclaration.place)),
     }
 }
 
@@ -177,8 +178,8 @@ pub fn child<'t>(
     let nowhere = Place { file: 0, byte: 0 };
     match find_element(alloc, s, frame, name, nowhere) {
         Ok(Reached::Element(member)) => child_of_member(alloc, s, &member, index),
-        Ok(Reached::Other(_)) => Err(stop(12, nowhere)),
-        Ok(Reached::Absent) => Err(stop(12, nowhere)),
+        Ok(Reached::Other(_)) => Err(stop(rules::NAME_NOT_FOUND, nowhere)),
+        Ok(Reached::Absent) => Err(stop(rules::NAME_NOT_FOUND, nowhere)),
         Err(stop) => Err(stop),
     }
 }

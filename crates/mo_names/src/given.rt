@@ -2,10 +2,11 @@
 ghost use Rattle.std.specs.Prelude.{◌≡◌, Option, map, option_map, IfOk, IfSome, Ok};
 ghost use Rattle.std.specs.List.{list_all};
 ghost use Rattle.mo_scope.specs.Lookup.{Found as FoundSeen, Met as MetSeen, Reached as ReachedSeen, Walked, and_also as joined_found, class_wanted as wanted_class, classed as wanted_classed, counts_in_package, first_at_top as first_found, met_far, reached_in as reached_among, reached_own as own_reached};
-ghost use Rattle.mo_scope.specs.Outcome.{Gives, Outcome, and_then};
+ghost use Rattle.mo_scope.specs.Outcome.{Gives};
 ghost use Rattle.mo_scope.specs.Worlds.{Grows, IsFrame, frame_at, frames_of, table_in};
 ghost use Rattle.mo_names.specs.Sights.{IsFound, IsReached, IsWalk, classed_seen, found_in, met_seen, reached_seen, walk_seen};
 ghost use Rattle.mo_names.specs.Steps.{all_met, element_met as element_found, reached_behind, reached_by_star};
+ghost use Rattle.mo_syntax.specs.Outcome.{Outcome, and_then};
 
 use crate::found::{Classed, Found, Met, Reached};
 use crate::reach::{

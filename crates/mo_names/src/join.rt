@@ -11,10 +11,9 @@ ghost use Rattle.mo_names.specs.Sights.{AreThrough, IsAdded, IsBase, IsInherited
 ghost use Rattle.mo_names.specs.Joins.{all_added as added_all, base_added as added_by_base, base_behind, bases_added as added_bases, counts_through, inherited_behind, is_among, member_hidden};
 
 use crate::same::are_one_base;
-use crate::stops::stop;
 use crate::walk::{Inherited, Walk};
 use mo_scope::{Member, Scopes};
-use mo_syntax::{FrameId, List, NoMemory, Stop, Text, both};
+use mo_syntax::{FrameId, List, NoMemory, Stop, Text, both, rules, stop};
 use std::alloc::Global;
 
 /// Whether an element of a walk has that name.
@@ -39,7 +38,10 @@ pub(crate) fn with_member<'t>(
     ensures stand { IfOk result (λ _. IsWalk s.now walk.new) }
 {
     if has_name(s, walk, inherited.member.name) {
-        return Err(stop(19, inherited.member.declares.place));
+        return Err(stop(
+            rules::INHERITED_ELEMENTS_CLASH,
+            inherited.member.declares.place,
+        ));
     }
     let at = walk.members.len();
     walk.names.put(inherited.member.name, at)?;

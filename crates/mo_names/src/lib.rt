@@ -40,7 +40,6 @@ mod reach;
 mod same;
 mod settled;
 mod start;
-mod stops;
 mod top;
 mod walk;
 

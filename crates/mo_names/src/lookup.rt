@@ -12,9 +12,8 @@ ghost use Rattle.mo_names.specs.Sights.{IsFound, IsReached, found_in, reached_se
 use crate::found::{Found, Reached};
 use crate::free::{first_at, reached_at};
 use crate::outer::stands_for;
-use crate::stops::stop;
 use mo_scope::{ScopeAt, Scopes, is_constant};
-use mo_syntax::{FrameId, Place, Stop, Text};
+use mo_syntax::{FrameId, Place, Stop, Text, rules, stop};
 use std::alloc::Global;
 
 /// What a name reaches among the elements of a frame: the own ones come first, and its bases are found only where none of them
@@ -43,7 +42,7 @@ fn constant_or_near(s: &Scopes, near: bool, found: &Found, place: Place) -> Resu
             if near || is_constant(&member.declares) {
                 Ok(())
             } else {
-                Err(stop(15, place))
+                Err(stop(rules::NOT_A_CONSTANT, place))
             }
         }
         Found::Class(_, _)

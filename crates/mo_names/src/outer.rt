@@ -14,10 +14,9 @@ ghost use Rattle.mo_names.specs.Sights.{IsFound, IsInherited, IsMember, found_in
 use crate::found::Found;
 use crate::free::elements_kept_at;
 use crate::same::is_same_class;
-use crate::stops::stop;
 use crate::walk::Inherited;
 use mo_scope::{Member, MemberTable, Scopes, is_class, is_same_path};
-use mo_syntax::{FrameId, Place, Stop, Text};
+use mo_syntax::{FrameId, Place, Stop, Text, rules, stop};
 use std::alloc::Global;
 
 /// Whether two elements are one declaration in one instance.
@@ -172,7 +171,7 @@ pub fn inner_of<'t>(
             Err(stop) => return Err(stop),
         }
     }
-    Err(stop(45, outer.declares.place))
+    Err(stop(rules::NO_INNER, outer.declares.place))
 }
 
 /// What a name at that place finds, where a component that is declared `outer` stands for the inner one.

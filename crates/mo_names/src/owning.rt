@@ -11,10 +11,9 @@ ghost use Rattle.mo_names.specs.Twins.{owned_by, owned_home, owned_inherited, ow
 use crate::copying::frames_copied;
 use crate::join::turned;
 use crate::start::{owner_of, path_copied};
-use crate::stops::stop;
 use crate::walk::{Inherited, Walk};
 use mo_scope::{Member, Scopes};
-use mo_syntax::{FrameId, List, NoMemory, Place, Stop};
+use mo_syntax::{FrameId, List, NoMemory, Place, Stop, rules, stop};
 use std::alloc::Global;
 
 /// A base of a frame that was entered as another frame's base is.
@@ -27,7 +26,7 @@ pub(crate) struct Owned {
 
 /// Not known so. No rule is broken by it.
 fn unknown() -> Stop {
-    stop(18, Place { file: 0, byte: 0 })
+    stop(rules::BASE_CLASS_CYCLE, Place { file: 0, byte: 0 })
 }
 
 /// The frame that was entered for that base of a frame.

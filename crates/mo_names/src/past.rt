@@ -1,10 +1,11 @@
 //! What is past a frame.
 ghost use Rattle.std.specs.Prelude.{Option, option_map, IfOk, IfSome};
 ghost use Rattle.mo_scope.specs.Lookup.{Found as FoundSeen, Met as MetSeen};
-ghost use Rattle.mo_scope.specs.Outcome.{Gives, Outcome, and_then};
+ghost use Rattle.mo_scope.specs.Outcome.{Gives};
 ghost use Rattle.mo_scope.specs.Worlds.{Grows, IsFrame, frame_at, frames_of, table_in};
 ghost use Rattle.mo_names.specs.Past.{GivesNext, IsNext, IsPast, Past as PastSeen, found_past, next_of, or_past, past as what_is_past, past_seen};
 ghost use Rattle.mo_names.specs.Sights.{IsFound, found_in, met_seen};
+ghost use Rattle.mo_syntax.specs.Outcome.{Outcome, and_then};
 
 use crate::found::{Found, Met};
 use crate::reach::{first_at_top, first_predefined, is_closed};

@@ -13,9 +13,8 @@ use crate::found::{Found, Reached};
 use crate::free::{behind_class_at, class_named_at};
 use crate::lookup::{find_element, find_first, taken};
 use crate::outer::stands_for;
-use crate::stops::stop;
 use mo_scope::{Member, ScopeAt, Scopes, is_class};
-use mo_syntax::{FrameId, Part, Place, Reference, Stop, Text};
+use mo_syntax::{FrameId, Part, Place, Reference, Stop, Text, rules, stop};
 use std::alloc::Global;
 
 /// A part of a component.
@@ -33,10 +32,10 @@ fn part_of_component<'t>(
     ensures stand { IfOk result (IsFound s.new) }
 {
     if is_class(&part.declares) {
-        return Err(stop(13, place));
+        return Err(stop(rules::WRONG_KIND_OF_NAME, place));
     }
     if part.hidden {
-        return Err(stop(17, place));
+        return Err(stop(rules::PROTECTED_ELEMENT, place));
     }
     stands_for(alloc, s, &Found::Component(frame, *part), place)
 }
@@ -56,8 +55,8 @@ fn find_in_component<'t>(
 {
     match find_element(alloc, s, frame, name, place) {
         Ok(Reached::Element(part)) => part_of_component(alloc, s, frame, &part, place),
-        Ok(Reached::Other(_)) => Err(stop(12, place)),
-        Ok(Reached::Absent) => Err(stop(12, place)),
+        Ok(Reached::Other(_)) => Err(stop(rules::NAME_NOT_FOUND, place)),
+        Ok(Reached::Absent) => Err(stop(rules::NAME_NOT_FOUND, place)),
         Err(stop) => Err(stop),
     }
 }
@@ -133,7 +132,7 @@ pub fn find_behind<'t>(
         Found::Component(_, member) => find_behind_component(alloc, s, member, name, place),
         Found::Class(frame, _) => find_behind_class(alloc, s, *frame, name, place),
         Found::Literal(_, _) | Found::Iteration(_) | Found::Function(_) | Found::Time => {
-            Err(stop(12, place))
+            Err(stop(rules::NAME_NOT_FOUND, place))
         }
     }
 }
@@ -194,7 +193,7 @@ fn find_reference<'t>(
             let first = find_first(alloc, s, at, top, &part.name, part.place)?;
             find_all_behind(alloc, s, first, parts)
         }
-        [] => Err(stop(12, Place { file: 0, byte: 0 })),
+        [] => Err(stop(rules::NAME_NOT_FOUND, Place { file: 0, byte: 0 })),
     }
 }
 

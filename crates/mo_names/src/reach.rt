@@ -3,22 +3,22 @@ ghost use Rattle.std.specs.Prelude.{◌≡◌, List as Seq, map, option_copied, 
 ghost use Rattle.std.specs.List.{list_all};
 ghost use Rattle.mo_scope.specs.Frames.{Frame};
 ghost use Rattle.mo_scope.specs.Lookup.{Found as FoundSeen, Reached as ReachedSeen, and_also as joined_found, class_wanted as wanted_class, classed as wanted_classed, contains, counts_in_package, first_at_top as first_found, is_closed as is_closed_frame, iteration as iteration_value, named, or_absent, predefined as found_predefined, reached_in as reached_among, reached_own as own_reached};
-ghost use Rattle.mo_scope.specs.Outcome.{Gives, Outcome, and_then};
+ghost use Rattle.mo_scope.specs.Outcome.{Gives};
 ghost use Rattle.mo_scope.specs.Places.{Every};
 ghost use Rattle.mo_scope.specs.Worlds.{Grows, IsFrame, frame_at, frames_of, table_in};
 ghost use Rattle.mo_names.specs.Sights.{IsFound, IsInherited, IsMember, IsReached, IsWalk, classed_seen, found_in, inherited_seen, member_of, reached_seen, walk_seen};
 ghost use Rattle.mo_names.specs.Steps.{element_behind, element_met as element_found, open_element as open_found, reached_behind as found_behind, reached_by_star as found_by_star, shown as shown_reached};
+ghost use Rattle.mo_syntax.specs.Outcome.{Outcome, and_then};
 
 use crate::class_element::met;
 use crate::found::{Classed, Found, Reached};
 use crate::literals::literal;
 use crate::own::own_named;
 use crate::same::is_same;
-use crate::stops::stop;
 use crate::top::{at_top, predefined};
 use crate::walk::{Inherited, Walk};
 use mo_scope::{Member, Scopes, is_class, is_open};
-use mo_syntax::{ClassId, FrameId, NoMemory, Place, Stop, Text};
+use mo_syntax::{ClassId, FrameId, NoMemory, Place, Stop, Text, rules, stop};
 use std::alloc::Global;
 
 /// Whether the bases of a class are being found.
@@ -104,7 +104,7 @@ fn open_element<'t>(
     ensures stand { IfOk result (IsFound s.new) }
 {
     if member.hidden {
-        return Err(stop(17, place));
+        return Err(stop(rules::PROTECTED_ELEMENT, place));
     }
     met(alloc, s, frame, member)
 }
@@ -127,7 +127,7 @@ pub(crate) fn behind_element<'t>(
     match component {
         Some(wrong) => {
             if !is_class(&member.declares) {
-                return Err(stop(13, wrong));
+                return Err(stop(rules::WRONG_KIND_OF_NAME, wrong));
             }
             open_element(alloc, s, place, frame, member)
         }
@@ -153,7 +153,7 @@ pub(crate) fn behind_reached<'t>(
     match reached {
         Reached::Element(member) => behind_element(alloc, s, place, component, frame, member),
         Reached::Other(found) => Ok(*found),
-        Reached::Absent => Err(stop(12, place)),
+        Reached::Absent => Err(stop(rules::NAME_NOT_FOUND, place)),
     }
 }
 
@@ -252,7 +252,7 @@ pub(crate) fn class_wanted(s: &Scopes, place: Place, found: &Found) -> Result<Fr
         | Found::Literal(_, _)
         | Found::Iteration(_)
         | Found::Function(_)
-        | Found::Time => Err(stop(13, place)),
+        | Found::Time => Err(stop(rules::WRONG_KIND_OF_NAME, place)),
     }
 }
 
@@ -271,7 +271,7 @@ pub(crate) fn classed(s: &Scopes, place: Place, found: &Found) -> Result<Classed
         | Found::Literal(_, _)
         | Found::Iteration(_)
         | Found::Function(_)
-        | Found::Time => Err(stop(13, place)),
+        | Found::Time => Err(stop(rules::WRONG_KIND_OF_NAME, place)),
     }
 }
 
@@ -288,7 +288,7 @@ pub(crate) fn first_at_top<'t>(
 {
     match at_top(alloc, s, name)? {
         Some(found) => Ok(found),
-        None => Err(stop(12, place)),
+        None => Err(stop(rules::NAME_NOT_FOUND, place)),
     }
 }
 
@@ -305,7 +305,7 @@ pub(crate) fn first_predefined<'t>(
 {
     match predefined(alloc, s, name)? {
         Some(found) => Ok(found),
-        None => Err(stop(12, place)),
+        None => Err(stop(rules::NAME_NOT_FOUND, place)),
     }
 }
 
@@ -328,7 +328,7 @@ pub(crate) fn and_also<'t>(
             if is_same(s, first, other) {
                 Ok(*so_far)
             } else {
-                Err(stop(14, ask))
+                Err(stop(rules::IMPORTED_TWICE, ask))
             }
         }
     }

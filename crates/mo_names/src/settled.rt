@@ -27,11 +27,10 @@ use crate::owning::walk_owned;
 use crate::parts::{part_at, part_count};
 use crate::reach::is_busy;
 use crate::start::{is_unowned, leaf_checked, started};
-use crate::stops::stop;
 use crate::top::looked_up_class;
 use crate::walk::Walk;
 use mo_scope::{Clause, Declares, Part, Scopes};
-use mo_syntax::{ClassId, FrameId, List, NoMemory, Place, Reference, Stop};
+use mo_syntax::{ClassId, FrameId, List, NoMemory, Place, Reference, Stop, rules, stop};
 use std::alloc::Global;
 
 /// How many classes may stand one behind another on the way to a base: past it the elements are found by a walk alone.
@@ -66,7 +65,7 @@ pub(crate) struct Settling<'t> {
 
 /// Not known so. No rule is broken by it.
 fn unknown() -> Stop {
-    stop(18, Place { file: 0, byte: 0 })
+    stop(rules::BASE_CLASS_CYCLE, Place { file: 0, byte: 0 })
 }
 
 /// What is known of a frame.

@@ -3,20 +3,22 @@ ghost use Rattle.std.specs.Prelude.{◌≡◌, ◌∷◌, ◌++◌, [], true, So
 ghost use Rattle.mo_scope.specs.Entries.{names_of as path_names, number_of};
 ghost use Rattle.mo_scope.specs.Frames.{Frame, In, Top, at_of, class_of, gathered, outer_of, owner_of_base};
 ghost use Rattle.mo_scope.specs.Lookup.{Walked, last_place as place_of_last, leaf_checked as checked_leaf, nothing_walked};
-ghost use Rattle.mo_scope.specs.Outcome.{Gives, Outcome, and_then};
+ghost use Rattle.mo_scope.specs.Outcome.{Gives};
 ghost use Rattle.mo_scope.specs.Rows.{form_in, is_left_out as is_row_left_out, is_other_form, is_record, row_at};
 ghost use Rattle.mo_scope.specs.Sights.{clause_seen, row_seen, source_seen};
 ghost use Rattle.mo_scope.specs.Worlds.{AreFrames, Grows, IsFrame, IsFrameOrNone, World, frame_at, frame_in, frame_or_top, frames_of, sources_in, table_in};
+ghost use Rattle.mo_syntax.specs.Outcome.{Outcome, and_then};
 ghost use Rattle.mo_syntax.specs.declared.class.Body.{out-Body};
 ghost use Rattle.mo_names.specs.Sights.{IsLeaf, IsWalk, walk_seen};
 ghost use Rattle.mo_names.specs.Parts.{is_enumeration_form};
 ghost use Rattle.mo_names.specs.Steps.{entered_base, started as walk_started};
 
-use crate::stops::stop;
 use crate::top::looked_up_class;
 use crate::walk::Walk;
 use mo_scope::{Clause, Names, Row, Scopes, Source};
-use mo_syntax::{Body, ClassKind, FrameId, InstancePath, List, NoMemory, Part, Place, Stop, Text};
+use mo_syntax::{
+    Body, ClassKind, FrameId, InstancePath, List, NoMemory, Part, Place, Stop, Text, rules, stop,
+};
 use std::alloc::Global;
 
 /// Whether a class is of a form that is left out.
@@ -122,7 +124,7 @@ pub(crate) fn started<'t>(alloc: Global, s: &Scopes<'t>, frame: FrameId) -> Resu
         None => Ok(nothing(alloc, Some(frame))?),
         Some(row) => {
             if is_left_out(row) {
-                return Err(stop(34, row.class.place));
+                return Err(stop(rules::OUTSIDE_PROFILE, row.class.place));
             }
             if is_enumeration(&row.class.body) {
                 return Ok(nothing(alloc, Some(frame))?);
@@ -138,7 +140,7 @@ fn elements_checked(s: &Scopes, _leaf: FrameId, walk: &Walk) -> Result<(), Stop>
     ensures { Gives (λ _. walk_seen (frames_of s.now) walk.now) result (checked_leaf (walk_seen (frames_of s.now) walk.now)) }
 {
     match walk.members.get(0) {
-        Some(first) => Err(stop(13, first.member.declares.place)),
+        Some(first) => Err(stop(rules::WRONG_KIND_OF_NAME, first.member.declares.place)),
         None => Ok(()),
     }
 }

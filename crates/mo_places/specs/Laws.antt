@@ -4,12 +4,12 @@
 -- Each call answers exactly the value of its definition, so these are statements about definitions, over all files. Their premises are met
 -- by what other calls answer: the frames, elements, instances and expressions that are given stand in the files.
 use Rattle.std.specs.Prelude.{ℕ, Bool, List}
+use Rattle.mo_syntax.specs.Outcome.{Outcome}
 use Rattle.mo_syntax.specs.declared.class.FileTree.{FileTree}
 use Rattle.mo_syntax.specs.declared.expr.Expr.{Expr}
 use Rattle.mo_syntax.specs.declared.expr.ReferenceOf.{ReferenceOf}
 use Rattle.mo_syntax.specs.declared.place.Place.{Place}
 use Rattle.mo_flat.specs.declared.model.FlatModel.{FlatModel}
-use Rattle.mo_scope.specs.Outcome.{Outcome}
 use Rattle.mo_scope.specs.Rows.{Clause, table_of}
 use Rattle.mo_scope.specs.Frames.{Frame, Member, Scope}
 use Rattle.mo_scope.specs.Instances.{Instance}

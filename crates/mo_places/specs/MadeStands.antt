@@ -6,7 +6,6 @@ use Rattle.mo_flat.specs.declared.connect.EndLeaf.{EndLeaf}
 use Rattle.mo_flat.specs.declared.connect.Expanded.{Expanded}
 use Rattle.mo_flat.specs.declared.model.FlatEquation.{FlatEquation}
 use Rattle.mo_flat.specs.declared.model.FlatModel.{FlatModel}
-use Rattle.mo_scope.specs.Outcome.{Outcome, breaks}
 use Rattle.mo_scope.specs.Instances.{Chosen, Instance, Leaf}
 use Rattle.mo_equations.specs.Gathering.{Made}
 use Rattle.mo_equations.specs.Sections.{Section, Equations, Left_out}
@@ -15,6 +14,8 @@ use Rattle.mo_equations.specs.Expansion.{Placed}
 use Rattle.mo_places.specs.Written.{Written, At, Stated}
 use Rattle.mo_places.specs.TreeWritten.{nowhere}
 use Rattle.mo_places.specs.Stands.{Every, IfAny, Answers, FrameStands, PickedStands}
+use Rattle.mo_syntax.specs.Outcome.{Outcome, breaks}
+use Rattle.mo_syntax.specs.declared.rules.TheConstants.{CLASS_NOT_FOUND}
 
 abbrev pub EquationStands : (Written → Type 0) → FlatEquation → Type 0
 EquationStands P equation = P (At equation.place)
@@ -81,4 +82,4 @@ pub record ModelStands (P : Written → Type 0) (m : FlatModel) : Type 0 where
 
 -- What is told of a path stands; or it is the name of no class, which breaks rule 11 on the command line.
 abbrev pub ToldStands : (Written → Type 0) → Outcome FlatModel → Type 0
-ToldStands P told = Answers P (ModelStands P) told ⊎ (told ≡ breaks 11 nowhere)
+ToldStands P told = Answers P (ModelStands P) told ⊎ (told ≡ breaks CLASS_NOT_FOUND nowhere)

@@ -1,12 +1,12 @@
 -- What stands of resolved expressions, of their virtual variables, and of what is read one reference deeper.
 use Rattle.std.specs.Prelude.{ℤ, Bool, List, [], ◌∷◌, ◌++◌, flat_map, map, Option, Some, None}
+use Rattle.mo_syntax.specs.Outcome.{Outcome}
 use Rattle.mo_syntax.specs.declared.place.Place.{Place}
 use Rattle.mo_flat.specs.declared.array.ArrayExpr.{ArrayExpr, ArrayExpr-F, fold-ArrayExpr}
 use Rattle.mo_flat.specs.declared.array.ArrayNode.{ArrayNode, ArrayNode-F, fold-ArrayNode}
 use Rattle.mo_flat.specs.declared.array.Subscript.{Subscript}
 use Rattle.mo_flat.specs.declared.array.Subscript.TheVariants.{All, One, Many}
 use Rattle.mo_scope.specs.Frames.{Member}
-use Rattle.mo_typing.specs.Outcome.{Outcome}
 use Rattle.mo_eval.specs.Contexts.{Part}
 use Rattle.mo_eval.specs.Ends.{Ended, Is_other, Is_removed, Selects}
 use Rattle.mo_values.specs.Scalars.{Known}

@@ -1,6 +1,7 @@
 -- What stands of what the definitions of names answer, for a property of what is written in the trees of the files: where it holds of all in
 -- the trees, and of the place at which is asked, it holds of all in what is answered, and of the place of each rule that is broken.
 use Rattle.std.specs.Prelude.{List, [], ◌∷◌, Option, Some, None, Ok, Err}
+use Rattle.mo_syntax.specs.Outcome.{Outcome}
 use Rattle.mo_syntax.specs.declared.expr.Expr.{Expr}
 use Rattle.mo_syntax.specs.declared.expr.ReferenceOf.{ReferenceOf}
 use Rattle.mo_syntax.specs.declared.class.ArgumentOf.{ArgumentOf}
@@ -9,7 +10,6 @@ use Rattle.mo_syntax.specs.declared.class.Give.{Give}
 use Rattle.mo_syntax.specs.declared.class.Import.{Import}
 use Rattle.mo_syntax.specs.declared.place.Place.{Place}
 use Rattle.mo_places.specs.Written.{Written, At, Valued}
-use Rattle.mo_scope.specs.Outcome.{Outcome}
 use Rattle.mo_places.specs.TreeWritten.{in_component, in_subs, places_in_class, places_of_parts, places_in_give, places_in_element, place_of_import}
 use Rattle.mo_scope.specs.Rows.{Table, Row, Declares, Sort, A_class, A_component, Modifiers, Constraint, Part, Element_of, Base_of, Clause, Form, Short_class}
 use Rattle.mo_scope.specs.Frames.{Given, Listed, Argued, Replacing, Frame, Top, In, Sources, No_source, Source_then, Source, Member}

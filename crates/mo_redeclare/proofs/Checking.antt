@@ -1,8 +1,8 @@
 -- The redeclarations of a frame, one after another.
 use Rattle.std.proofs.Common.{◌≡◌, ℕ, Bool, true, false, List, [], ◌∷◌, ◌++◌, flat_map, map, Option, Some, None, Ok, Err, refl, ap, sym, ◌∙◌}
 use Rattle.std.specs.Prelude.{is_some, option_map, if◌then◌else◌}
+use Rattle.mo_syntax.specs.Outcome.{and_then}
 use Rattle.mo_syntax.specs.declared.meaning.FrameId.{FrameId}
-use Rattle.mo_scope.specs.Outcome.{and_then}
 use Rattle.mo_scope.specs.Frames.{Frame, Member, sources_of}
 use Rattle.mo_scope.specs.Lookup.{Walked, members_in, named}
 use Rattle.mo_scope.specs.Parts.{Redeclaration}

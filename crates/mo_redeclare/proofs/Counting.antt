@@ -4,10 +4,10 @@ use Rattle.std.specs.Prelude.{if◌then◌else◌, slice_get}
 use Rattle.std.proofs.lemmas.List.{take_more, map-append}
 use Rattle.std.proofs.lemmas.List.Sums.{sum_by-append}
 use Rattle.std.proofs.lemmas.Grind.{flat_map-append}
+use Rattle.mo_syntax.specs.Outcome.{Outcome}
 use Rattle.mo_syntax.specs.declared.expr.Expr.{Expr}
 use Rattle.mo_syntax.specs.declared.class.ComponentOf.{ComponentOf}
 use Rattle.mo_syntax.specs.declared.class.Give.{Give}
-use Rattle.mo_scope.specs.Outcome.{Outcome}
 use Rattle.mo_scope.specs.Rows.{Table, Row, row_at, Form, Short_class, Long_class, Enumeration_class, Other_class, Clause, Part, clauses_in}
 use Rattle.mo_scope.specs.declared.row.Part.{Part as PartAt}
 use Rattle.mo_scope.specs.Sights.{part_seen}

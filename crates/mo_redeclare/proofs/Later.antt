@@ -2,6 +2,7 @@
 use Rattle.std.proofs.Common.{◌≡◌, ℕ, zero, suc, ◌<◌, Bool, true, false, nat_eq, List, [], ◌∷◌, length, map, Option, Some, None, refl, ap, sym, subst, ◌∙◌}
 use Rattle.std.specs.Prelude.{option_map, slice_get, IfSome}
 use Rattle.mo_scope.specs.declared.saying.Redeclaration.{Redeclaration as RedeclarationAt}
+use Rattle.mo_syntax.specs.Outcome.{breaks}
 use Rattle.mo_syntax.specs.declared.place.Place.{Place}
 use Rattle.mo_syntax.specs.declared.meaning.FrameId.{FrameId}
 use Rattle.mo_scope.specs.declared.source.Source.{Source as SourceAt}
@@ -9,7 +10,6 @@ use Rattle.mo_scope.specs.declared.row.Member.{Member as MemberAt}
 use Rattle.mo_scope.specs.Frames.{Frame, Member}
 use Rattle.mo_scope.specs.Compatible.{Pairs, compatible_from, dimensions_of}
 use Rattle.mo_scope.specs.Names.{Child, component_frame}
-use Rattle.mo_scope.specs.Outcome.{breaks}
 use Rattle.mo_scope.specs.Parts.{Redeclaration}
 use Rattle.mo_scope.specs.Own.{IsOwnElement}
 use Rattle.mo_scope.specs.Places.{Every}
@@ -24,6 +24,7 @@ use Rattle.mo_names.proofs.Later.{grows_refl, grows_trans, table_later, frame_la
 use Rattle.mo_redeclare.specs.declared.spoken.Named.{Named}
 use Rattle.mo_redeclare.specs.Sights.{IsKept, IsNamed, IsRedeclaration, named_seen}
 use Rattle.mo_redeclare.specs.Steps.{element_matched, entered_if_alike, found_checked, frames_entered}
+use Rattle.mo_syntax.specs.declared.rules.TheConstants.{NOT_COMPATIBLE}
 
 -- ---- elements that are kept by name
 
@@ -161,5 +162,5 @@ pub alike : (table : Table) (place : Place) (a : Member) (x : Child) (b : Member
 alike table place a x b y same is holds = let both : nat_eq (dimensions_of table a x) (dimensions_of table b y) ≡ true = sym is ∙ holds in rw both refl
 
 pub unlike : (table : Table) (place : Place) (a : Member) (x : Child) (b : Member) (y : Child) (same : Bool) → same ≡ nat_eq (dimensions_of table a x) (dimensions_of table b y) → same ≡ false →
-    entered_if_alike table place a x b y ≡ breaks 25 place
+    entered_if_alike table place a x b y ≡ breaks NOT_COMPATIBLE place
 unlike table place a x b y same is fails = let both : nat_eq (dimensions_of table a x) (dimensions_of table b y) ≡ false = sym is ∙ fails in rw both refl

@@ -1,8 +1,8 @@
 -- The comparison of components and of classes, step by step.
 use Rattle.std.proofs.Common.{◌≡◌, ℕ, zero, suc, ◌+◌, ◌-◌, ◌<◌, Bool, true, false, List, [], ◌∷◌, map, Option, Some, None, Result, Ok, Err, refl, ap, sym, ◌∙◌, arith}
 use Rattle.std.specs.Prelude.{filter, nat_eq, if◌then◌else◌}
+use Rattle.mo_syntax.specs.Outcome.{Outcome, and_then, breaks}
 use Rattle.mo_syntax.specs.declared.place.Place.{Place}
-use Rattle.mo_scope.specs.Outcome.{Outcome, and_then, breaks}
 use Rattle.mo_scope.specs.Rows.{Table, number_of_classes}
 use Rattle.mo_scope.specs.Frames.{Frame, Member, class_of}
 use Rattle.mo_scope.specs.Lookup.{Walked, asking_of, members_in, named, walked}
@@ -12,17 +12,18 @@ use Rattle.mo_scope.specs.Worlds.{MemberEntry, member_in}
 use Rattle.mo_redeclare.specs.Sights.{is_open}
 use Rattle.mo_redeclare.specs.Steps.{both_walked, children_of, components_compared, counterpart_matched, entered_alike, entered_matching, leaves_compared, pair_compared}
 use Rattle.mo_redeclare.proofs.Tables.{named_open}
+use Rattle.mo_syntax.specs.declared.rules.TheConstants.{NOT_COMPATIBLE}
 
 -- ---- a component and its counterpart
 
 two_children : (a b : Outcome Child) (same : Child → Child → Bool) (frame other : Child → Frame) (compare : Compare) (place : Place) →
-    and_then a (λ x. and_then b (λ y. if same x y then compare (frame x) (other y) else breaks 25 place))
-    ≡ and_then {A = Frame × Frame} (and_then {A = Child × Child} (and_then a (λ x. and_then b (λ y. Ok (x, y)))) (λ both. if same both.0 both.1 then Ok (frame both.0, other both.1) else breaks 25 place)) (λ frames. compare frames.0 frames.1)
+    and_then a (λ x. and_then b (λ y. if same x y then compare (frame x) (other y) else breaks NOT_COMPATIBLE place))
+    ≡ and_then {A = Frame × Frame} (and_then {A = Child × Child} (and_then a (λ x. and_then b (λ y. Ok (x, y)))) (λ both. if same both.0 both.1 then Ok (frame both.0, other both.1) else breaks NOT_COMPATIBLE place)) (λ frames. compare frames.0 frames.1)
 two_children (Err e) b same frame other compare place = refl
 two_children (Ok x) (Err e) same frame other compare place = refl
 two_children (Ok x) (Ok y) same frame other compare place = by (same x y)
   where
-    by : (t : Bool) → (if t then compare (frame x) (other y) else breaks 25 place) ≡ and_then {A = Frame × Frame} (if t then Ok (frame x, other y) else breaks 25 place) (λ frames. compare frames.0 frames.1)
+    by : (t : Bool) → (if t then compare (frame x) (other y) else breaks NOT_COMPATIBLE place) ≡ and_then {A = Frame × Frame} (if t then Ok (frame x, other y) else breaks NOT_COMPATIBLE place) (λ frames. compare frames.0 frames.1)
     by true = refl
     by false = refl
 
@@ -35,7 +36,7 @@ module _ (table : Table) (compare : Compare) (place : Place) (new wanted : Membe
   pub matching_is : counterpart_matched table compare place wanted (Some new) ≡ and_then (entered_matching table place new wanted) (λ frames. compare frames.0 frames.1)
   matching_is = by (same_prefixes (prefix_of table new) (prefix_of table wanted))
     where
-      by : (t : Bool) → (if t then same_types table compare place new wanted else breaks 25 place) ≡ and_then (if t then entered_alike table place new wanted else breaks 25 place) (λ frames. compare frames.0 frames.1)
+      by : (t : Bool) → (if t then same_types table compare place new wanted else breaks NOT_COMPATIBLE place) ≡ and_then (if t then entered_alike table place new wanted else breaks NOT_COMPATIBLE place) (λ frames. compare frames.0 frames.1)
       by true = types_are
       by false = refl
 
@@ -44,7 +45,7 @@ module _ (table : Table) (compare : Compare) (place : Place) (frames : List Fram
   by_name : named wanted.name (map (member_in frames) members) ≡ counterpart (map (member_in frames) members) wanted
   by_name = ap (λ (ms : List MemberEntry). named wanted.name (map (member_in frames) ms)) public ∙ named_open frames members wanted
 
-  pub nothing_matches : named wanted.name (map (member_in frames) members) ≡ None → is_matched table compare place (map (member_in frames) members) wanted ≡ breaks 25 place
+  pub nothing_matches : named wanted.name (map (member_in frames) members) ≡ None → is_matched table compare place (map (member_in frames) members) wanted ≡ breaks NOT_COMPATIBLE place
   nothing_matches none = ap (counterpart_matched table compare place wanted) (sym by_name ∙ none)
 
   pub one_matches : (new : Member) → named wanted.name (map (member_in frames) members) ≡ Some new →
@@ -103,8 +104,8 @@ module _ (table : Table) (place : Place) (pairs : Pairs) (new wanted : Frame) wh
 
 abbrev compared_by : Table → Compare → Place → List Member → List Member → Option Frame → Option Frame → Outcome (Unit {0})
 compared_by table compare place new wanted None None = are_matched table compare place new wanted
-compared_by table compare place new wanted (Some a) (Some b) = if nat_eq (class_of a) (class_of b) then Ok tt else breaks 25 place
-compared_by table compare place new wanted a b = breaks 25 place
+compared_by table compare place new wanted (Some a) (Some b) = if nat_eq (class_of a) (class_of b) then Ok tt else breaks NOT_COMPATIBLE place
+compared_by table compare place new wanted a b = breaks NOT_COMPATIBLE place
 
 leaves_are : (table : Table) (compare : Compare) (place : Place) (new wanted : List Member) (a b : Option Frame) →
     and_then (leaves_compared place a b) (λ none. if none then are_matched table compare place new wanted else Ok tt) ≡ compared_by table compare place new wanted a b
@@ -113,7 +114,7 @@ leaves_are table compare place new wanted None (Some b) = refl
 leaves_are table compare place new wanted (Some a) None = refl
 leaves_are table compare place new wanted (Some a) (Some b) = by (nat_eq (class_of a) (class_of b))
   where
-    by : (t : Bool) → and_then (if t then Ok false else breaks 25 place) (λ none. if none then are_matched table compare place new wanted else Ok tt) ≡ (if t then Ok tt else breaks 25 place)
+    by : (t : Bool) → and_then (if t then Ok false else breaks NOT_COMPATIBLE place) (λ none. if none then are_matched table compare place new wanted else Ok tt) ≡ (if t then Ok tt else breaks NOT_COMPATIBLE place)
     by true = refl
     by false = refl
 

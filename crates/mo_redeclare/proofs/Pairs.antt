@@ -5,9 +5,9 @@ use Rattle.std.proofs.Math.Nat.{suc-mul}
 use Rattle.std.proofs.lemmas.Nat.{mul-le}
 use Rattle.std.specs.Prelude.{sum_by, if◌then◌else◌}
 use Rattle.std.specs.List.{list_any}
+use Rattle.mo_syntax.specs.Outcome.{Outcome, and_then, breaks}
 use mathlib.Core.Path.{fun_ext}
 use Rattle.mo_syntax.specs.declared.place.Place.{Place}
-use Rattle.mo_scope.specs.Outcome.{Outcome, and_then, breaks}
 use Rattle.mo_scope.specs.Rows.{Table, Row, row_at, number_of_classes}
 use Rattle.mo_scope.specs.Frames.{Frame, Member, class_of}
 use Rattle.mo_scope.specs.Lookup.{Walked, asking_of, nothing_walked, walked}

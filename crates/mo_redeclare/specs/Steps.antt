@@ -1,6 +1,7 @@
 -- Steps of the definitions of compatibility and of redeclarations.
 use Rattle.std.specs.Prelude.{ℕ, Bool, true, false, List, [], map, flat_map, Option, Some, None, Ok, if◌then◌else◌, nat_eq}
 use Rattle.std.specs.List.{list_all}
+use Rattle.mo_syntax.specs.Outcome.{Outcome, and_then, breaks}
 use Rattle.mo_syntax.specs.declared.expr.Expr.{Expr}
 use Rattle.mo_syntax.specs.declared.expr.ReferenceOf.{ReferenceOf}
 use Rattle.mo_syntax.specs.declared.class.Body.{Body}
@@ -9,7 +10,6 @@ use Rattle.mo_syntax.specs.declared.class.Give.{Give, Give-F, out-Give}
 use Rattle.mo_syntax.specs.declared.class.Item.{Item}
 use Rattle.mo_syntax.specs.declared.class.What.{What}
 use Rattle.mo_syntax.specs.declared.place.Place.{Place}
-use Rattle.mo_scope.specs.Outcome.{Outcome, and_then, breaks}
 use Rattle.mo_scope.specs.Rows.{Table, place_eq}
 use Rattle.mo_scope.specs.Frames.{Frame, Scope, Member, class_of}
 use Rattle.mo_scope.specs.Parts.{Redeclaration}
@@ -18,6 +18,7 @@ use Rattle.mo_scope.specs.Names.{Child, child_of_member, component_frame, walk_o
 use Rattle.mo_scope.specs.Compatible.{Compare, Pairs, compatible, compatible_from, compared, dimensions_of, is_matched, is_open_component, prefix_of, same_prefixes, same_types}
 use Rattle.mo_scope.specs.Redeclarations.{Checked, constraining_class, fine, further_in, new_class, redeclaration_checked}
 use Rattle.mo_scope.specs.Spoken.{Spoken}
+use Rattle.mo_syntax.specs.declared.rules.TheConstants.{NOT_COMPATIBLE, WRONG_REPLACEABLE}
 
 -- ---- replaceable elements
 
@@ -65,7 +66,7 @@ abbrev pub entered_if_alike : Table → Place → Member → Child → Member �
 entered_if_alike table place new child wanted other =
     if nat_eq (dimensions_of table new child) (dimensions_of table wanted other) then
     frames_entered (component_frame new [] child) (component_frame wanted [] other)
-    else breaks 25 place
+    else breaks NOT_COMPATIBLE place
 
 -- the frames of a component and its counterpart, where they have as many dimensions
 abbrev pub entered_alike : Table → Place → Member → Member → Outcome (Frame × Frame)
@@ -75,7 +76,7 @@ entered_alike table place new wanted =
 -- those of two whose prefixes are the same
 abbrev pub entered_matching : Table → Place → Member → Member → Outcome (Frame × Frame)
 entered_matching table place new wanted =
-    if same_prefixes (prefix_of table new) (prefix_of table wanted) then entered_alike table place new wanted else breaks 25 place
+    if same_prefixes (prefix_of table new) (prefix_of table wanted) then entered_alike table place new wanted else breaks NOT_COMPATIBLE place
 
 -- a component and its counterpart, compared
 abbrev pub pair_compared : Table → Compare → Place → Member → Member → Outcome (Unit {0})
@@ -83,9 +84,9 @@ pair_compared table compare place new wanted = and_then (entered_matching table 
 
 -- a component that is wanted and its counterpart, if there is one
 abbrev pub counterpart_matched : Table → Compare → Place → Member → Option Member → Outcome (Unit {0})
-counterpart_matched table compare place wanted None = breaks 25 place
+counterpart_matched table compare place wanted None = breaks NOT_COMPATIBLE place
 counterpart_matched table compare place wanted (Some new) =
-    if same_prefixes (prefix_of table new) (prefix_of table wanted) then same_types table compare place new wanted else breaks 25 place
+    if same_prefixes (prefix_of table new) (prefix_of table wanted) then same_types table compare place new wanted else breaks NOT_COMPATIBLE place
 
 -- one element that is wanted
 abbrev pub element_matched : Table → Compare → Place → List Member → Member → Outcome (Unit {0})
@@ -97,8 +98,8 @@ element_matched table compare place members wanted =
 -- two leaf types of one kind, or none; whether there is none
 abbrev pub leaves_compared : Place → Option Frame → Option Frame → Outcome Bool
 leaves_compared place None None = Ok true
-leaves_compared place (Some a) (Some b) = if nat_eq (class_of a) (class_of b) then Ok false else breaks 25 place
-leaves_compared place a b = breaks 25 place
+leaves_compared place (Some a) (Some b) = if nat_eq (class_of a) (class_of b) then Ok false else breaks NOT_COMPATIBLE place
+leaves_compared place a b = breaks NOT_COMPATIBLE place
 
 abbrev pub both_walked : Table → Frame → Frame → Outcome (Walked × Walked)
 both_walked table new wanted =
@@ -122,4 +123,4 @@ found_checked table members is_leaf redeclared = checked_by (named redeclared.0 
   where
     checked_by : Option Member → Checked
     checked_by (Some member) = redeclaration_checked table member redeclared.1
-    checked_by None = if is_leaf then breaks 24 redeclared.1.place else fine
+    checked_by None = if is_leaf then breaks WRONG_REPLACEABLE redeclared.1.place else fine

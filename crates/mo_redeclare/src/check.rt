@@ -17,10 +17,9 @@ use crate::known::{all_elements, named};
 use crate::prefix::is_same;
 use crate::replaceable::is_replaceable_for;
 use crate::spoken::{Named, redeclared_in};
-use crate::stops::stop;
 use mo_names::{Walk, walk_of};
 use mo_scope::{Member, MemberTable, Redeclaration, Scopes, is_class};
-use mo_syntax::{FrameId, Stop};
+use mo_syntax::{FrameId, Stop, rules, stop};
 use std::alloc::Global;
 
 /// Asks that the class of a redeclaration is compatible with that of the constraining clause, or with the declared class.
@@ -57,10 +56,10 @@ fn redeclaration_checked<'t>(
         is_class(&redeclaration.declares),
         is_class(&member.declares),
     ) {
-        return Err(stop(13, redeclaration.place));
+        return Err(stop(rules::WRONG_KIND_OF_NAME, redeclaration.place));
     }
     if !is_replaceable_for(alloc, s, member, redeclaration)? {
-        return Err(stop(24, redeclaration.place));
+        return Err(stop(rules::WRONG_REPLACEABLE, redeclaration.place));
     }
     classes_checked(alloc, s, member, redeclaration)
 }
@@ -83,7 +82,7 @@ fn named_checked<'t>(
         Some(member) => redeclaration_checked(alloc, s, &member, &redeclared.redeclaration),
         None => {
             if is_leaf {
-                return Err(stop(24, redeclared.redeclaration.place));
+                return Err(stop(rules::WRONG_REPLACEABLE, redeclared.redeclaration.place));
             }
             Ok(())
         }

@@ -12,10 +12,9 @@ ghost use Rattle.mo_redeclare.specs.Steps.{both_walked as both_are_walked, compo
 
 use crate::entering::entered_matching;
 use crate::known::{is_open_component, named, open_components};
-use crate::stops::stop;
 use mo_names::{Inherited, Walk, walk_of};
 use mo_scope::{Member, MemberTable, Scopes, extend};
-use mo_syntax::{FrameId, List, NoMemory, Place, Stop};
+use mo_syntax::{FrameId, List, NoMemory, Place, Stop, rules, stop};
 use std::alloc::Global;
 
 /// How many pairs of classes are compared at a time at most, one inside another: each takes some of the stack.
@@ -161,7 +160,7 @@ fn is_matched<'t>(
 {
     match named(s, members, wanted.name) {
         Some(new) => pair_compared(alloc, s, at, &new, wanted),
-        None => Err(stop(25, at.place)),
+        None => Err(stop(rules::NOT_COMPATIBLE, at.place)),
     }
 }
 
@@ -242,12 +241,12 @@ fn leaves_compared(
                 if s.class_of(leaf).0 == s.class_of(other).0 {
                     return Ok(false);
                 }
-                Err(stop(25, place))
+                Err(stop(rules::NOT_COMPATIBLE, place))
             }
-            None => Err(stop(25, place)),
+            None => Err(stop(rules::NOT_COMPATIBLE, place)),
         },
         None => match wanted {
-            Some(_) => Err(stop(25, place)),
+            Some(_) => Err(stop(rules::NOT_COMPATIBLE, place)),
             None => Ok(true),
         },
     }

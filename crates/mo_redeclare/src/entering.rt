@@ -11,10 +11,9 @@ ghost use Rattle.mo_redeclare.specs.Steps.{children_of as both_children, entered
 
 use crate::dims::same_counts;
 use crate::prefix::{prefix_of, same_prefixes};
-use crate::stops::stop;
 use mo_names::{Child, child_of_member, enter_child};
 use mo_scope::{Member, Scopes};
-use mo_syntax::{FrameId, NoMemory, Place, Stop};
+use mo_syntax::{FrameId, NoMemory, Place, Stop, rules, stop};
 use std::alloc::Global;
 
 /// Two components, entered.
@@ -90,7 +89,7 @@ fn entered_if_alike<'t>(
     if same {
         return both_entered(alloc, s, new, wanted);
     }
-    Err(stop(25, place))
+    Err(stop(rules::NOT_COMPATIBLE, place))
 }
 
 /// The frames of a component and its counterpart, where they have as many dimensions.
@@ -128,7 +127,7 @@ pub(crate) fn entered_matching<'t>(
     let prefix = prefix_of(alloc, s, new)?;
     let other = prefix_of(alloc, s, wanted)?;
     if !same_prefixes(prefix, other) {
-        return Err(stop(25, place));
+        return Err(stop(rules::NOT_COMPATIBLE, place));
     }
     entered_alike(alloc, s, place, new, wanted)
 }

@@ -18,7 +18,6 @@ mod names;
 mod prefix;
 mod replaceable;
 mod spoken;
-mod stops;
 
 pub use check::check_redeclared;
 pub use comparing::compatible;

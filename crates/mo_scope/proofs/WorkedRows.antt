@@ -1,7 +1,8 @@
 -- Worked examples of the definitions of names, by computation.
 use Rattle.std.proofs.Common.{◌≡◌, ℕ, true, false, List, [], ◌∷◌, map, Option, Some, None, Ok, codes, refl}
+use Rattle.mo_syntax.specs.Outcome.{Outcome, and_then, breaks}
+use Rattle.mo_syntax.specs.declared.rules.TheConstants.{NAME_NOT_FOUND, BASE_CLASS_CYCLE, NO_INNER}
 use Rattle.mo_tables.specs.Words.{functions}
-use Rattle.mo_scope.specs.Outcome.{Outcome, and_then, breaks}
 use Rattle.mo_syntax.specs.declared.class.ElementFlags.{ElementFlags}
 use Rattle.mo_scope.specs.Rows.{Table, Element_of}
 use Rattle.mo_scope.specs.Frames.{Frame, Top, In, No_source, Indexed, Scope, Member, at_of, looked_up}
@@ -33,7 +34,7 @@ encapsulation =
 pub frame_of_M : Frame
 frame_of_M = plain 9 (plain 8 (plain 6 Top))
 
-pub outer_is_hidden : found_class encapsulation (in_text_of frame_of_M) (reference (part (codes "Outer") 70 ∷ [])) ≡ breaks 12 (byte 70)
+pub outer_is_hidden : found_class encapsulation (in_text_of frame_of_M) (reference (part (codes "Outer") 70 ∷ [])) ≡ breaks NAME_NOT_FOUND (byte 70)
 unfolding walked encapsulation frame_of_M functions
 outer_is_hidden = refl
 
@@ -49,7 +50,7 @@ cycle =
     row 6 [] (codes "A") (extends_class (reference (part (codes "B") 18 ∷ [])) ∷ []) ∷
     row 7 [] (codes "B") (extends_class (reference (part (codes "A") 47 ∷ [])) ∷ []) ∷ []
 
-pub cycle_is_refused : elements_of cycle (plain 6 Top) ≡ breaks 18 (byte 47)
+pub cycle_is_refused : elements_of cycle (plain 6 Top) ≡ breaks BASE_CLASS_CYCLE (byte 47)
 unfolding walked cycle
 cycle_is_refused = refl
 
@@ -132,6 +133,6 @@ pub its_part_is_found : found_at (found_reference world (in_text_of frame_of_bod
 unfolding walked world
 its_part_is_found = refl
 
-pub without_inner_it_is_refused : found_at (found world (in_text_of (In 7 No_source Top (Some []) Top)) (codes "w") (byte 90)) ≡ breaks 45 (byte 60)
+pub without_inner_it_is_refused : found_at (found world (in_text_of (In 7 No_source Top (Some []) Top)) (codes "w") (byte 90)) ≡ breaks NO_INNER (byte 60)
 unfolding walked world
 without_inner_it_is_refused = refl

@@ -3,15 +3,17 @@
 use Rattle.std.specs.Prelude.{ℕ, Bool, true, false, ◌&&◌, ◌||◌, not, List, [], ◌∷◌, ◌++◌, map, flat_map, Option, Some, None, is_some, if◌then◌else◌, nat_lt}
 use Rattle.std.specs.List.{list_any}
 use Rattle.std.specs.Str.{bytes_eq}
+use Rattle.mo_syntax.specs.Outcome.{Outcome, breach}
 use Rattle.mo_syntax.specs.declared.class.ArgumentOf.{ArgumentOf}
 use Rattle.mo_syntax.specs.declared.class.Give.{Give, Give-F, fold-Give}
 use Rattle.mo_syntax.specs.declared.place.Broken.{Broken}
 use Rattle.mo_syntax.specs.declared.place.Place.{Place}
 use Rattle.mo_syntax.specs.ClassTable.{path_eq}
-use Rattle.mo_scope.specs.Outcome.{Outcome, breach, unless_broken}
+use Rattle.mo_scope.specs.Outcome.{unless_broken}
 use Rattle.mo_scope.specs.Rows.{Table, Declares}
 use Rattle.mo_scope.specs.Frames.{Given, Listed, Argued, Replacing, Listing, Source, listing_eq}
 use Rattle.mo_scope.specs.Parts.{names_left, held, declared_in}
+use Rattle.mo_syntax.specs.declared.rules.TheConstants.{MODIFIED_TWICE, FINAL_MODIFIED, WRONG_EACH}
 
 -- ---- paths
 
@@ -113,13 +115,13 @@ is_below_final after listing one =
 abbrev pub broken_claims : List Asked → List Asked → Listing → List Claim → List Claim → List Broken
 broken_claims before after listing passed [] = []
 broken_claims before after listing passed (one ∷ claims) =
-    (if is_repeated before listing one || is_among passed one then breach 21 one.place ∷ [] else [])
-    ++ (if is_below_final after listing one then breach 22 one.place ∷ [] else [])
+    (if is_repeated before listing one || is_among passed one then breach MODIFIED_TWICE one.place ∷ [] else [])
+    ++ (if is_below_final after listing one then breach FINAL_MODIFIED one.place ∷ [] else [])
     ++ broken_claims before after listing (passed ++ one ∷ []) claims
 
 abbrev pub broken_argument : List Asked → List Asked → Asked → List Broken
 broken_argument before after asked =
-    broken_claims before after asked.listing [] asked.claims ++ (if asked.each then breach 23 asked.place ∷ [] else [])
+    broken_claims before after asked.listing [] asked.claims ++ (if asked.each then breach WRONG_EACH asked.place ∷ [] else [])
 
 -- Where one argument breaks several rules the least number is taken, and of equal ones the first.
 abbrev pub least : List Broken → Option Broken

@@ -2,6 +2,7 @@
 use Rattle.std.specs.Prelude.{ℕ, zero, suc, ◌*◌, Bool, true, false, ◌&&◌, not, List, [], ◌∷◌, ◌++◌, find, Option, Some, None, Ok, if◌then◌else◌, nat_eq}
 use Rattle.std.specs.List.{list_any}
 use Rattle.std.specs.Str.{bytes_eq}
+use Rattle.mo_syntax.specs.Outcome.{Outcome, and_then, breaks}
 use Rattle.mo_syntax.specs.declared.class.Causal.{Causal}
 use Rattle.mo_syntax.specs.declared.class.Causal.TheVariants.{None as NoCausality, Input, Output}
 use Rattle.mo_syntax.specs.declared.class.ComponentOf.{ComponentOf}
@@ -9,13 +10,13 @@ use Rattle.mo_syntax.specs.declared.class.Give.{Give}
 use Rattle.mo_syntax.specs.declared.class.Prefix.{Prefix}
 use Rattle.mo_syntax.specs.declared.class.Vary.TheVariants.{Free}
 use Rattle.mo_syntax.specs.declared.place.Place.{Place}
-use Rattle.mo_scope.specs.Outcome.{Outcome, and_then, breaks}
 use Rattle.mo_scope.specs.Rows.{Table, number_of_classes, is_class, component_of}
 use Rattle.mo_scope.specs.Frames.{Frame, Member, class_of, sources_of}
 use Rattle.mo_scope.specs.Parts.{Redeclaration, redeclared}
 use Rattle.mo_scope.specs.Lookup.{Walked, asking_of, members_in}
 use Rattle.mo_scope.specs.Names.{Child, child_of_member, component_frame}
 use Rattle.mo_scope.specs.Sizes.{declared_sizes, type_sizes, count_sizes, prefix_over}
+use Rattle.mo_syntax.specs.declared.rules.TheConstants.{NOT_COMPATIBLE}
 
 -- ---- prefixes and dimensions
 
@@ -71,15 +72,15 @@ same_types table compare place new wanted =
     and_then (child_of_member table wanted []) (λ wanted_child.
     if nat_eq (dimensions_of table new new_child) (dimensions_of table wanted wanted_child) then
     compare (component_frame new [] new_child) (component_frame wanted [] wanted_child)
-    else breaks 25 place))
+    else breaks NOT_COMPATIBLE place))
 
 abbrev pub is_matched : Table → Compare → Place → List Member → Member → Outcome (Unit {0})
 is_matched table compare place members wanted = matched_by (counterpart members wanted)
   where
     matched_by : Option Member → Outcome (Unit {0})
-    matched_by None = breaks 25 place
+    matched_by None = breaks NOT_COMPATIBLE place
     matched_by (Some new) =
-        if same_prefixes (prefix_of table new) (prefix_of table wanted) then same_types table compare place new wanted else breaks 25 place
+        if same_prefixes (prefix_of table new) (prefix_of table wanted) then same_types table compare place new wanted else breaks NOT_COMPATIBLE place
 
 -- each public component that is wanted has its counterpart
 abbrev pub are_matched : Table → Compare → Place → List Member → List Member → Outcome (Unit {0})
@@ -96,8 +97,8 @@ compared table compare place new wanted = compared_by new.leaf wanted.leaf
   where
     compared_by : Option Frame → Option Frame → Outcome (Unit {0})
     compared_by None None = are_matched table compare place (members_in new) (members_in wanted)
-    compared_by (Some a) (Some b) = if nat_eq (class_of a) (class_of b) then Ok tt else breaks 25 place
-    compared_by a b = breaks 25 place
+    compared_by (Some a) (Some b) = if nat_eq (class_of a) (class_of b) then Ok tt else breaks NOT_COMPATIBLE place
+    compared_by a b = breaks NOT_COMPATIBLE place
 
 -- a pair of classes that is being compared
 abbrev pub Pairs : Type 0

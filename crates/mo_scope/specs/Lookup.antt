@@ -5,14 +5,15 @@
 use Rattle.std.specs.Prelude.{ℕ, zero, suc, ◌+◌, ℤ, Bool, true, false, ◌&&◌, ◌||◌, List, [], ◌∷◌, ◌++◌, map, find, codes, Option, Some, None, Ok, if◌then◌else◌, nat_eq}
 use Rattle.std.specs.List.{list_all, list_any}
 use Rattle.std.specs.Str.{bytes_eq}
+use Rattle.mo_syntax.specs.Outcome.{Outcome, and_then, breaks}
 use Rattle.mo_syntax.specs.declared.expr.Expr.{Expr}
 use Rattle.mo_syntax.specs.declared.expr.PartOf.{PartOf}
 use Rattle.mo_syntax.specs.declared.expr.ReferenceOf.{ReferenceOf}
 use Rattle.mo_syntax.specs.declared.class.Import.{Import}
 use Rattle.mo_syntax.specs.declared.class.Import.TheVariants.{Renamed, Named, Group, All as Star}
 use Rattle.mo_syntax.specs.declared.place.Place.{Place}
+use Rattle.mo_syntax.specs.declared.rules.TheConstants.{WRONG_KIND_OF_NAME, NAME_NOT_FOUND, NOT_A_PACKAGE, PROTECTED_ELEMENT, IMPORTED_TWICE, WRONG_REPLACEABLE, INHERITED_ELEMENTS_CLASH, OUTSIDE_PROFILE, BASE_CLASS_CYCLE}
 use Rattle.mo_tables.specs.Words.{code_in, functions}
-use Rattle.mo_scope.specs.Outcome.{Outcome, and_then, breaks}
 use Rattle.mo_scope.specs.Rows.{Table, Row, row_at, number_of_classes, Part, Element_of, Base_of, Declares, Clause, is_class, is_constant, is_encapsulated, class_number, elements_in, top_classes, literals_in, is_left_out}
 use Rattle.mo_scope.specs.Frames.{Frame, Top, In, Iterations, Scope, Member, class_of, sources_of, at_of, looked_up, gathered, owner_of_base, is_same_base, is_same_declaration}
 use Rattle.mo_scope.specs.Parts.{Redeclaration, redeclared, class_sources, base_sources}
@@ -159,7 +160,7 @@ entered table member = entered_by (redeclared table (sources_of member.home) mem
     entered_by None = entered_as (class_number member.declares) member.home
     entered_by (Some redeclaration) =
         if is_class redeclaration.declares then entered_as (class_number redeclaration.declares) redeclaration.source.scope.frame else
-        breaks 13 redeclaration.place
+        breaks WRONG_KIND_OF_NAME redeclaration.place
 
 -- an element that was found among those of a frame
 abbrev pub met : Table → Frame → Member → Outcome Found
@@ -193,7 +194,7 @@ at_top table name = found_or (find (λ row. bytes_eq row.class.name name) (top_c
 
 abbrev pub or_absent : Place → Option Found → Outcome Found
 or_absent place (Some found) = Ok found
-or_absent place None = breaks 12 place
+or_absent place None = breaks NAME_NOT_FOUND place
 
 -- ---- a name behind a dot
 
@@ -201,7 +202,7 @@ or_absent place None = breaks 12 place
 abbrev pub counted : Table → Asking → (ask : Place) → (place : Place) → Frame → Member → Outcome Member
 counted table asking ask place frame member =
     and_then (is_package table asking ask frame) (λ open_to_all.
-    if open_to_all || is_encapsulated member.declares then Ok member else breaks 16 place)
+    if open_to_all || is_encapsulated member.declares then Ok member else breaks NOT_A_PACKAGE place)
 
 -- What stands behind a class: absent is rule 12, what does not count rule 16, a protected element rule 17. Where `component` is given,
 -- a component breaks rule 13 there before it is asked whether it is protected.
@@ -209,21 +210,21 @@ abbrev pub behind_class : Table → Asking → (ask : Place) → (place : Place)
 behind_class table asking ask place component frame name = and_then (reached table asking ask frame name) found_at
   where
     open_element : Member → Outcome Found
-    open_element member = if member.hidden then breaks 17 place else met table frame member
+    open_element member = if member.hidden then breaks PROTECTED_ELEMENT place else met table frame member
 
     element : Option Place → Member → Outcome Found
     element None member = open_element member
-    element (Some wrong) member = if is_class member.declares then open_element member else breaks 13 wrong
+    element (Some wrong) member = if is_class member.declares then open_element member else breaks WRONG_KIND_OF_NAME wrong
 
     found_at : Reached → Outcome Found
-    found_at Absent = breaks 12 place
+    found_at Absent = breaks NAME_NOT_FOUND place
     found_at (Other found) = Ok found
     found_at (Element member) = and_then (counted table asking ask place frame member) (element component)
 
 -- the class that was found; anything else breaks rule 13
 abbrev pub class_wanted : Place → Found → Outcome Frame
 class_wanted place (Class frame replaceable) = Ok frame
-class_wanted place found = breaks 13 place
+class_wanted place found = breaks WRONG_KIND_OF_NAME place
 
 -- ---- imports
 
@@ -244,13 +245,13 @@ import_behind table asking ask place found (name ∷ names) =
     before_dot (name ∷ names) = Some place
 
 abbrev pub imported : Table → Asking → (ask : Place) → (place : Place) → List (List ℕ) → Outcome Found
-imported table asking ask place [] = breaks 12 place
+imported table asking ask place [] = breaks NAME_NOT_FOUND place
 imported table asking ask place (name ∷ names) =
     and_then (first_at_top table place name) (λ found. import_behind table asking ask place found names)
 
 -- the package before `.*`
 abbrev pub imported_package : Table → Asking → (ask : Place) → (place : Place) → List (List ℕ) → Outcome Frame
-imported_package table asking ask place [] = breaks 12 place
+imported_package table asking ask place [] = breaks NAME_NOT_FOUND place
 imported_package table asking ask place (name ∷ names) =
     and_then (first_at_top table place name) (λ found.
     and_then (class_wanted place found) (λ frame. package_behind frame names))
@@ -285,7 +286,7 @@ is_same_found found other = false
 abbrev pub and_also : Place → Option Found → Option Found → Outcome (Option Found)
 and_also ask None found = Ok found
 and_also ask (Some found) None = Ok (Some found)
-and_also ask (Some found) (Some other) = if is_same_found found other then Ok (Some found) else breaks 14 ask
+and_also ask (Some found) (Some other) = if is_same_found found other then Ok (Some found) else breaks IMPORTED_TWICE ask
 
 abbrev pub last_name : List (List ℕ) → List ℕ
 last_name [] = []
@@ -411,7 +412,7 @@ pub record Classed : Type 0 where
 -- In the name of a type, a base or a constraining class each identifier finds a class, or rule 13 is broken at it and nothing else is asked.
 abbrev pub classed : Place → Found → Outcome Classed
 classed place (Class frame replaceable) = Ok (record { frame = frame; replaceable = replaceable })
-classed place found = breaks 13 place
+classed place found = breaks WRONG_KIND_OF_NAME place
 
 abbrev pub class_behind : Table → Asking → Classed → List (PartOf Expr) → Outcome Classed
 class_behind table asking class [] = Ok class
@@ -423,7 +424,7 @@ abbrev pub class_named : Table → Asking → (bare : Bool) → Scope → Refere
 class_named table asking bare scope reference = named_from reference.parts
   where
     named_from : List (PartOf Expr) → Outcome Classed
-    named_from [] = breaks 12 (record { file = 0; byte = 0 })
+    named_from [] = breaks NAME_NOT_FOUND (record { file = 0; byte = 0 })
     named_from (part ∷ parts) =
         and_then (found_first table asking bare reference.top scope part) (λ met.
         and_then (classed part.place met.found) (λ class. class_behind table asking class parts))
@@ -439,7 +440,7 @@ last_place (part ∷ next ∷ parts) = last_place (next ∷ parts)
 abbrev pub base_class : Table → Asking → Frame → Clause → Outcome Frame
 base_class table asking frame clause =
     and_then (class_named table asking true (record { frame = frame; iterations = [] }) clause.base) (λ class.
-    if class.replaceable then breaks 24 (last_place clause.base.parts) else Ok class.frame)
+    if class.replaceable then breaks WRONG_REPLACEABLE (last_place clause.base.parts) else Ok class.frame)
 
 -- A base has the path of the frame, and the frame as its owner if that has a path or an owner.
 abbrev pub base_frame : Frame → Row → Clause → Frame → Frame
@@ -462,7 +463,7 @@ nothing_walked leaf = record { members = []; bases = []; sections = []; leaf = l
 -- an element of another name than those before; else rule 19 at it
 abbrev pub with_member : Inherited → Walked → Outcome Walked
 with_member inherited so_far =
-    if list_any (λ other. bytes_eq other.member.name inherited.member.name) so_far.members then breaks 19 inherited.member.declares.place else
+    if list_any (λ other. bytes_eq other.member.name inherited.member.name) so_far.members then breaks INHERITED_ELEMENTS_CLASH inherited.member.declares.place else
     Ok (record { members = so_far.members ++ inherited ∷ []; bases = so_far.bases; sections = so_far.sections; leaf = so_far.leaf })
 
 abbrev pub with_members : List Inherited → Walked → Outcome Walked
@@ -534,7 +535,7 @@ abbrev pub leaf_checked : Walked → Outcome Walked
 leaf_checked walked = checked walked.leaf walked.members
   where
     checked : Option Frame → List Inherited → Outcome Walked
-    checked (Some leaf) (inherited ∷ others) = breaks 13 inherited.member.declares.place
+    checked (Some leaf) (inherited ∷ others) = breaks WRONG_KIND_OF_NAME inherited.member.declares.place
     checked leaf members = Ok walked
 
 abbrev pub leaf_of : Row → Frame → Option Frame
@@ -546,7 +547,7 @@ leaf_of row frame = leaf_by (literals_in row.form)
 
 abbrev pub walked_row : Table → Asking → Frame → Row → Outcome Walked
 walked_row table asking frame row =
-    if is_left_out row then breaks 34 row.class.place else
+    if is_left_out row then breaks OUTSIDE_PROFILE row.class.place else
     and_then (walked_parts table asking frame row 0 row.parts (nothing_walked (leaf_of row frame))) leaf_checked
 
 abbrev pub walked_class : Table → Asking → Frame → Option Row → Outcome Walked
@@ -559,12 +560,12 @@ with_busy busy frame = busy ++ class_of frame ∷ []
 -- A class whose bases are asked for while they are being found breaks rule 18 where they are asked again.
 abbrev pub walked_by : Table → (List ℕ → Place → Frame → Outcome Walked) → List ℕ → Place → Frame → Outcome Walked
 walked_by table ask busy place frame =
-    if contains busy (class_of frame) then breaks 18 place else
+    if contains busy (class_of frame) then breaks BASE_CLASS_CYCLE place else
     walked_class table (record { busy = with_busy busy frame; elements = ask (with_busy busy frame) }) frame (row_at table (class_of frame))
 
 -- The number tells how many classes are not having their bases found. Where none is left, the class of the frame is among those that are.
 unfoldable pub walked : Table → ℕ → List ℕ → Place → Frame → Outcome Walked
-walked table zero busy place frame = breaks 18 place
+walked table zero busy place frame = breaks BASE_CLASS_CYCLE place
 walked table (suc left) busy place frame = walked_by table (walked table left) busy place frame
 
 -- what the elements of frames are where no class is having its bases found

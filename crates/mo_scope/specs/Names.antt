@@ -3,17 +3,18 @@
 -- Here no class is having its bases found, since the type of a component is found through classes alone.
 use Rattle.std.specs.Prelude.{ℕ, Bool, false, ◌&&◌, ◌||◌, not, List, [], ◌∷◌, ◌++◌, find, Option, Some, None, Ok, option_map, if◌then◌else◌}
 use Rattle.std.specs.Str.{bytes_eq}
+use Rattle.mo_syntax.specs.Outcome.{Outcome, and_then, breaks}
 use Rattle.mo_syntax.specs.declared.expr.Expr.{Expr}
 use Rattle.mo_syntax.specs.declared.expr.PartOf.{PartOf}
 use Rattle.mo_syntax.specs.declared.expr.ReferenceOf.{ReferenceOf}
 use Rattle.mo_syntax.specs.declared.class.ComponentOf.{ComponentOf}
 use Rattle.mo_syntax.specs.declared.class.Give.{Give}
 use Rattle.mo_syntax.specs.declared.place.Place.{Place}
-use Rattle.mo_scope.specs.Outcome.{Outcome, and_then, breaks}
 use Rattle.mo_scope.specs.Rows.{Table, Row, row_at, Declares, is_class, is_constant, component_of, clauses_in, Clause}
 use Rattle.mo_scope.specs.Frames.{Frame, In, Indexed, Scope, Source, Member, class_of, sources_of, outer_of, at_of, owners, gathered, is_same_element}
 use Rattle.mo_scope.specs.Parts.{Redeclaration, redeclared, component_sources}
 use Rattle.mo_scope.specs.Lookup.{Found, Component, Class, Walked, Reached, Element, asking_of, asking_in, base_of, behind_class, class_named, entered, found_by_name, found_first, members_in, reached}
+use Rattle.mo_syntax.specs.declared.rules.TheConstants.{WRONG_KIND_OF_NAME, NAME_NOT_FOUND, NO_INNER, NOT_A_CONSTANT, PROTECTED_ELEMENT}
 
 -- ---- elements and bases
 
@@ -60,7 +61,7 @@ typed_by member component None = Ok (component, scope_of_home member)
 typed_by member component (Some redeclaration) = typed_in (component_of redeclaration.declares)
   where
     typed_in : Option (ComponentOf Give) → Outcome (ComponentOf Give × Scope)
-    typed_in None = breaks 13 redeclaration.place
+    typed_in None = breaks WRONG_KIND_OF_NAME redeclaration.place
     typed_in (Some other) = Ok (other, redeclaration.source.scope)
 
 abbrev pub child_by : Table → Member → List ℕ → Option Redeclaration → Outcome Child
@@ -84,7 +85,7 @@ child_of table frame name index = and_then (reached table (asking_of table) (rec
   where
     child_at : Reached → Outcome Child
     child_at (Element member) = child_of_member table member index
-    child_at other = breaks 12 (record { file = 0; byte = 0 })
+    child_at other = breaks NAME_NOT_FOUND (record { file = 0; byte = 0 })
 
 -- the path of a component below the instance whose class declares it
 abbrev pub path_below : Option Indexed → List ℕ → List ℕ → Option Indexed
@@ -103,7 +104,7 @@ is_inner_for outer member =
 
 -- the first component of its name, other than itself, that is declared `inner` among the elements of these frames; none is rule 45
 abbrev pub inner_among : Table → (ask : Place) → Member → List Frame → Outcome (Frame × Member)
-inner_among table ask outer [] = breaks 45 outer.declares.place
+inner_among table ask outer [] = breaks NO_INNER outer.declares.place
 inner_among table ask outer (owner ∷ others) =
     and_then ((asking_of table).elements ask owner) (λ walked.
     inner_or (inner_among table ask outer others) (find (is_inner_for outer) (members_in walked)))
@@ -125,7 +126,7 @@ stands_for table ask found = Ok found
 
 -- A component of an enclosing frame, or of a class, is a constant, or rule 15 is broken at its name.
 abbrev pub constant_unless : Bool → Place → Found → Outcome Found
-constant_unless near place (Component frame member) = if near || is_constant member.declares then Ok (Component frame member) else breaks 15 place
+constant_unless near place (Component frame member) = if near || is_constant member.declares then Ok (Component frame member) else breaks NOT_A_CONSTANT place
 constant_unless near place found = Ok found
 
 -- what was found, asked for a constant and then for the inner component
@@ -140,16 +141,16 @@ behind_component table place member name =
   where
     found_at : Frame → Reached → Outcome Found
     found_at frame (Element part) =
-        if is_class part.declares then breaks 13 place else
-        (if part.hidden then breaks 17 place else stands_for table place (Component frame part))
-    found_at frame other = breaks 12 place
+        if is_class part.declares then breaks WRONG_KIND_OF_NAME place else
+        (if part.hidden then breaks PROTECTED_ELEMENT place else stands_for table place (Component frame part))
+    found_at frame other = breaks NAME_NOT_FOUND place
 
 -- what stands behind a dot in an expression
 abbrev pub behind_found : Table → Found → PartOf Expr → Outcome Found
 behind_found table (Class frame replaceable) part =
     and_then (behind_class table (asking_of table) part.place part.place None frame part.name) (taken table false part.place)
 behind_found table (Component frame member) part = behind_component table part.place member part.name
-behind_found table found part = breaks 12 part.place
+behind_found table found part = breaks NAME_NOT_FOUND part.place
 
 abbrev pub found_behind : Table → Found → List (PartOf Expr) → Outcome Found
 found_behind table found [] = Ok found
@@ -165,7 +166,7 @@ abbrev pub found_reference : Table → Scope → ReferenceOf Expr → Outcome Fo
 found_reference table scope reference = found_from_parts reference.parts
   where
     found_from_parts : List (PartOf Expr) → Outcome Found
-    found_from_parts [] = breaks 12 (record { file = 0; byte = 0 })
+    found_from_parts [] = breaks NAME_NOT_FOUND (record { file = 0; byte = 0 })
     found_from_parts (part ∷ parts) =
         and_then (found_first table (asking_of table) false reference.top scope part) (λ met.
         and_then (taken table met.near part.place met.found) (λ first. found_behind table first parts))

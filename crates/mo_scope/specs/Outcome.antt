@@ -1,25 +1,9 @@
 -- Outcomes of a definition: a value, or the first rule that is broken, with its place.
-use Rattle.std.specs.Prelude.{◌≡◌, ℕ, Option, Some, None, Result, Ok, Err}
-use Rattle.mo_syntax.specs.declared.place.Place.{Place}
+use Rattle.std.specs.Prelude.{◌≡◌, Option, Some, None, Result, Ok, Err}
+use Rattle.mo_syntax.specs.Outcome.{Outcome}
 use Rattle.mo_syntax.specs.declared.place.Broken.{Broken}
 use Rattle.mo_syntax.specs.declared.place.Stop.{Stop}
 use Rattle.mo_syntax.specs.declared.place.Stop.TheVariants.{Broken as broken_by, NoMemory as no_memory}
-
--- a value, or a broken rule
-abbrev pub Outcome : Type 0 → Type 0
-Outcome A = Result A Broken
-
--- what comes of the value; a broken rule stays
-abbrev pub and_then : {A B : Type 0} → Outcome A → (A → Outcome B) → Outcome B
-and_then (Ok value) f = f value
-and_then (Err broken) f = Err broken
-
-abbrev pub breach : ℕ → Place → Broken
-breach rule place = record { rule = rule; place = place }
-
--- a rule is broken at a place
-abbrev pub breaks : {A : Type 0} → ℕ → Place → Outcome A
-breaks rule place = Err (breach rule place)
 
 -- the first broken rule, or a value where none is
 abbrev pub unless_broken : {A : Type 0} → Option Broken → A → Outcome A

@@ -5,10 +5,10 @@
 -- with the declared class where there is none, or rule 25 is broken.
 use Rattle.std.specs.Prelude.{ℕ, Bool, false, ◌&&◌, List, [], ◌∷◌, Option, Some, None, Ok, is_some, if◌then◌else◌}
 use Rattle.std.specs.List.{list_all}
+use Rattle.mo_syntax.specs.Outcome.{Outcome, and_then, breaks}
 use Rattle.mo_syntax.specs.declared.class.ComponentOf.{ComponentOf}
 use Rattle.mo_syntax.specs.declared.class.Give.{Give}
 use Rattle.mo_syntax.specs.declared.place.Place.{Place}
-use Rattle.mo_scope.specs.Outcome.{Outcome, and_then, breaks}
 use Rattle.mo_scope.specs.Rows.{Table, Constraint, is_class, class_number, component_of, place_eq}
 use Rattle.mo_scope.specs.Frames.{Frame, Scope, Member, sources_of, looked_up}
 use Rattle.mo_scope.specs.Parts.{Redeclaration, redeclarations, with_list}
@@ -16,6 +16,7 @@ use Rattle.mo_scope.specs.Lookup.{Walked, asking_of, class_named, members_in, na
 use Rattle.mo_scope.specs.Names.{scope_of_home, walk_of}
 use Rattle.mo_scope.specs.Compatible.{bool_eq, compatible}
 use Rattle.mo_scope.specs.Spoken.{Spoken, spoken_in}
+use Rattle.mo_syntax.specs.declared.rules.TheConstants.{WRONG_REPLACEABLE, WRONG_KIND_OF_NAME}
 
 abbrev pub Checked : Type 0
 Checked = Outcome (Unit {0})
@@ -77,8 +78,8 @@ redeclaration_checked table member redeclaration =
     (if is_replaceable_for table member redeclaration then
     and_then (new_class table redeclaration) (λ new.
     and_then (constraining_class table member) (compatible table redeclaration.place new))
-    else breaks 24 redeclaration.place)
-    else breaks 13 redeclaration.place
+    else breaks WRONG_REPLACEABLE redeclaration.place)
+    else breaks WRONG_KIND_OF_NAME redeclaration.place
 
 -- An attribute of a leaf type is not replaceable. An element of another base is asked there.
 abbrev pub redeclaration_in : Table → Walked → List ℕ → Redeclaration → Checked
@@ -86,7 +87,7 @@ redeclaration_in table walked name redeclaration = checked_by (named name (membe
   where
     checked_by : Option Member → Checked
     checked_by (Some member) = redeclaration_checked table member redeclaration
-    checked_by None = if is_some walked.leaf then breaks 24 redeclaration.place else fine
+    checked_by None = if is_some walked.leaf then breaks WRONG_REPLACEABLE redeclaration.place else fine
 
 abbrev pub spoken_checked : Table → Walked → Spoken → Checked
 spoken_checked table walked spoken = each_checked (redeclaration_in table walked spoken.name) spoken.redeclares

@@ -1,5 +1,6 @@
 -- The declared dimensions of a component, and those of its type (Modelica Language Specification 3.5, sections 4.5.1, 7.3 and 10.1).
 use Rattle.std.specs.Prelude.{ℕ, zero, suc, Bool, true, false, ◌||◌, List, [], ◌∷◌, ◌++◌, length, sum_by, Option, Some, None, Ok, Err, is_some, if◌then◌else◌}
+use Rattle.mo_syntax.specs.Outcome.{Outcome}
 use Rattle.mo_syntax.specs.declared.expr.Expr.{Expr}
 use Rattle.mo_syntax.specs.declared.class.Causal.{Causal}
 use Rattle.mo_syntax.specs.declared.class.Causal.TheVariants.{None as NoCausality}
@@ -8,7 +9,6 @@ use Rattle.mo_syntax.specs.declared.class.Give.{Give}
 use Rattle.mo_syntax.specs.declared.class.Prefix.{Prefix}
 use Rattle.mo_syntax.specs.declared.class.Vary.{Vary}
 use Rattle.mo_syntax.specs.declared.class.Vary.TheVariants.{Free}
-use Rattle.mo_scope.specs.Outcome.{Outcome}
 use Rattle.mo_scope.specs.Rows.{Table, Row, row_at, number_of_classes, Form, Short_class, Long_class, component_of, Clause}
 use Rattle.mo_scope.specs.Frames.{Frame, Scope, Member, class_of}
 use Rattle.mo_scope.specs.Parts.{Redeclaration}

@@ -7,8 +7,8 @@
 use Rattle.std.proofs.Common.{◌≡◌, ℕ, zero, suc, ◌<◌, ◌+◌, ◌*◌, Bool, false, List, [], ◌∷◌, ◌++◌, map, None, Ok, codes, refl, ap, ◌∙◌, arith}
 use Rattle.std.specs.Prelude.{◌||◌, nat_eq}
 use Rattle.std.proofs.lemmas.List.Folds.{list_any-append}
+use Rattle.mo_syntax.specs.Outcome.{Outcome, and_then}
 use Rattle.mo_syntax.specs.declared.place.Place.{Place}
-use Rattle.mo_scope.specs.Outcome.{Outcome, and_then}
 use Rattle.mo_scope.specs.Rows.{Table, no_flags}
 use Rattle.mo_scope.specs.Frames.{Frame, Top, In, No_source, Member}
 use Rattle.mo_scope.specs.Lookup.{Walked, contains, walked, through_base, members_in}

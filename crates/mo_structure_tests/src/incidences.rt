@@ -1,6 +1,6 @@
 use mo_flat::{FlatEquation, FlatExpr, FlatModel, FlatVar};
 use mo_incidence::{Incidence, RowsError, incidence};
-use mo_syntax::{Boxed, Broken, Kind, List, NoMemory, Place, RelOp, Role, Rule, Stop, Text};
+use mo_syntax::{Boxed, Broken, Kind, List, NoMemory, Place, RelOp, Role, Rule, Stop, Text, rules};
 use std::alloc::Global;
 use std::test::Fail;
 
@@ -278,7 +278,7 @@ fn given_variables_are_not_differentiated(rt: HostRuntime) -> Result<(), Stop> {
     let alloc = rt.alloc();
     let mut corners = model(alloc, &[U, U, Role::Given], CORNERS)?;
     let stop = incidence(alloc, &corners).err();
-    let rule = Rule::new(43);
+    let rule = Rule::new(rules::DERIVATIVE_OF_INPUT);
     let place = Place { file: 1, byte: 5 };
     assert_eq!(rt; stop, Some(Stop::Broken(Broken { rule, place })));
     corners.equations = equations(alloc, &CORNERS[..4])?;

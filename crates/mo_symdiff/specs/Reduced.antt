@@ -11,6 +11,7 @@ use Rattle.mo_flat.specs.Text.{equation_line}
 use Rattle.mo_symdiff.specs.Carried.{carried, carries}
 use Rattle.mo_symdiff.specs.Derivative.{derived}
 use Rattle.mo_symdiff.specs.Still.{has_given}
+use Rattle.mo_syntax.specs.declared.rules.TheConstants.{RESULT_TOO_LARGE}
 
 unfoldable pub carried_equation : List FlatVar → FlatEquation → FlatEquation
 carried_equation vars q = record { left = carried vars q.left; right = carried vars q.right; place = q.place }
@@ -62,4 +63,4 @@ pub record IsWithin (m : FlatModel) (lines : List (List FlatEquation)) : Type 0 
   pub bytes : length (reduced_text m lines) ≤ 67108864
 
 abbrev pub too_large : FlatModel → Broken
-too_large m = record { rule = 44; place = m.place }
+too_large m = record { rule = RESULT_TOO_LARGE; place = m.place }

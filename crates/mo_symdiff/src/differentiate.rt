@@ -2,22 +2,20 @@
 ghost use Rattle.std.specs.Prelude.{◌≡◌, IfOk, IsTrue, true, false};
 ghost use Rattle.mo_symdiff.specs.Carried.{carried, carries, differentiates};
 ghost use Rattle.mo_symdiff.specs.Derivative.{derived};
-ghost use Rattle.mo_symdiff.specs.Refusal.{IfBroken, of_given};
+ghost use Rattle.mo_symdiff.specs.Refusal.{of_given};
+ghost use Rattle.mo_syntax.specs.Outcome.{IfBroken};
 
 use crate::carries::{carries, differentiates};
 use crate::carry::{carried, carried_slope};
 use mo_flat::{FlatExpr, FlatModel};
-use mo_syntax::{Broken, Place, Rule, Stop};
+use mo_syntax::{Broken, Place, Stop, rules};
 use std::alloc::Global;
 
 /// The refusal of a derivative of a given variable.
 pub(crate) fn broken(place: Place) -> Broken
     ensures { result ≡ of_given place }
 {
-    Broken {
-        rule: Rule::new(43),
-        place,
-    }
+    mo_syntax::broken(rules::DERIVATIVE_OF_INPUT, place)
 }
 
 /// The derivative of an expression with respect to time, after the derivatives in it are carried out. Rule 43 at `place`

@@ -5,7 +5,8 @@ ghost use Rattle.mo_symdiff.specs.Derivative.{derived};
 ghost use Rattle.mo_symdiff.specs.Weights.{weigh};
 ghost use Rattle.mo_symdiff.specs.Reduced.{IsWithin, bytes_at, bytes_of, carried_equation, derivatives, derived_equation, differentiates_given, first_given, nodes_at, nodes_of, reduced_lines, reduced_text, too_large};
 ghost use Rattle.mo_symdiff.specs.Room.{IsPaid, IsShort};
-ghost use Rattle.mo_symdiff.specs.Refusal.{IfBroken, of_given};
+ghost use Rattle.mo_symdiff.specs.Refusal.{of_given};
+ghost use Rattle.mo_syntax.specs.Outcome.{IfBroken};
 
 use crate::carried_weight::carried_weight;
 use crate::carries::carries;
@@ -17,7 +18,7 @@ use crate::sizes::size_of;
 use crate::still::holds_given;
 use crate::weights::Measure;
 use mo_flat::{FlatEquation, FlatModel, FlatVar, flat_nodes, write_equation_line};
-use mo_syntax::{Broken, List, NoMemory, Place, Rule, Stop, both};
+use mo_syntax::{Broken, List, NoMemory, Place, Stop, both, rules};
 use std::alloc::Global;
 
 /// How many nodes and bytes of lines a reduced model may still get.
@@ -414,10 +415,7 @@ fn lines_within(
 fn too_large(m: &FlatModel) -> Broken
     ensures { result ≡ too_large m.now }
 {
-    Broken {
-        rule: Rule::new(44),
-        place: m.place,
-    }
+    mo_syntax::broken(rules::RESULT_TOO_LARGE, m.place)
 }
 
 /// The reduced model: each equation with its derivatives carried out, followed by as many of its derivatives as `c` says, where

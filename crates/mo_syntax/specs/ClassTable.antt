@@ -16,6 +16,7 @@ use Rattle.mo_syntax.specs.declared.class.ModsOf.{ModsOf}
 use Rattle.mo_syntax.specs.declared.class.What.{What}
 use Rattle.mo_syntax.specs.declared.place.Broken.{Broken}
 use Rattle.mo_syntax.specs.declared.place.Place.{Place}
+use Rattle.mo_syntax.specs.declared.rules.TheConstants.{WITHIN_NAMES_NO_CLASS, DECLARED_TWICE, CLASS_NOT_FOUND, WRONG_KIND_OF_NAME}
 use Rattle.mo_syntax.specs.declared.text.Path.{Path}
 use Rattle.mo_syntax.specs.Classes.{Home, Under, Inside, Apart, ClassRow, Declared, Component, Class, Declaration, Outline, Outlined, each, in_class, outline_of_body, outline_of_give, outline_of_item}
 
@@ -165,9 +166,9 @@ declared_in asked = flat_map declared asked
 -- Rule 10: a `within` that is not the path of a long class. Rule 9: a name that stands among the elements before.
 abbrev pub broken_by : List FileTree → List Asked → Asked → Option Broken
 broken_by files before (Within path place) =
-    if is_long (class_of_path files path) then None else Some (record { rule = 10; place = place })
+    if is_long (class_of_path files path) then None else Some (record { rule = WITHIN_NAMES_NO_CLASS; place = place })
 broken_by files before (Names d) =
-    if is_repeated (declared_in before) d then Some (record { rule = 9; place = d.place }) else None
+    if is_repeated (declared_in before) d then Some (record { rule = DECLARED_TWICE; place = d.place }) else None
 
 abbrev pub first_broken : List FileTree → List Asked → List Asked → Option Broken
 first_broken files before [] = None
@@ -188,5 +189,5 @@ is_flattened TypeDef = false
 is_flattened kind = true
 
 abbrev pub broken_class : Option ClassRow → Option Broken
-broken_class None = Some (record { rule = 11; place = record { file = 0; byte = 0 } })
-broken_class (Some row) = if is_flattened row.class.kind then None else Some (record { rule = 13; place = row.class.place })
+broken_class None = Some (record { rule = CLASS_NOT_FOUND; place = record { file = 0; byte = 0 } })
+broken_class (Some row) = if is_flattened row.class.kind then None else Some (record { rule = WRONG_KIND_OF_NAME; place = row.class.place })

@@ -17,6 +17,8 @@ mod list;
 mod meaning;
 mod nesting;
 mod place;
+mod refusal;
+pub mod rules;
 mod text;
 mod token;
 
@@ -39,5 +41,6 @@ pub use list::List;
 pub use meaning::{ClassId, FrameId, InstancePath, Kind, Role};
 pub use nesting::depth;
 pub use place::{Broken, NoMemory, Place, Rule, Stop};
+pub use refusal::{broken, stop};
 pub use text::{Path, Text};
 pub use token::{Token, TokenKind};

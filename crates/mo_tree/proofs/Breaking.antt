@@ -7,6 +7,7 @@ use Rattle.std.proofs.lemmas.Grind.{flat_map-append}
 use Rattle.mo_syntax.specs.declared.class.FileTree.{FileTree}
 use Rattle.mo_syntax.specs.declared.place.Broken.{Broken}
 use Rattle.mo_syntax.specs.declared.place.Place.{Place}
+use Rattle.mo_syntax.specs.declared.rules.TheConstants.{DECLARED_TWICE, WITHIN_NAMES_NO_CLASS}
 use Rattle.mo_syntax.specs.declared.text.Path.{Path}
 use Rattle.mo_syntax.specs.Classes.{Under, Inside, Apart, ClassRow, Declaration, each}
 use Rattle.mo_syntax.specs.ClassTable.{same_home, Asked, Within, Names, declarations, declared_in, asked_from, class_of_path, first_broken, broken_tree, is_long, is_repeated, names_of, otherwise, in_file}
@@ -95,24 +96,24 @@ module _ (all : List FileTree) where
       behind = first_broken all (before ++ Names d ∷ []) (map Names ds ++ more)
 
       left : Bool → Option Broken
-      left b = otherwise (if b then Some (record { rule = 9; place = d.place }) else None) behind
+      left b = otherwise (if b then Some (record { rule = DECLARED_TWICE; place = d.place }) else None) behind
 
       right : Bool → Option Broken
-      right b = otherwise (if b then Some (record { rule = 9; place = e.place }) else repeated (with_key (keys_of kept) (key_in e.home e.name)) (map name_of es)) answer
+      right b = otherwise (if b then Some (record { rule = DECLARED_TWICE; place = e.place }) else repeated (with_key (keys_of kept) (key_in e.home e.name)) (map name_of es)) answer
 
       by : (b : Bool) → has_key (keys_of kept) (key_in e.home e.name) ≡ b →
           (is_repeated (declared_in before) d ≡ false → behind ≡ otherwise (repeated (keys_of (kept ++ e ∷ [])) (map name_of es)) answer) →
-          otherwise (if is_repeated (declared_in before) d then Some (record { rule = 9; place = d.place }) else None) behind
-          ≡ otherwise (if has_key (keys_of kept) (key_in e.home e.name) then Some (record { rule = 9; place = e.place }) else repeated (with_key (keys_of kept) (key_in e.home e.name)) (map name_of es)) answer
+          otherwise (if is_repeated (declared_in before) d then Some (record { rule = DECLARED_TWICE; place = d.place }) else None) behind
+          ≡ otherwise (if has_key (keys_of kept) (key_in e.home e.name) then Some (record { rule = DECLARED_TWICE; place = e.place }) else repeated (with_key (keys_of kept) (key_in e.home e.name)) (map name_of es)) answer
       by true is next =
-          ap (λ b. otherwise (if b then Some (record { rule = 9; place = d.place }) else None) behind) (same ∙ is)
-          ∙ ap (λ (p : Place). Some (record { rule = 9; place = p })) beside.0.place
-          ∙ sym (ap (λ b. otherwise (if b then Some (record { rule = 9; place = e.place }) else repeated (with_key (keys_of kept) (key_in e.home e.name)) (map name_of es)) answer) is)
+          ap (λ b. otherwise (if b then Some (record { rule = DECLARED_TWICE; place = d.place }) else None) behind) (same ∙ is)
+          ∙ ap (λ (p : Place). Some (record { rule = DECLARED_TWICE; place = p })) beside.0.place
+          ∙ sym (ap (λ b. otherwise (if b then Some (record { rule = DECLARED_TWICE; place = e.place }) else repeated (with_key (keys_of kept) (key_in e.home e.name)) (map name_of es)) answer) is)
       by false is next =
-          ap (λ b. otherwise (if b then Some (record { rule = 9; place = d.place }) else None) behind) (same ∙ is)
+          ap (λ b. otherwise (if b then Some (record { rule = DECLARED_TWICE; place = d.place }) else None) behind) (same ∙ is)
           ∙ next (same ∙ is)
           ∙ ap (λ k. otherwise (repeated k (map name_of es)) answer) (keys_push kept e)
-          ∙ sym (ap (λ b. otherwise (if b then Some (record { rule = 9; place = e.place }) else repeated (with_key (keys_of kept) (key_in e.home e.name)) (map name_of es)) answer) is)
+          ∙ sym (ap (λ b. otherwise (if b then Some (record { rule = DECLARED_TWICE; place = e.place }) else repeated (with_key (keys_of kept) (key_in e.home e.name)) (map name_of es)) answer) is)
 
   -- ---- files
 
@@ -122,7 +123,7 @@ module _ (all : List FileTree) where
   within_number (Some w) fine = by (class_of_path all w.0.0) refl fine
     where
       broken_where : Option ClassRow → Option Broken
-      broken_where o = if is_long o then None else Some (record { rule = 10; place = w.1 })
+      broken_where o = if is_long o then None else Some (record { rule = WITHIN_NAMES_NO_CLASS; place = w.1 })
 
       number_in : Option ClassRow → ℕ
       number_in None = 0
@@ -131,7 +132,7 @@ module _ (all : List FileTree) where
       by : (o : Option ClassRow) → class_of_path all w.0.0 ≡ o → broken_where (class_of_path all w.0.0) ≡ None →
           number_of_path all w.0.0 ≡ Some (number_of_within all (Some w))
       by None is h =
-          let clash : ◌≡◌ {A = Option Broken} (Some (record { rule = 10; place = w.1 })) None =
+          let clash : ◌≡◌ {A = Option Broken} (Some (record { rule = WITHIN_NAMES_NO_CLASS; place = w.1 })) None =
           sym (ap broken_where is) ∙ h in absurd cc
       by (Some row) is h = number_of_class all w.0.0 row is ∙ ap (λ (o : Option ClassRow). Some (number_in o)) (sym is)
 

@@ -6,6 +6,7 @@ use Rattle.mo_syntax.specs.declared.class.FileTree.{FileTree}
 use Rattle.mo_syntax.specs.Classes.{Inside, each}
 use Rattle.mo_syntax.specs.ClassTable.{in_file, otherwise}
 use Rattle.mo_syntax.specs.Parts.{outline_of_class}
+use Rattle.mo_syntax.specs.declared.rules.TheConstants.{DECLARED_TWICE}
 use Rattle.mo_tree.specs.declared.names.Name.{Name}
 use Rattle.mo_tree.specs.Homes.{number_of_within}
 use Rattle.mo_tree.specs.Keys.{Lists}
@@ -16,7 +17,7 @@ pub name_fits : (keys after : List ℕ → Bool) (name : Name) (xs rest : List N
     repeated after rest ≡ repeated keys xs
 name_fits keys after name xs rest front new kept =
     ap (λ k. repeated k rest) (fun_ext kept)
-    ∙ sym (ap (repeated keys) front ∙ ap (λ b. if b then Some (record { rule = 9; place = name.place }) else repeated (with_key keys name.key) rest) new)
+    ∙ sym (ap (repeated keys) front ∙ ap (λ b. if b then Some (record { rule = DECLARED_TWICE; place = name.place }) else repeated (with_key keys name.key) rest) new)
 
 pub name_kept : (keys after : List ℕ → Bool) (name : Name) (xs rest : List Name) → xs ≡ name ∷ rest → ((key : List ℕ) → after key ≡ with_key keys name.key key) →
     (key : List ℕ) → with_keys after rest key ≡ with_keys keys xs key

@@ -4,6 +4,7 @@ use Rattle.std.specs.Str.{bytes_eq}
 use Rattle.mo_syntax.specs.declared.class.FileTree.{FileTree}
 use Rattle.mo_syntax.specs.declared.place.Broken.{Broken}
 use Rattle.mo_syntax.specs.declared.place.Place.{Place}
+use Rattle.mo_syntax.specs.declared.rules.TheConstants.{DECLARED_TWICE, WITHIN_NAMES_NO_CLASS}
 use Rattle.mo_syntax.specs.declared.text.Path.{Path}
 use Rattle.mo_syntax.specs.ClassTable.{in_file, is_long, class_of_path, otherwise}
 use Rattle.mo_tree.specs.declared.names.Name.{Name}
@@ -26,12 +27,12 @@ with_keys keys (name ∷ names) = with_keys (with_key keys name.key) names
 abbrev pub repeated : (List ℕ → Bool) → List Name → Option Broken
 repeated keys [] = None
 repeated keys (name ∷ names) =
-    if has_key keys name.key then Some (record { rule = 9; place = name.place }) else repeated (with_key keys name.key) names
+    if has_key keys name.key then Some (record { rule = DECLARED_TWICE; place = name.place }) else repeated (with_key keys name.key) names
 
 -- rule 10 where the name behind `within` is not the path of a long class
 abbrev pub within_broken : List FileTree → Option (Path × Place) → Option Broken
 within_broken files None = None
-within_broken files (Some within) = if is_long (class_of_path files within.0.0) then None else Some (record { rule = 10; place = within.1 })
+within_broken files (Some within) = if is_long (class_of_path files within.0.0) then None else Some (record { rule = WITHIN_NAMES_NO_CLASS; place = within.1 })
 
 -- the names that a file declares, whose classes are elements of the class with the number home, and whose first class has the number n
 abbrev pub names_in : (home : ℕ) → FileTree → ℕ → List Name

@@ -2,8 +2,9 @@
 ghost use Rattle.std.specs.Prelude.{◌≡◌, ◌<◌, List as Seq, ℕ, true, false, IfOk, OnOk, Some, None};
 ghost use Rattle.std.specs.Option.{option_map};
 ghost use Rattle.mo_syntax.specs.ClassTable.{class_count, broken_tree};
-ghost use Rattle.mo_syntax.specs.Refusal.{IfBroken};
+ghost use Rattle.mo_syntax.specs.Outcome.{IfBroken};
 ghost use Rattle.mo_syntax.specs.Rows.{row_of};
+ghost use Rattle.mo_syntax.specs.declared.rules.TheConstants.{DECLARED_TWICE};
 ghost use Rattle.mo_tree.specs.Homes.{long_number, number_of_within};
 ghost use Rattle.mo_tree.specs.Keys.{holds};
 ghost use Rattle.mo_tree.specs.Repeats.{has_key, with_key, with_keys, repeated, within_broken};
@@ -11,7 +12,7 @@ ghost use Rattle.mo_tree.specs.Repeats.{has_key, with_key, with_keys, repeated, 
 use crate::keys::Keys;
 use crate::names::Name;
 use crate::walk::file_names;
-use mo_syntax::{Body, Broken, ClassAt, ClassTree, FileTree, List, Rule, Stop, find_class};
+use mo_syntax::{Body, ClassAt, ClassTree, FileTree, List, Stop, find_class, rules, stop};
 use std::alloc::Global;
 
 /// The class tree of these files. The first broken rule of the class tree, in the order of files and bytes: rule 10 at a
@@ -57,10 +58,7 @@ fn number_of_home(files: &[FileTree], file: &FileTree) -> Result<u32, Stop>
     };
     match long_class(&find_class(files, within.0.as_slice())) {
         Some(number) => Ok(number),
-        None => Err(Stop::Broken(Broken {
-            rule: Rule::new(10),
-            place: *place,
-        })),
+        None => Err(stop(rules::WITHIN_NAMES_NO_CLASS, *place)),
     }
 }
 
@@ -105,7 +103,7 @@ fn put(keys: &mut Keys, name: Name) -> Result<(), Stop>
     ensures accepted { OnOk result (has_key (holds keys.old) name.key ≡ false) }
     ensures kept { OnOk result ((key : Seq ℕ) → holds keys.new key ≡ with_key (holds keys.old) name.key key) }
     ensures broken { IfBroken result (λ broken. has_key (holds keys.old) name.key ≡ true) }
-    ensures place { IfBroken result (λ broken. broken ≡ record { rule = 9; place = name.place }) }
+    ensures place { IfBroken result (λ broken. broken ≡ record { rule = DECLARED_TWICE; place = name.place }) }
 {
     let Name { key, place } = name;
     let Some(key) = key else {
@@ -114,8 +112,5 @@ fn put(keys: &mut Keys, name: Name) -> Result<(), Stop>
     if keys.insert(key)? {
         return Ok(());
     }
-    Err(Stop::Broken(Broken {
-        rule: Rule::new(9),
-        place,
-    }))
+    Err(stop(rules::DECLARED_TWICE, place))
 }

@@ -3,7 +3,7 @@ ghost use Rattle.std.specs.Prelude.{◌≡◌, ◌<◌, IfOk, IfErr, Some, None}
 ghost use Rattle.std.specs.Option.{option_map};
 ghost use Rattle.mo_syntax.specs.ClassTable.{class_count, class_of_path, broken_class, is_flattened as has_flat_model};
 
-use mo_syntax::{Broken, ClassId, ClassKind, ClassTree, Path, Place, Rule, find_class};
+use mo_syntax::{Broken, ClassId, ClassKind, ClassTree, Path, Place, broken, find_class, rules};
 
 /// The number of the class with that path. Where no class has it, rule 11 is broken at the command line; where it is a
 /// function, type, package or operator, rule 13 at its name. Takes no memory.
@@ -15,14 +15,8 @@ pub fn asked(tree: &ClassTree, path: &Path) -> Result<ClassId, Broken>
 {
     match find_class(tree.files.as_slice(), path.0.as_slice()) {
         Some(found) if is_flattened(found.class.kind) => Ok(found.id),
-        Some(found) => Err(Broken {
-            rule: Rule::new(13),
-            place: found.class.place,
-        }),
-        None => Err(Broken {
-            rule: Rule::new(11),
-            place: Place { file: 0, byte: 0 },
-        }),
+        Some(found) => Err(broken(rules::WRONG_KIND_OF_NAME, found.class.place)),
+        None => Err(broken(rules::CLASS_NOT_FOUND, Place { file: 0, byte: 0 })),
     }
 }
 

@@ -2,10 +2,12 @@
 use Rattle.std.proofs.Common.{◌≡◌, ℕ, ℤ, pos, negsuc, Bool, true, false, ◌&&◌, List, [], ◌∷◌, ◌++◌, map, length, Option, Some, None, refl, ap, sym, ◌∙◌, subst, if◌then◌else◌, nat_eq, nat_lt, eqb-true}
 use Rattle.std.specs.Prelude.{fold, Ok, Err}
 use Rattle.std.specs.Ordering.{int_eq}
+use Rattle.mo_syntax.specs.Outcome.{Outcome, and_then, breaks}
 use Rattle.mo_syntax.specs.declared.place.Place.{Place}
 use Rattle.mo_syntax.specs.declared.place.Broken.{Broken}
+use Rattle.mo_syntax.specs.declared.rules.TheConstants.{WRONG_SIZE, WRONG_TYPE}
 use Rattle.mo_tables.specs.declared.functions.TheConstants.{ATAN2, CROSS, MAX, MIN, NDIMS, PRODUCT, SUM, TRANSPOSE}
-use Rattle.mo_typing.specs.Outcome.{Outcome, and_then, each, breaks}
+use Rattle.mo_typing.specs.Outcome.{each}
 use Rattle.mo_typing.specs.Kinds.{is_among, takes_sizes}
 use Rattle.mo_typing.specs.Dims.{Dims, Operand, is_scalar, are_equal, matched, spread, times, matrix_product, inner_matched, added, multiplied, with_operand, or_scalar, settled, chain, with_alike, alike, scalar, with_scalar, scalars, transposed, crossed, call, size, sizes_of, shaped, filled, raised, range, range_count, largest}
 use Rattle.mo_typing.specs.Shape.{joined, product_dims, is_matrix_factor, swapped, first, call_shape, power_shape, size_of, range_shape}
@@ -60,7 +62,7 @@ equals (n ∷ ns) (m ∷ ms) e = let both = both_true (nat_eq n m) (are_equal ns
 
 pub matched_agrees : (place : Place) (a b d : Dims) → matched place a b ≡ Ok d → (a ≡ d) × (b ≡ d)
 matched_agrees place a b d e =
-    let count = under (nat_eq (length a) (length b)) (if are_equal a b then Ok a else breaks 31 place) _ d e in
+    let count = under (nat_eq (length a) (length b)) (if are_equal a b then Ok a else breaks WRONG_SIZE place) _ d e in
     let size = under (are_equal a b) (Ok a) _ d count.1 in
     let same = ok_same a d size.1 in (same, sym (equals a b size.0) ∙ same)
 
@@ -233,14 +235,14 @@ crossed_agrees place (n ∷ k ∷ more) b d e = absurd (not_broken _ d e)
 cross_takes_two : (function : ℕ) → nat_eq function CROSS ≡ true → is_among (ATAN2 ∷ CROSS ∷ MAX ∷ MIN ∷ []) function ≡ true
 cross_takes_two function e = subst (λ f. is_among (ATAN2 ∷ CROSS ∷ MAX ∷ MIN ∷ []) f ≡ true) (sym (eqb-true function CROSS e)) refl
 
-one_agrees : (place : Place) (scalar turned crosses two : Bool) (a d : Dims) → (crosses ≡ true → two ≡ true) → (if scalar then Ok [] else (if turned then transposed place a else (if two then breaks 33 place else Ok a))) ≡ Ok d →
+one_agrees : (place : Place) (scalar turned crosses two : Bool) (a d : Dims) → (crosses ≡ true → two ≡ true) → (if scalar then Ok [] else (if turned then transposed place a else (if two then breaks WRONG_TYPE place else Ok a))) ≡ Ok d →
     (if scalar then [] else (if turned then swapped a else (if crosses then 3 ∷ [] else a))) ≡ d
 one_agrees place true turned crosses two a d c e = ok_same [] d e
 one_agrees place false true crosses two a d c e = transposed_agrees place a d e
 one_agrees place false false true two a d c e = let q = past two (Ok a) _ d e in let f : true ≡ false = sym (c refl) ∙ q.0 in cc
 one_agrees place false false false two a d c e = ok_same a d (past two (Ok a) _ d e).1
 
-two_agree : (place : Place) (function : ℕ) (crosses : Bool) → nat_eq function CROSS ≡ crosses → (a b d : Dims) → (if crosses then crossed place a b else (if is_among (ATAN2 ∷ MAX ∷ MIN ∷ []) function then scalars place (a ∷ b ∷ []) else breaks 33 place)) ≡ Ok d → call_shape function (a ∷ b ∷ []) ≡ d
+two_agree : (place : Place) (function : ℕ) (crosses : Bool) → nat_eq function CROSS ≡ crosses → (a b d : Dims) → (if crosses then crossed place a b else (if is_among (ATAN2 ∷ MAX ∷ MIN ∷ []) function then scalars place (a ∷ b ∷ []) else breaks WRONG_TYPE place)) ≡ Ok d → call_shape function (a ∷ b ∷ []) ≡ d
 two_agree place function true is a b d e = subst (λ f. call_shape f (a ∷ b ∷ []) ≡ d) (sym (eqb-true function CROSS is)) (crossed_agrees place a b d e)
 two_agree place function false is a b d e =
     let s = under (is_among (ATAN2 ∷ MAX ∷ MIN ∷ []) function) (scalars place (a ∷ b ∷ [])) _ d e in
@@ -283,6 +285,6 @@ filled_agrees place function filling sizes d e =
 pub range_agrees : (place : Place) (first step last : ℤ) (d : Dims) → range place first step last ≡ Ok d → range_shape first step last ≡ d
 range_agrees place first step last d e = go (int_eq step (pos 0)) (range_count first step last) e
   where
-    go : (still : Bool) (n : ℕ) → (if still then breaks 31 place else (if nat_lt largest n then breaks 31 place else Ok (n ∷ []))) ≡ Ok d → (if still then [] else n ∷ []) ≡ d
+    go : (still : Bool) (n : ℕ) → (if still then breaks WRONG_SIZE place else (if nat_lt largest n then breaks WRONG_SIZE place else Ok (n ∷ []))) ≡ Ok d → (if still then [] else n ∷ []) ≡ d
     go true n e = absurd (not_broken _ d e)
     go false n e = ok_same (n ∷ []) d (past (nat_lt largest n) (Ok (n ∷ [])) _ d e).1

@@ -1,7 +1,8 @@
 -- Calls with more than two arguments.
 use Rattle.std.proofs.Common.{◌≡◌, ◌≤◌, List, [], ◌∷◌, map, length, Ok, Err, sym, subst, arith}
 use Rattle.std.proofs.lemmas.Grind.{common_steps}
-use Rattle.mo_typing.specs.Outcome.{Outcome, and_then, each}
+use Rattle.mo_syntax.specs.Outcome.{Outcome, and_then}
+use Rattle.mo_typing.specs.Outcome.{each}
 
 abbrev IsOkay : Outcome (Unit {0}) → Type 0
 IsOkay (Ok u) = Unit {0}

@@ -2,10 +2,11 @@
 use Rattle.std.proofs.Common.{◌≡◌, ℕ, suc, ◌+◌, ◌<◌, ◌≤◌, List, [], ◌∷◌, map, length, drop, get_or, Result, Ok, Err, refl, ap, sym, ◌∙◌, subst, add-one, drop-cons}
 use Rattle.std.specs.Prelude.{fold}
 use Rattle.std.proofs.lemmas.List.{drop_all}
+use Rattle.mo_syntax.specs.Outcome.{Outcome, and_then}
 use Rattle.mo_syntax.specs.declared.place.Broken.{Broken}
 use Rattle.mo_syntax.specs.declared.place.Stop.{Stop}
 use Rattle.mo_syntax.specs.declared.place.Stop.TheVariants.{Broken as broken_by, NoMemory as no_memory}
-use Rattle.mo_typing.specs.Outcome.{Outcome, and_then, each, Gives}
+use Rattle.mo_typing.specs.Outcome.{each, Gives}
 
 -- what an operation on these operands gives, where those before them gave s
 abbrev pub gathered : {X P Y S T : Type 0} → (X → P) → (P → Outcome Y) → (S → Y → S) → (S → Outcome T) → S → List X → Outcome T

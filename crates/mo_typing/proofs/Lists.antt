@@ -3,7 +3,8 @@ use Rattle.std.proofs.Common.{◌≡◌, ℕ, zero, suc, ◌+◌, ◌<◌, List,
 use Rattle.std.specs.Prelude.{fold}
 use Rattle.std.proofs.lemmas.List.{append-nil}
 use Rattle.mo_flat.specs.declared.array.Subscript.{Subscript}
-use Rattle.mo_typing.specs.Outcome.{Outcome, and_then, each}
+use Rattle.mo_syntax.specs.Outcome.{Outcome, and_then}
+use Rattle.mo_typing.specs.Outcome.{each}
 use Rattle.mo_typing.specs.Dims.{Dims, kept, behind, subscripted}
 use Rattle.mo_typing.proofs.Gathering.{gathered}
 

@@ -4,12 +4,12 @@ use Rattle.std.specs.Prelude.{◌||◌}
 use Rattle.std.specs.List.{list_any}
 use Rattle.std.specs.Option.{option_map}
 use Rattle.std.proofs.lemmas.Simd.{map-map}
+use Rattle.mo_syntax.specs.Outcome.{Outcome}
 use Rattle.mo_syntax.specs.declared.place.Place.{Place}
 use Rattle.mo_syntax.specs.declared.meaning.Kind.{Kind}
 use Rattle.mo_flat.specs.declared.array.ArrayExpr.{ArrayExpr}
 use Rattle.mo_flat.specs.declared.array.ArrayNode.{fold_out-ArrayNode}
 use Rattle.mo_flat.specs.declared.array.ArrayNode.TheVariants.{Sum, Product, If, Sized, outs-Sum, outs-Product, outs-If, outs-Sized}
-use Rattle.mo_typing.specs.Outcome.{Outcome}
 use Rattle.mo_typing.specs.Kinds.{Part, kind_node, kind_part, part_of, kind_of_node, sum_of, product_of, choice, sized, signed_parts, branch_parts}
 
 list_any-map : {A B : Type 0} (f : B → Bool) (h : A → B) (xs : List A) → list_any f (map h xs) ≡ list_any (λ x. f (h x)) xs

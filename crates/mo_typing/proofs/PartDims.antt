@@ -1,10 +1,10 @@
 -- The dimensions of a node by its parts, where the fold passes through tuples.
 use Rattle.std.proofs.Common.{◌≡◌, Bool, List, refl}
+use Rattle.mo_syntax.specs.Outcome.{Outcome, and_then}
 use Rattle.mo_syntax.specs.declared.place.Place.{Place}
 use Rattle.mo_flat.specs.declared.array.ArrayExpr.{ArrayExpr}
 use Rattle.mo_flat.specs.declared.array.ArrayNode.{fold_out-ArrayNode}
 use Rattle.mo_flat.specs.declared.array.ArrayNode.TheVariants.{Sum, Product, If, outs-Sum, outs-Product, outs-If}
-use Rattle.mo_typing.specs.Outcome.{Outcome, and_then}
 use Rattle.mo_typing.specs.Dims.{Dims, Part, dims_node, dims_part, part_of, dims_of_node, operands_of, chain, added, multiplied, choice, signed_parts, branch_parts}
 
 -- the dimensions of a part

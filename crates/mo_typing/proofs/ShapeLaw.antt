@@ -1,10 +1,10 @@
 -- The dimensions by which elements are counted are those that are asked, where these break no rule.
 use Rattle.std.proofs.Common.{◌≡◌, suc, Bool, List, [], ◌∷◌, ◌++◌, map, length, Some, None, refl, ap, sym, ◌∙◌, subst}
 use Rattle.std.specs.Prelude.{fold, Ok}
+use Rattle.mo_syntax.specs.Outcome.{Outcome, and_then}
 use Rattle.mo_syntax.specs.declared.place.Place.{Place}
 use Rattle.mo_flat.specs.declared.array.ArrayExpr.{ArrayExpr, ArrayExpr-F, roll-ArrayExpr, map-ArrayExpr, fold-roll-ArrayExpr, ind-ArrayExpr}
 use Rattle.mo_flat.specs.declared.array.ArrayNode.{ArrayNode, ArrayNode-F, roll-ArrayNode, map-ArrayNode, fold-roll-ArrayNode}
-use Rattle.mo_typing.specs.Outcome.{Outcome, and_then}
 use Rattle.mo_typing.specs.Dims.{Dims, Operand, Part, dims_node, dims_part, part_of, dims_of, dims_of_node, added, multiplied, chain, operand, operands_of, scalar, scalars, related, raised, dims_of_branches, dims_of_all, alike, call, size_dims}
 use Rattle.mo_typing.specs.Shape.{shape_node, shape_part, shape_of, shape_of_node, or_scalar, first, call_shape, power_shape}
 use Rattle.mo_typing.specs.Shape.{added as added_shape, multiplied as multiplied_shape}

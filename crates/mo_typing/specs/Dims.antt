@@ -5,13 +5,15 @@
 -- the one that is wanted breaks rule 33, another size in the same number of dimensions rule 31.
 use Rattle.std.specs.Prelude.{ℕ, ◌+◌, ◌/◌, ℤ, pos, negsuc, ◌-ℤ◌, Bool, true, false, ◌&&◌, List, [], ◌∷◌, ◌++◌, map, fold, length, Option, Some, None, Ok, if◌then◌else◌, nat_eq, nat_lt, int_lt, unsigned_abs}
 use Rattle.std.specs.Ordering.{int_eq}
+use Rattle.mo_syntax.specs.Outcome.{Outcome, and_then, breaks}
 use Rattle.mo_syntax.specs.declared.place.Place.{Place}
+use Rattle.mo_syntax.specs.declared.rules.TheConstants.{WRONG_SIZE, WRONG_TYPE}
 use Rattle.mo_tables.specs.declared.functions.TheConstants.{ATAN2, CROSS, IDENTITY, MAX, MIN, NDIMS, PRODUCT, SUM, TRANSPOSE}
 use Rattle.mo_flat.specs.declared.array.ArrayExpr.{ArrayExpr, ArrayExpr-F, fold-ArrayExpr}
 use Rattle.mo_flat.specs.declared.array.ArrayNode.{ArrayNode, ArrayNode-F, fold-ArrayNode}
 use Rattle.mo_flat.specs.declared.array.Subscript.{Subscript}
 use Rattle.mo_flat.specs.declared.array.Subscript.TheVariants.{All, One, Many}
-use Rattle.mo_typing.specs.Outcome.{Outcome, and_then, each, breaks}
+use Rattle.mo_typing.specs.Outcome.{each}
 use Rattle.mo_typing.specs.Kinds.{is_among, takes_sizes}
 
 abbrev pub Dims : Type 0
@@ -29,7 +31,7 @@ are_equal _ _ = false
 -- operands of equal dimensions
 abbrev pub matched : Place → Dims → Dims → Outcome Dims
 matched place a b =
-    if nat_eq (length a) (length b) then (if are_equal a b then Ok a else breaks 31 place) else breaks 33 place
+    if nat_eq (length a) (length b) then (if are_equal a b then Ok a else breaks WRONG_SIZE place) else breaks WRONG_TYPE place
 
 -- a dotted operator takes a scalar beside an array too
 abbrev pub spread : Place → Bool → Dims → Dims → Outcome Dims
@@ -37,7 +39,7 @@ spread place dotted a b =
     if dotted && is_scalar b then Ok a else (if dotted && is_scalar a then Ok b else matched place a b)
 
 abbrev pub inner_matched : Place → ℕ → ℕ → Dims → Outcome Dims
-inner_matched place n m dims = if nat_eq n m then Ok dims else breaks 31 place
+inner_matched place n m dims = if nat_eq n m then Ok dims else breaks WRONG_SIZE place
 
 -- vectors and matrices multiplied
 abbrev pub matrix_product : Place → Dims → Dims → Outcome Dims
@@ -45,14 +47,14 @@ matrix_product place (n ∷ []) (m ∷ []) = inner_matched place n m []
 matrix_product place (n ∷ []) (m ∷ q ∷ []) = inner_matched place n m (q ∷ [])
 matrix_product place (p ∷ n ∷ []) (m ∷ []) = inner_matched place n m (p ∷ [])
 matrix_product place (p ∷ n ∷ []) (m ∷ q ∷ []) = inner_matched place n m (p ∷ q ∷ [])
-matrix_product place _ _ = breaks 33 place
+matrix_product place _ _ = breaks WRONG_TYPE place
 
 -- `*`, `/`, `.*` and `./`
 abbrev pub times : Place → Bool → Bool → Dims → Dims → Outcome Dims
 times place divide dotted a b =
     if dotted then spread place dotted a b else
     (if is_scalar b then Ok a else
-    (if divide then breaks 33 place else
+    (if divide then breaks WRONG_TYPE place else
     (if is_scalar a then Ok b else matrix_product place a b)))
 
 -- An operand of a chain: whether it is subtracted or divided by, whether its operator has a dot, and its dimensions.
@@ -89,7 +91,7 @@ abbrev pub alike : Place → List Dims → Outcome Dims
 alike place all = settled (fold (with_alike place) (Ok None) all)
 
 abbrev pub scalar : Place → Dims → Outcome Dims
-scalar place dims = if is_scalar dims then Ok [] else breaks 33 place
+scalar place dims = if is_scalar dims then Ok [] else breaks WRONG_TYPE place
 
 abbrev pub with_scalar : Place → Outcome Dims → Dims → Outcome Dims
 with_scalar place so_far dims = and_then so_far (λ _. scalar place dims)
@@ -100,28 +102,28 @@ scalars place dims = fold (with_scalar place) (Ok []) dims
 
 abbrev pub transposed : Place → Dims → Outcome Dims
 transposed place (n ∷ m ∷ more) = Ok (m ∷ n ∷ more)
-transposed place _ = breaks 33 place
+transposed place _ = breaks WRONG_TYPE place
 
 abbrev pub crossed : Place → Dims → Dims → Outcome Dims
-crossed place (n ∷ []) (m ∷ []) = if nat_eq n 3 && nat_eq m 3 then Ok (3 ∷ []) else breaks 31 place
-crossed place _ _ = breaks 33 place
+crossed place (n ∷ []) (m ∷ []) = if nat_eq n 3 && nat_eq m 3 then Ok (3 ∷ []) else breaks WRONG_SIZE place
+crossed place _ _ = breaks WRONG_TYPE place
 
 -- A function of one argument acts on each element.
 abbrev pub call_of_one : Place → ℕ → Dims → Outcome Dims
 call_of_one place function dims =
     if is_among (NDIMS ∷ PRODUCT ∷ SUM ∷ []) function then Ok [] else
     (if nat_eq function TRANSPOSE then transposed place dims else
-    (if is_among (ATAN2 ∷ CROSS ∷ MAX ∷ MIN ∷ []) function then breaks 33 place else Ok dims))
+    (if is_among (ATAN2 ∷ CROSS ∷ MAX ∷ MIN ∷ []) function then breaks WRONG_TYPE place else Ok dims))
 
 abbrev pub call_of_two : Place → ℕ → Dims → Dims → Outcome Dims
 call_of_two place function a b =
     if nat_eq function CROSS then crossed place a b else
-    (if is_among (ATAN2 ∷ MAX ∷ MIN ∷ []) function then scalars place (a ∷ b ∷ []) else breaks 33 place)
+    (if is_among (ATAN2 ∷ MAX ∷ MIN ∷ []) function then scalars place (a ∷ b ∷ []) else breaks WRONG_TYPE place)
 
 abbrev pub call : Place → ℕ → List Dims → Outcome Dims
 call place function (a ∷ []) = call_of_one place function a
 call place function (a ∷ b ∷ []) = call_of_two place function a b
-call place function _ = breaks 33 place
+call place function _ = breaks WRONG_TYPE place
 
 -- what is left of a dimension by the first subscript: a scalar takes it away, `:` keeps it, a vector gives its own; no subscript
 -- keeps it
@@ -153,13 +155,13 @@ largest = 4294967295
 
 abbrev pub range : Place → ℤ → ℤ → ℤ → Outcome Dims
 range place first step last =
-    if int_eq step (pos 0) then breaks 31 place else
-    (if nat_lt largest (range_count first step last) then breaks 31 place else Ok (range_count first step last ∷ []))
+    if int_eq step (pos 0) then breaks WRONG_SIZE place else
+    (if nat_lt largest (range_count first step last) then breaks WRONG_SIZE place else Ok (range_count first step last ∷ []))
 
 -- a size that is given as an argument
 abbrev pub size : Place × ℤ → Outcome ℕ
-size (place, negsuc n) = breaks 31 place
-size (place, pos n) = if nat_lt largest n then breaks 31 place else Ok n
+size (place, negsuc n) = breaks WRONG_SIZE place
+size (place, pos n) = if nat_lt largest n then breaks WRONG_SIZE place else Ok n
 
 abbrev pub sizes_of : List (Place × ℤ) → Outcome Dims
 sizes_of = each size
@@ -175,7 +177,7 @@ shaped function dims = if nat_eq function IDENTITY then squared dims else dims
 -- what fills is a scalar
 abbrev pub filled : Place → ℕ → Dims → Dims → Outcome Dims
 filled place function filling sizes =
-    if takes_sizes function (length sizes) then and_then (scalar place filling) (λ _. Ok (shaped function sizes)) else breaks 33 place
+    if takes_sizes function (length sizes) then and_then (scalar place filling) (λ _. Ok (shaped function sizes)) else breaks WRONG_TYPE place
 
 -- A part: its place, and its dimensions or the first rule that it breaks.
 pub record Part : Type 0 where

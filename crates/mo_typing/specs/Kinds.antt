@@ -5,15 +5,17 @@
 -- relation of two different enumerations break rule 39, every other disagreement of kinds and a wrong number of arguments rule 33.
 use Rattle.std.specs.Prelude.{ℕ, Bool, true, false, ◌||◌, List, [], ◌∷◌, ◌++◌, map, fold, length, Option, Some, None, Ok, if◌then◌else◌, nat_eq, nat_lt}
 use Rattle.std.specs.List.{list_any}
+use Rattle.mo_syntax.specs.Outcome.{Outcome, and_then, breaks}
 use Rattle.mo_syntax.specs.declared.place.Place.{Place}
 use Rattle.mo_syntax.specs.declared.meaning.Kind.{Kind}
 use Rattle.mo_syntax.specs.declared.meaning.Kind.TheVariants.{Real, Whole, Truth, Str, Enumeration}
+use Rattle.mo_syntax.specs.declared.rules.TheConstants.{WRONG_ENUMERATION, WRONG_TYPE}
 use Rattle.mo_tables.specs.declared.functions.TheConstants.{ABS, ATAN2, CROSS, IDENTITY, MAX, MIN, NDIMS, NO_EVENT, PRODUCT, SUM, TRANSPOSE}
 use Rattle.mo_flat.specs.declared.array.ArrayExpr.{ArrayExpr, ArrayExpr-F, fold-ArrayExpr}
 use Rattle.mo_flat.specs.declared.array.ArrayNode.{ArrayNode, ArrayNode-F, fold-ArrayNode}
 use Rattle.mo_typing.specs.declared.agree.Shared.{Shared}
 use Rattle.mo_typing.specs.declared.agree.Shared.TheVariants.{Unseen, Alike, Different}
-use Rattle.mo_typing.specs.Outcome.{Outcome, and_then, each, breaks}
+use Rattle.mo_typing.specs.Outcome.{each}
 
 -- the one kind of two values, if there is one
 abbrev pub common : Kind → Kind → Option Kind
@@ -35,8 +37,8 @@ or_breaks None rule place = breaks rule place
 abbrev pub number : Place → Kind → Outcome Kind
 number place Real = Ok Real
 number place Whole = Ok Whole
-number place (Enumeration class) = breaks 39 place
-number place _ = breaks 33 place
+number place (Enumeration class) = breaks WRONG_ENUMERATION place
+number place _ = breaks WRONG_TYPE place
 
 -- Integer where both are
 abbrev pub wider : Kind → Kind → Kind
@@ -55,7 +57,7 @@ is_truth Truth = true
 is_truth _ = false
 
 abbrev pub truth : Place → Kind → Outcome Kind
-truth place kind = if is_truth kind then Ok Truth else breaks 33 place
+truth place kind = if is_truth kind then Ok Truth else breaks WRONG_TYPE place
 
 abbrev pub with_truth : Place → Outcome Kind → Kind → Outcome Kind
 with_truth place so_far kind = and_then so_far (λ _. truth place kind)
@@ -77,7 +79,7 @@ joined Different kind = Different
 abbrev pub settled : Place → Shared → Outcome Kind
 settled place Unseen = Ok Real
 settled place (Alike kind) = Ok kind
-settled place Different = breaks 33 place
+settled place Different = breaks WRONG_TYPE place
 
 -- the elements of an array, the values of an if-expression
 abbrev pub alike : Place → List Kind → Outcome Kind
@@ -99,12 +101,12 @@ is_accepted _ _ = false
 
 -- a binding, or the value of an attribute
 abbrev pub accepts : Kind → Kind → Place → Outcome (Unit {0})
-accepts want got place = if is_accepted want got then Ok (tt {0}) else breaks (if are_enumerations want got then 39 else 33) place
+accepts want got place = if is_accepted want got then Ok (tt {0}) else breaks (if are_enumerations want got then WRONG_ENUMERATION else WRONG_TYPE) place
 
 -- a relation
 abbrev pub relation : Place → Kind → Kind → Outcome Kind
 relation place a b =
-    and_then (or_breaks (common a b) (if are_enumerations a b then 39 else 33) place) (λ _. Ok Truth)
+    and_then (or_breaks (common a b) (if are_enumerations a b then WRONG_ENUMERATION else WRONG_TYPE) place) (λ _. Ok Truth)
 
 abbrev pub is_number : Kind → Bool
 is_number Real = true
@@ -113,14 +115,14 @@ is_number _ = false
 
 -- an argument of a function of numbers
 abbrev pub numeric : Place → Kind → Outcome Kind
-numeric place kind = if is_number kind then Ok kind else breaks 33 place
+numeric place kind = if is_number kind then Ok kind else breaks WRONG_TYPE place
 
 abbrev pub real_of : Place → Kind → Outcome Kind
 real_of place kind = and_then (numeric place kind) (λ _. Ok Real)
 
 -- `noEvent` takes a Real, an Integer or a Boolean
 abbrev pub kept : Place → Kind → Outcome Kind
-kept place kind = if is_number kind || is_truth kind then Ok kind else breaks 33 place
+kept place kind = if is_number kind || is_truth kind then Ok kind else breaks WRONG_TYPE place
 
 abbrev pub is_among : List ℕ → ℕ → Bool
 is_among codes code = list_any (nat_eq code) codes
@@ -132,7 +134,7 @@ call_of_one place function kind =
     (if nat_eq function TRANSPOSE then Ok kind else
     (if nat_eq function NO_EVENT then kept place kind else
     (if is_among (ABS ∷ PRODUCT ∷ SUM ∷ []) function then numeric place kind else
-    (if is_among (ATAN2 ∷ CROSS ∷ MAX ∷ MIN ∷ []) function then breaks 33 place else real_of place kind))))
+    (if is_among (ATAN2 ∷ CROSS ∷ MAX ∷ MIN ∷ []) function then breaks WRONG_TYPE place else real_of place kind))))
 
 abbrev pub both_numeric : Place → Kind → Kind → Outcome Kind
 both_numeric place a b = and_then (numeric place a) (λ a. and_then (numeric place b) (λ b. Ok (wider a b)))
@@ -141,12 +143,12 @@ both_numeric place a b = and_then (numeric place a) (λ a. and_then (numeric pla
 abbrev pub call_of_two : Place → ℕ → Kind → Kind → Outcome Kind
 call_of_two place function a b =
     if is_among (CROSS ∷ MAX ∷ MIN ∷ []) function then both_numeric place a b else
-    (if nat_eq function ATAN2 then and_then (numeric place a) (λ _. real_of place b) else breaks 33 place)
+    (if nat_eq function ATAN2 then and_then (numeric place a) (λ _. real_of place b) else breaks WRONG_TYPE place)
 
 abbrev pub call : Place → ℕ → List Kind → Outcome Kind
 call place function (a ∷ []) = call_of_one place function a
 call place function (a ∷ b ∷ []) = call_of_two place function a b
-call place function _ = breaks 33 place
+call place function _ = breaks WRONG_TYPE place
 
 -- `identity` takes one size, `fill`, `zeros` and `ones` at least one
 abbrev pub takes_sizes : ℕ → ℕ → Bool
@@ -201,7 +203,7 @@ filling (Some part) = part.kind
 
 abbrev pub sized : ℕ → Option Part → ℕ → Place → Outcome Kind
 sized function part count place =
-    and_then (filling part) (λ kind. if takes_sizes function count then Ok kind else breaks 33 place)
+    and_then (filling part) (λ kind. if takes_sizes function count then Ok kind else breaks WRONG_TYPE place)
 
 -- the kind of a node at its place, by the kinds of its parts
 abbrev pub kind_node : ArrayNode-F (Place → Outcome Kind) Part → Place → Outcome Kind

@@ -2,12 +2,14 @@
 -- in `size(A, i)` (section 10.3.1): rule 32 at the first one in the order of the text.
 use Rattle.std.specs.Prelude.{ℕ, ℤ, pos, negsuc, Bool, false, ◌&&◌, List, [], ◌∷◌, map, length, Option, Some, None, Ok, if◌then◌else◌, nat_le}
 use Rattle.std.specs.List.{list_all}
+use Rattle.mo_syntax.specs.Outcome.{Outcome, and_then, breaks}
 use Rattle.mo_syntax.specs.declared.place.Place.{Place}
 use Rattle.mo_flat.specs.declared.array.ArrayExpr.{ArrayExpr, ArrayExpr-F, para-ArrayExpr}
 use Rattle.mo_flat.specs.declared.array.ArrayNode.{ArrayNode, ArrayNode-F, para-ArrayNode}
 use Rattle.mo_flat.specs.declared.array.Subscript.{Subscript}
 use Rattle.mo_flat.specs.declared.array.Subscript.TheVariants.{All, One, Many}
-use Rattle.mo_typing.specs.Outcome.{Outcome, and_then, each, breaks}
+use Rattle.mo_syntax.specs.declared.rules.TheConstants.{SUBSCRIPT_OUTSIDE}
+use Rattle.mo_typing.specs.Outcome.{each}
 use Rattle.mo_typing.specs.Dims.{Dims}
 use Rattle.mo_typing.specs.Shape.{shape_of}
 
@@ -30,7 +32,7 @@ is_within size (pos n) = nat_le 1 n && nat_le n size
 is_within size (negsuc n) = false
 
 abbrev pub within : Place → Bool → Checked
-within place b = if b then fine else breaks 32 place
+within place b = if b then fine else breaks SUBSCRIPT_OUTSIDE place
 
 abbrev pub subscript : ℕ → Subscript → Checked
 subscript size All = fine

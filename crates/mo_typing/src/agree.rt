@@ -1,11 +1,10 @@
 //! What the kinds of operands agree on: the kind of each operation by those of its operands, or the rule that they break at its
 //! place.
-ghost use Rattle.std.specs.Prelude.{◌≡◌, ◌≤◌, ◌||◌, [], ◌∷◌, nat_eq, nat_lt};
+ghost use Rattle.std.specs.Prelude.{◌≡◌, ◌||◌, [], ◌∷◌, nat_eq, nat_lt};
 ghost use Rattle.mo_tables.specs.declared.functions.TheConstants.{ABS, ATAN2, CROSS, IDENTITY, MAX, MIN, NDIMS, NO_EVENT, PRODUCT, SUM, TRANSPOSE};
-ghost use Rattle.mo_typing.specs.Outcome.{breach};
 ghost use Rattle.mo_typing.specs.Kinds.{common, number, wider, with_number, arithmetic, is_truth, truth, with_truth, joined, settled, are_enumerations, is_accepted, accepts, relation, is_number, numeric, real_of, kept, both_numeric, call_of_one, call_of_two, takes_sizes, divided, raised};
 
-use mo_syntax::{Broken, Kind, Place, Rule};
+use mo_syntax::{Broken, Kind, Place, broken, rules};
 use mo_tables::functions;
 
 /// What values have in common.
@@ -17,18 +16,6 @@ pub enum Shared {
     Alike(Kind),
     /// There is no one kind.
     Different,
-}
-
-/// A rule from 1 to 46, broken at a place.
-pub fn broken(rule: u8, place: Place) -> Broken
-    requires low { 1 ≤ rule }
-    requires high { rule ≤ 46 }
-    ensures { result ≡ breach rule place }
-{
-    Broken {
-        rule: Rule::new(rule),
-        place,
-    }
 }
 
 /// The one kind of two values, an Integer being accepted where a Real is wanted; none where they have no kind in common.
@@ -54,9 +41,9 @@ pub fn number(place: Place, kind: Kind) -> Result<Kind, Broken>
     match kind {
         Kind::Real => Ok(Kind::Real),
         Kind::Whole => Ok(Kind::Whole),
-        Kind::Enumeration(_) => Err(broken(39, place)),
-        Kind::Truth => Err(broken(33, place)),
-        Kind::Str => Err(broken(33, place)),
+        Kind::Enumeration(_) => Err(broken(rules::WRONG_ENUMERATION, place)),
+        Kind::Truth => Err(broken(rules::WRONG_TYPE, place)),
+        Kind::Str => Err(broken(rules::WRONG_TYPE, place)),
     }
 }
 
@@ -99,10 +86,10 @@ pub fn truth(place: Place, kind: Kind) -> Result<Kind, Broken>
 {
     match kind {
         Kind::Truth => Ok(Kind::Truth),
-        Kind::Real => Err(broken(33, place)),
-        Kind::Whole => Err(broken(33, place)),
-        Kind::Str => Err(broken(33, place)),
-        Kind::Enumeration(_) => Err(broken(33, place)),
+        Kind::Real => Err(broken(rules::WRONG_TYPE, place)),
+        Kind::Whole => Err(broken(rules::WRONG_TYPE, place)),
+        Kind::Str => Err(broken(rules::WRONG_TYPE, place)),
+        Kind::Enumeration(_) => Err(broken(rules::WRONG_TYPE, place)),
     }
 }
 
@@ -135,7 +122,7 @@ pub fn settled(place: Place, so_far: Shared) -> Result<Kind, Broken>
     match so_far {
         Shared::Unseen => Ok(Kind::Real),
         Shared::Alike(kind) => Ok(kind),
-        Shared::Different => Err(broken(33, place)),
+        Shared::Different => Err(broken(rules::WRONG_TYPE, place)),
     }
 }
 
@@ -174,9 +161,9 @@ pub fn accepts(want: Kind, got: Kind, place: Place) -> Result<(), Broken>
         return Ok(());
     }
     if are_enumerations(want, got) {
-        return Err(broken(39, place));
+        return Err(broken(rules::WRONG_ENUMERATION, place));
     }
-    Err(broken(33, place))
+    Err(broken(rules::WRONG_TYPE, place))
 }
 
 /// A relation: rule 39 between two different enumerations, 33 between other kinds that differ.
@@ -187,9 +174,9 @@ pub fn relation(place: Place, a: Kind, b: Kind) -> Result<Kind, Broken>
         Some(_) => Ok(Kind::Truth),
         None => {
             if are_enumerations(a, b) {
-                Err(broken(39, place))
+                Err(broken(rules::WRONG_ENUMERATION, place))
             } else {
-                Err(broken(33, place))
+                Err(broken(rules::WRONG_TYPE, place))
             }
         }
     }
@@ -223,7 +210,7 @@ pub fn numeric(place: Place, kind: Kind) -> Result<Kind, Broken>
     if is_number(kind) {
         Ok(kind)
     } else {
-        Err(broken(33, place))
+        Err(broken(rules::WRONG_TYPE, place))
     }
 }
 
@@ -242,7 +229,7 @@ fn kept(place: Place, kind: Kind) -> Result<Kind, Broken>
     if is_number(kind) || is_truth(kind) {
         Ok(kind)
     } else {
-        Err(broken(33, place))
+        Err(broken(rules::WRONG_TYPE, place))
     }
 }
 
@@ -264,7 +251,7 @@ pub fn call_of_one(place: Place, function: u16, kind: Kind) -> Result<Kind, Brok
         functions::NO_EVENT => kept(place, kind),
         functions::ABS | functions::PRODUCT | functions::SUM => numeric(place, kind),
         functions::ATAN2 | functions::CROSS | functions::MAX | functions::MIN => {
-            Err(broken(33, place))
+            Err(broken(rules::WRONG_TYPE, place))
         }
         _ => real_of(place, kind),
     }
@@ -280,7 +267,7 @@ pub fn call_of_two(place: Place, function: u16, a: Kind, b: Kind) -> Result<Kind
             numeric(place, a)?;
             real_of(place, b)
         }
-        _ => Err(broken(33, place)),
+        _ => Err(broken(rules::WRONG_TYPE, place)),
     }
 }
 

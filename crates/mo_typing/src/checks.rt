@@ -2,14 +2,14 @@
 ghost use Rattle.std.specs.Prelude.{◌≡◌, map, IfOk, Ok, Err};
 ghost use Rattle.std.specs.List.{list_all};
 ghost use Rattle.std.specs.Option.{option_map};
-ghost use Rattle.mo_typing.specs.Outcome.{and_then, each, Gives, IfBroken};
+ghost use Rattle.mo_syntax.specs.Outcome.{and_then, IfBroken};
+ghost use Rattle.mo_typing.specs.Outcome.{each, Gives};
 ghost use Rattle.mo_typing.specs.Shape.{shape_of};
 ghost use Rattle.mo_typing.specs.Subscripts.{subscripts_of, subscripts_of_node, is_within, within, subscript, subscripts, both, every, fine, of_option, size_number, part_of};
 
-use crate::agree::broken;
 use crate::shapes::{Signed, shape};
 use mo_flat::{ArrayExpr, ArrayNode, Subscript};
-use mo_syntax::{Broken, Place, Stop};
+use mo_syntax::{Broken, Place, Stop, broken, rules};
 use std::alloc::Global;
 
 /// Whether a subscript lies in its dimension, from 1 to the size.
@@ -37,7 +37,11 @@ fn are_within(size: usize, numbers: &[i64]) -> bool
 fn within(place: Place, b: bool) -> Result<(), Broken>
     ensures { result ≡ within place b }
 {
-    if b { Ok(()) } else { Err(broken(32, place)) }
+    if b {
+        Ok(())
+    } else {
+        Err(broken(rules::SUBSCRIPT_OUTSIDE, place))
+    }
 }
 
 fn subscript(size: u32, s: &Subscript) -> Result<(), Broken>

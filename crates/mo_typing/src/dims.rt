@@ -1,10 +1,10 @@
 //! The dimensions of an array expression.
 ghost use Rattle.std.specs.Prelude.{◌≡◌, map, fold, IfOk, Ok, None};
 ghost use Rattle.std.specs.Option.{option_map};
-ghost use Rattle.mo_typing.specs.Outcome.{and_then, Gives, IfBroken};
+ghost use Rattle.mo_syntax.specs.Outcome.{and_then, IfBroken};
+ghost use Rattle.mo_typing.specs.Outcome.{Gives};
 ghost use Rattle.mo_typing.specs.Dims.{dims_of, dims_of_node, part_of, dims_of_all, operands_of, condition, dims_of_branches, chain, added, multiplied, with_alike, alike, array, choice, both, raised, related, scalar, scalars, call, range, size_dims, filling, sized, signed_parts, branch_parts};
 
-use crate::agree::broken;
 use crate::extents::{
     call_of_one, call_of_two, count, filled, headed, range, size_dims, sizes_of, subscripted,
 };
@@ -12,7 +12,7 @@ use crate::operands::{
     chained, raised, related, scalar, with_alike, with_factor, with_scalar, with_term,
 };
 use mo_flat::{ArrayExpr, ArrayNode};
-use mo_syntax::{Broken, List, Place, Stop};
+use mo_syntax::{Broken, List, Place, Stop, broken, rules};
 use std::alloc::Global;
 
 /// The dimensions of an expression, the first one first, or the first rule that they break: 33 where another number of
@@ -241,7 +241,7 @@ fn of_call(
     ensures { Gives result (and_then (dims_of_all (map part_of args.now)) (call place function)) }
 {
     match args {
-        [] => Err(Stop::Broken(broken(33, place))),
+        [] => Err(Stop::Broken(broken(rules::WRONG_TYPE, place))),
         [only] => {
             let shape = dims(alloc, only)?;
             answer(call_of_one(alloc, place, function, shape)?)
@@ -253,7 +253,7 @@ fn of_call(
         }
         [_, _, _, ..] => {
             have_dims(alloc, args)?;
-            Err(Stop::Broken(broken(33, place)))
+            Err(Stop::Broken(broken(rules::WRONG_TYPE, place)))
         }
     }
 }

@@ -3,10 +3,10 @@ ghost use Rattle.std.specs.Prelude.{◌≡◌, ◌∷◌, [], ◌++◌, ◌≢�
 ghost use Rattle.mo_typing.specs.Outcome.{Gives};
 ghost use Rattle.mo_typing.specs.Dims.{transposed, crossed, call_of_one, call_of_two, kept, subscripted, is_past, range, size, sizes_of, shaped, filled, size_dims};
 
-use crate::agree::{broken, takes_sizes};
+use crate::agree::takes_sizes;
 use crate::operands::{list_of_one, list_of_two, related, scalar};
 use mo_flat::Subscript;
-use mo_syntax::{Broken, List, NoMemory, Place, Stop};
+use mo_syntax::{Broken, List, NoMemory, Place, Stop, broken, rules};
 use mo_tables::functions;
 use std::alloc::Global;
 
@@ -47,8 +47,8 @@ fn transposed(
     ensures { IfOk result (λ told. told ≡ transposed place dims.now) }
 {
     match dims {
-        [] => Ok(Err(broken(33, place))),
-        [_] => Ok(Err(broken(33, place))),
+        [] => Ok(Err(broken(rules::WRONG_TYPE, place))),
+        [_] => Ok(Err(broken(rules::WRONG_TYPE, place))),
         [n, m, more @ ..] => {
             let rest = copied(alloc, more)?;
             Ok(Ok(headed(alloc, *m, headed(alloc, *n, rest)?)?))
@@ -65,15 +65,15 @@ fn crossed_with(
     ensures { IfOk result (λ told. told ≡ crossed place (n ∷ []) b.now) }
 {
     match b {
-        [] => Ok(Err(broken(33, place))),
+        [] => Ok(Err(broken(rules::WRONG_TYPE, place))),
         [m] => {
             if n == 3 && *m == 3 {
                 Ok(Ok(list_of_one(alloc, 3)?))
             } else {
-                Ok(Err(broken(31, place)))
+                Ok(Err(broken(rules::WRONG_SIZE, place)))
             }
         }
-        [_, _, ..] => Ok(Err(broken(33, place))),
+        [_, _, ..] => Ok(Err(broken(rules::WRONG_TYPE, place))),
     }
 }
 
@@ -86,9 +86,9 @@ fn crossed(
     ensures { IfOk result (λ told. told ≡ crossed place a.now b.now) }
 {
     match a {
-        [] => Ok(Err(broken(33, place))),
+        [] => Ok(Err(broken(rules::WRONG_TYPE, place))),
         [n] => crossed_with(alloc, place, *n, b),
-        [_, _, ..] => Ok(Err(broken(33, place))),
+        [_, _, ..] => Ok(Err(broken(rules::WRONG_TYPE, place))),
     }
 }
 
@@ -105,7 +105,7 @@ pub fn call_of_one(
         functions::NDIMS | functions::PRODUCT | functions::SUM => Ok(Ok(List::new(alloc))),
         functions::TRANSPOSE => transposed(alloc, place, dims.as_slice()),
         functions::ATAN2 | functions::CROSS | functions::MAX | functions::MIN => {
-            Ok(Err(broken(33, place)))
+            Ok(Err(broken(rules::WRONG_TYPE, place)))
         }
         _ => Ok(Ok(dims)),
     }
@@ -125,7 +125,7 @@ pub fn call_of_two(
     match function {
         functions::CROSS => crossed(alloc, place, a.as_slice(), b.as_slice()),
         functions::ATAN2 | functions::MAX | functions::MIN => Ok(related(alloc, place, a, b)),
-        _ => Ok(Err(broken(33, place))),
+        _ => Ok(Err(broken(rules::WRONG_TYPE, place))),
     }
 }
 
@@ -179,14 +179,14 @@ pub fn range(
     ensures { IfOk result (λ told. told ≡ range place first step last) }
 {
     if step == 0 {
-        return Ok(Err(broken(31, place)));
+        return Ok(Err(broken(rules::WRONG_SIZE, place)));
     }
     if is_past(first, step, last) {
         return Ok(Ok(list_of_one(alloc, 0)?));
     }
     let steps = last.abs_diff(first) / step.unsigned_abs();
     if steps >= 4294967295 {
-        return Ok(Err(broken(31, place)));
+        return Ok(Err(broken(rules::WRONG_SIZE, place)));
     }
     Ok(Ok(list_of_one(alloc, steps as u32 + 1)?))
 }
@@ -196,7 +196,7 @@ fn size(n: &(Place, i64)) -> Result<u32, Broken>
     ensures { result ≡ size n.now }
 {
     if n.1 < 0 || n.1 > 4294967295 {
-        return Err(broken(31, n.0));
+        return Err(broken(rules::WRONG_SIZE, n.0));
     }
     Ok(n.1 as u32)
 }
@@ -245,7 +245,7 @@ pub fn filled(
     ensures { IfOk result (λ told. told ≡ filled place function filling sizes) }
 {
     if !takes_sizes(function, sizes.len()) {
-        return Ok(Err(broken(33, place)));
+        return Ok(Err(broken(rules::WRONG_TYPE, place)));
     }
     match scalar(alloc, place, filling) {
         Err(broken) => Ok(Err(broken)),

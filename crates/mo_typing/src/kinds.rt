@@ -2,17 +2,17 @@
 ghost use Rattle.std.specs.Prelude.{◌≡◌, map, fold};
 ghost use Rattle.std.specs.List.{list_any};
 ghost use Rattle.std.specs.Option.{option_map};
-ghost use Rattle.mo_typing.specs.Outcome.{and_then};
+ghost use Rattle.mo_syntax.specs.Outcome.{and_then};
 ghost use Rattle.mo_typing.specs.Kinds.{kind_of, kind_of_node, part_of, kinds_of, kinds_of_branches, condition, sum_of, product_of, raised, both, choice, filling, sized, logical, alike, joined, call, relation, truth, real_of, signed_parts, branch_parts};
 ghost use Rattle.mo_syntax.specs.declared.meaning.Kind.TheVariants.{Whole};
 ghost use Rattle.mo_typing.specs.declared.agree.Shared.TheVariants.{Unseen};
 
 use crate::agree::{
-    Shared, broken, call_of_one, call_of_two, divided, joined, raised, real_of, relation, settled,
+    Shared, call_of_one, call_of_two, divided, joined, raised, real_of, relation, settled,
     takes_sizes, truth, with_number, with_truth,
 };
 use mo_flat::{ArrayExpr, ArrayNode};
-use mo_syntax::{Broken, Kind, Place};
+use mo_syntax::{Broken, Kind, Place, broken, rules};
 
 /// The kind of each element of an expression, or the first rule that its kinds break: 39 at arithmetic on an enumeration value
 /// or at a relation of two different enumerations, 33 at every other disagreement and at a call with a wrong number of
@@ -184,7 +184,7 @@ fn of_call(function: u16, args: &[ArrayExpr], place: Place) -> Result<Kind, Brok
     ensures { result ≡ and_then (kinds_of (map part_of args.now)) (call place function) }
 {
     match args {
-        [] => Err(broken(33, place)),
+        [] => Err(broken(rules::WRONG_TYPE, place)),
         [only] => call_of_one(place, function, kind_of(only)?),
         [first, second] => {
             let a = kind_of(first)?;
@@ -193,7 +193,7 @@ fn of_call(function: u16, args: &[ArrayExpr], place: Place) -> Result<Kind, Brok
         }
         [_, _, _, ..] => {
             have_kinds(args)?;
-            Err(broken(33, place))
+            Err(broken(rules::WRONG_TYPE, place))
         }
     }
 }
@@ -236,6 +236,6 @@ fn of_sized(
     if takes_sizes(function, count) {
         Ok(kind)
     } else {
-        Err(broken(33, place))
+        Err(broken(rules::WRONG_TYPE, place))
     }
 }

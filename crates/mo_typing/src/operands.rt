@@ -3,8 +3,7 @@
 ghost use Rattle.std.specs.Prelude.{◌≡◌, [], ◌∷◌, IfOk};
 ghost use Rattle.mo_typing.specs.Dims.{is_scalar, are_equal, matched, spread, inner_matched, matrix_product, times, added, multiplied, with_operand, settled, with_alike, scalar, with_scalar, raised, related};
 
-use crate::agree::broken;
-use mo_syntax::{Broken, List, NoMemory, Place};
+use mo_syntax::{Broken, List, NoMemory, Place, broken, rules};
 use std::alloc::Global;
 
 /// An operand of a chain: whether it is subtracted or divided by, whether its operator has a dot, and its dimensions.
@@ -28,10 +27,10 @@ pub fn matched(place: Place, a: List<u32>, b: List<u32>) -> Result<List<u32>, Br
     ensures { result ≡ matched place a b }
 {
     if a.len() != b.len() {
-        return Err(broken(33, place));
+        return Err(broken(rules::WRONG_TYPE, place));
     }
     if !are_equal(a.as_slice(), b.as_slice()) {
-        return Err(broken(31, place));
+        return Err(broken(rules::WRONG_SIZE, place));
     }
     Ok(a)
 }
@@ -72,7 +71,7 @@ fn inner_matched(place: Place, n: u32, m: u32, dims: List<u32>) -> Result<List<u
     if n == m {
         Ok(dims)
     } else {
-        Err(broken(31, place))
+        Err(broken(rules::WRONG_SIZE, place))
     }
 }
 
@@ -86,10 +85,10 @@ fn vector_product(
     ensures { IfOk result (λ told. told ≡ matrix_product place (n ∷ []) b.now) }
 {
     match b {
-        [] => Ok(Err(broken(33, place))),
+        [] => Ok(Err(broken(rules::WRONG_TYPE, place))),
         [m] => Ok(inner_matched(place, n, *m, List::new(alloc))),
         [m, q] => Ok(inner_matched(place, n, *m, list_of_one(alloc, *q)?)),
-        [_, _, _, ..] => Ok(Err(broken(33, place))),
+        [_, _, _, ..] => Ok(Err(broken(rules::WRONG_TYPE, place))),
     }
 }
 
@@ -104,10 +103,10 @@ fn rows_product(
     ensures { IfOk result (λ told. told ≡ matrix_product place (p ∷ n ∷ []) b.now) }
 {
     match b {
-        [] => Ok(Err(broken(33, place))),
+        [] => Ok(Err(broken(rules::WRONG_TYPE, place))),
         [m] => Ok(inner_matched(place, n, *m, list_of_one(alloc, p)?)),
         [m, q] => Ok(inner_matched(place, n, *m, list_of_two(alloc, p, *q)?)),
-        [_, _, _, ..] => Ok(Err(broken(33, place))),
+        [_, _, _, ..] => Ok(Err(broken(rules::WRONG_TYPE, place))),
     }
 }
 
@@ -121,10 +120,10 @@ fn matrix_product(
     ensures { IfOk result (λ told. told ≡ matrix_product place a.now b.now) }
 {
     match a {
-        [] => Ok(Err(broken(33, place))),
+        [] => Ok(Err(broken(rules::WRONG_TYPE, place))),
         [n] => vector_product(alloc, place, *n, b),
         [p, n] => rows_product(alloc, place, *p, *n, b),
-        [_, _, _, ..] => Ok(Err(broken(33, place))),
+        [_, _, _, ..] => Ok(Err(broken(rules::WRONG_TYPE, place))),
     }
 }
 
@@ -146,7 +145,7 @@ pub fn times(
         return Ok(Ok(a));
     }
     if divide {
-        return Ok(Err(broken(33, place)));
+        return Ok(Err(broken(rules::WRONG_TYPE, place)));
     }
     if is_scalar(a.as_slice()) {
         return Ok(Ok(b));
@@ -240,7 +239,7 @@ pub fn scalar(alloc: Global, place: Place, dims: List<u32>) -> Result<List<u32>,
     if is_scalar(dims.as_slice()) {
         Ok(List::new(alloc))
     } else {
-        Err(broken(33, place))
+        Err(broken(rules::WRONG_TYPE, place))
     }
 }
 

@@ -5,6 +5,7 @@ use Rattle.std.specs.Option.{option_map}
 use Rattle.std.proofs.lemmas.Grind.{common_steps}
 use Rattle.std.proofs.lemmas.Simd.{map-map}
 use Rattle.std.proofs.Math.Seq.{take-length}
+use Rattle.mo_syntax.specs.Outcome.{Outcome, and_then}
 use Rattle.mo_syntax.specs.declared.place.Place.{Place}
 use Rattle.mo_syntax.specs.declared.meaning.Kind.{Kind}
 use Rattle.mo_syntax.specs.declared.meaning.ClassId.{ClassId}
@@ -14,7 +15,6 @@ use Rattle.mo_flat.specs.declared.array.ArrayExpr.{ArrayExpr, out-ArrayExpr, rol
 use Rattle.mo_flat.specs.declared.array.ArrayNode.{ArrayNode-F, para-roll-ArrayNode}
 use Rattle.mo_flat.specs.declared.array.ArrayNode.TheVariants.{Whole, Decimal, Str, Truth, Literal, Time, Vars, Sum, Product, Power, Relation, Not, All, Any, If, Call, Der, Array, Range, Size, Sized}
 use Rattle.mo_flat.specs.declared.array.ArrayNode.TheVariants.{rolls-Whole, rolls-Decimal, rolls-Str, rolls-Truth, rolls-Literal, rolls-Time, rolls-Vars, rolls-Sum, rolls-Product, rolls-Power, rolls-Relation, rolls-Not, rolls-All, rolls-Any, rolls-If, rolls-Call, rolls-Der, rolls-Array, rolls-Range, rolls-Size, rolls-Sized}
-use Rattle.mo_typing.specs.Outcome.{Outcome, and_then}
 use Rattle.mo_typing.specs.Dims.{Dims}
 use Rattle.mo_typing.specs.Shape.{shape_of}
 use Rattle.mo_typing.specs.Kinds.{kind_of, kind_of_node, kind_node, kind_part}

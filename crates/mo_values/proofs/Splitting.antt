@@ -4,7 +4,7 @@ use Rattle.std.specs.Prelude.{fold, slice_get, slice_range, if◌then◌else◌}
 use Rattle.std.proofs.lemmas.List.{map-append, get_or-drop}
 use Rattle.std.proofs.lemmas.List.Sums.{fold-append}
 use Rattle.std.proofs.lemmas.Option.{slice_get-get_or}
-use Rattle.mo_typing.specs.Outcome.{Outcome}
+use Rattle.mo_syntax.specs.Outcome.{Outcome}
 use Rattle.mo_typing.specs.Shape.{is_matrix_factor, multiplied, operand}
 use Rattle.mo_typing.specs.Indices.{Index}
 use Rattle.mo_values.specs.declared.value.Reckoned.{Reckoned}

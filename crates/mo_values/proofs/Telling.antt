@@ -1,6 +1,6 @@
 -- Answers of a walk, operand by operand.
 use Rattle.std.proofs.Common.{◌≡◌, Result, Ok, subst}
-use Rattle.mo_typing.specs.Outcome.{Outcome}
+use Rattle.mo_syntax.specs.Outcome.{Outcome}
 use Rattle.mo_values.specs.declared.halt.Halt.{Halt}
 use Rattle.mo_values.specs.Told.{Reads, Tells}
 

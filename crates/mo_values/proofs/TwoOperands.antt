@@ -2,13 +2,15 @@
 use Rattle.std.proofs.Common.{◌≡◌, suc, Bool, true, false, List, [], ◌∷◌, length, get_or, Ok, Err, refl, ap, sym, subst, ◌∙◌, nat_eq, eqb-true, arith}
 use Rattle.std.specs.Prelude.{◌&&◌, if◌then◌else◌}
 use Rattle.std.specs.List.{list_all}
+use Rattle.mo_syntax.specs.Outcome.{Outcome, and_then, breaks}
 use Rattle.mo_syntax.specs.declared.meaning.Kind.{Kind}
 use Rattle.mo_syntax.specs.declared.place.Broken.{Broken}
 use Rattle.mo_syntax.specs.declared.place.Place.{Place}
 use Rattle.mo_syntax.specs.declared.place.Stop.{Stop}
 use Rattle.mo_syntax.specs.declared.place.Stop.TheVariants.{Broken as broken_by, NoMemory as no_memory}
 use Rattle.mo_flat.specs.declared.array.ArrayExpr.{ArrayExpr}
-use Rattle.mo_typing.specs.Outcome.{Gives, Outcome, and_then, each, breaks}
+use Rattle.mo_syntax.specs.declared.rules.TheConstants.{WRONG_TYPE}
+use Rattle.mo_typing.specs.Outcome.{Gives, each}
 use Rattle.mo_typing.specs.Dims.{Dims, dims_of, scalars}
 use Rattle.mo_typing.specs.Kinds.{kind_of}
 use Rattle.mo_typing.specs.Subscripts.{Checked, fine, every, subscripts_of}
@@ -35,7 +37,7 @@ whole_halts w x xs broken h = rw h refl
 
 abbrev behind_kinds : Place → List ArrayExpr → List Kind → Checked
 behind_kinds place operands kinds =
-    and_then (if nat_eq (length kinds) 2 && list_all is_whole kinds then fine else breaks 33 place) (λ _.
+    and_then (if nat_eq (length kinds) 2 && list_all is_whole kinds then fine else breaks WRONG_TYPE place) (λ _.
     and_then (each dims_of operands) (λ dims.
     and_then (scalars place dims) (λ _. every subscripts_of operands)))
 
@@ -66,33 +68,33 @@ not_two_long (a ∷ b ∷ []) e h = e
 not_two_long (a ∷ b ∷ c ∷ more) e h = absurd (omega arith)
 
 pub not_two : (place : Place) (operands : List ArrayExpr) (whole : Bool) → and_then (each kind_of operands) (λ kinds. Ok (list_all is_whole kinds)) ≡ Ok whole → are_two operands ≡ false →
-    checked_operands place operands ≡ breaks 33 place
+    checked_operands place operands ≡ breaks WRONG_TYPE place
 not_two place operands whole h none = go (each kind_of operands) refl h
   where
     by : (kinds : List Kind) (b : Bool) → nat_eq (length kinds) 2 ≡ b → length kinds ≡ length operands →
-        and_then {B = Unit {0}} (if b && list_all is_whole kinds then fine else breaks 33 place) (λ _.
+        and_then {B = Unit {0}} (if b && list_all is_whole kinds then fine else breaks WRONG_TYPE place) (λ _.
         and_then (each dims_of operands) (λ dims.
-        and_then (scalars place dims) (λ _. every subscripts_of operands))) ≡ breaks 33 place
+        and_then (scalars place dims) (λ _. every subscripts_of operands))) ≡ breaks WRONG_TYPE place
     by kinds false e counted = refl
     by kinds true e counted = absurd (let clash = not_two_long operands none (sym counted ∙ eqb-true (length kinds) 2 e) in cc)
 
-    go : (o : Outcome (List Kind)) → each kind_of operands ≡ o → and_then {B = Bool} o (λ kinds. Ok (list_all is_whole kinds)) ≡ Ok whole → and_then o (behind_kinds place operands) ≡ breaks 33 place
+    go : (o : Outcome (List Kind)) → each kind_of operands ≡ o → and_then {B = Bool} o (λ kinds. Ok (list_all is_whole kinds)) ≡ Ok whole → and_then o (behind_kinds place operands) ≡ breaks WRONG_TYPE place
     go (Ok kinds) is e = by kinds (nat_eq (length kinds) 2) refl (each_counts operands kinds is)
     go (Err broken) is e = absurd (let clash : ◌≡◌ {A = Outcome Bool} (Err broken) (Ok whole) = e in cc)
 
 pub not_whole : (place : Place) (operands : List ArrayExpr) → and_then (each kind_of operands) (λ kinds. Ok (list_all is_whole kinds)) ≡ Ok false →
-    checked_operands place operands ≡ breaks 33 place
+    checked_operands place operands ≡ breaks WRONG_TYPE place
 not_whole place operands h = go (each kind_of operands) h
   where
     by : (a b : Bool) → b ≡ false →
-        and_then {B = Unit {0}} (if a && b then fine else breaks 33 place) (λ _.
+        and_then {B = Unit {0}} (if a && b then fine else breaks WRONG_TYPE place) (λ _.
         and_then (each dims_of operands) (λ dims.
-        and_then (scalars place dims) (λ _. every subscripts_of operands))) ≡ breaks 33 place
+        and_then (scalars place dims) (λ _. every subscripts_of operands))) ≡ breaks WRONG_TYPE place
     by false b e = refl
     by true false e = refl
     by true true e = absurd (cc)
 
-    go : (o : Outcome (List Kind)) → and_then {B = Bool} o (λ kinds. Ok (list_all is_whole kinds)) ≡ Ok false → and_then o (behind_kinds place operands) ≡ breaks 33 place
+    go : (o : Outcome (List Kind)) → and_then {B = Bool} o (λ kinds. Ok (list_all is_whole kinds)) ≡ Ok false → and_then o (behind_kinds place operands) ≡ breaks WRONG_TYPE place
     go (Ok kinds) e = by (nat_eq (length kinds) 2) (list_all is_whole kinds) (let same : ◌≡◌ {A = Outcome Bool} (Ok (list_all is_whole kinds)) (Ok false) = e in cc)
     go (Err broken) e = absurd (let clash : ◌≡◌ {A = Outcome Bool} (Err broken) (Ok false) = e in cc)
 
@@ -121,7 +123,7 @@ pub two_checked : (place : Place) (operands : List ArrayExpr) (a b : ArrayExpr) 
 two_checked place operands a b is h = ap (checked_operands place) is ∙ go (kind_of a) (kind_of b) (subst (λ (xs : List ArrayExpr). and_then (each kind_of xs) (λ kinds. Ok (list_all is_whole kinds)) ≡ Ok true) is h)
   where
     two : (k l : Bool) → (k && (l && true)) ≡ true →
-        and_then {B = Unit {0}} (if k && (l && true) then fine else breaks 33 place) (λ _.
+        and_then {B = Unit {0}} (if k && (l && true) then fine else breaks WRONG_TYPE place) (λ _.
         and_then (each dims_of (a ∷ b ∷ [])) (λ dims.
         and_then (scalars place dims) (λ _. every subscripts_of (a ∷ b ∷ [])))) ≡ checked_two place a b
     two true true e = dims_two place a b

@@ -2,11 +2,13 @@
 -- 3.7, 4.4 and 10.3 to 10.5): its kind, its dimensions and its subscripts, in this order.
 use Rattle.std.specs.Prelude.{ℕ, ℤ, Bool, true, false, ◌&&◌, List, [], ◌∷◌, length, Some, None, Ok, if◌then◌else◌, nat_eq}
 use Rattle.std.specs.List.{list_all}
+use Rattle.mo_syntax.specs.Outcome.{Outcome, and_then, breaks}
 use Rattle.mo_syntax.specs.declared.meaning.Kind.{Kind}
 use Rattle.mo_syntax.specs.declared.meaning.Kind.TheVariants.{Whole as whole_kind, Truth as truth_kind}
 use Rattle.mo_syntax.specs.declared.place.Place.{Place}
 use Rattle.mo_flat.specs.declared.array.ArrayExpr.{ArrayExpr}
-use Rattle.mo_typing.specs.Outcome.{Outcome, and_then, breaks, each}
+use Rattle.mo_syntax.specs.declared.rules.TheConstants.{WRONG_TYPE, NO_VALUE, WRONG_EACH, WRONG_SIZE}
+use Rattle.mo_typing.specs.Outcome.{each}
 use Rattle.mo_typing.specs.Dims.{Dims, dims_of, is_scalar, scalars}
 use Rattle.mo_typing.specs.Kinds.{kind_of}
 use Rattle.mo_typing.specs.Indices.{Index, is_index}
@@ -53,7 +55,7 @@ any_kind kind = fine
 
 abbrev pub only_whole : Place → Kind → Checked
 only_whole place whole_kind = fine
-only_whole place kind = breaks 33 place
+only_whole place kind = breaks WRONG_TYPE place
 
 -- the rule is 33, or that of a condition
 abbrev pub only_truth : ℕ → Place → Kind → Checked
@@ -66,17 +68,17 @@ only_scalar rule place dims = if is_scalar dims then fine else breaks rule place
 abbrev pub scalar_or_vector : Place → Dims → Outcome Dims
 scalar_or_vector place [] = Ok []
 scalar_or_vector place (n ∷ []) = Ok (n ∷ [])
-scalar_or_vector place dims = breaks 33 place
+scalar_or_vector place dims = breaks WRONG_TYPE place
 
 -- ---- values
 
 abbrev pub must_be_whole : Place → Known → Outcome ℤ
 must_be_whole place (Some (Whole n)) = Ok n
-must_be_whole place known = breaks 28 place
+must_be_whole place known = breaks NO_VALUE place
 
 abbrev pub must_be_truth : Place → Known → Outcome Bool
 must_be_truth place (Some (Truth b)) = Ok b
-must_be_truth place known = breaks 28 place
+must_be_truth place known = breaks NO_VALUE place
 
 -- ---- how a binding fits
 
@@ -84,9 +86,9 @@ must_be_truth place known = breaks 28 place
 -- index outside rule 31.
 abbrev pub fitted : Place → Index → Dims → Checked
 fitted place [] [] = fine
-fitted place (index ∷ indices) [] = breaks 23 place
+fitted place (index ∷ indices) [] = breaks WRONG_EACH place
 fitted place indices dims =
-    if nat_eq (length indices) (length dims) then (if is_index dims indices then fine else breaks 31 place) else breaks 33 place
+    if nat_eq (length indices) (length dims) then (if is_index dims indices then fine else breaks WRONG_SIZE place) else breaks WRONG_TYPE place
 
 -- ---- `div`, `mod` and `rem`
 
@@ -98,6 +100,6 @@ is_whole kind = false
 abbrev pub checked_operands : Place → List ArrayExpr → Checked
 checked_operands place operands =
     and_then (each kind_of operands) (λ kinds.
-    and_then (if nat_eq (length kinds) 2 && list_all is_whole kinds then fine else breaks 33 place) (λ _.
+    and_then (if nat_eq (length kinds) 2 && list_all is_whole kinds then fine else breaks WRONG_TYPE place) (λ _.
     and_then (each dims_of operands) (λ dims.
     and_then (scalars place dims) (λ _. every subscripts_of operands))))

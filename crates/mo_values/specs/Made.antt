@@ -1,14 +1,15 @@
 -- Nodes that are made of resolved parts (Modelica Language Specification 3.5, sections 3.4, 3.6, 3.7 and 10.3 to 10.6).
 use Rattle.std.specs.Prelude.{ℕ, pos, Bool, true, false, ◌&&◌, ◌||◌, not, List, [], ◌∷◌, Option, Some, None, Ok, if◌then◌else◌, nat_eq, nat_lt}
 use Rattle.std.specs.List.{list_all}
+use Rattle.mo_syntax.specs.Outcome.{Outcome, breaks}
 use Rattle.mo_syntax.specs.declared.meaning.Kind.{Kind}
 use Rattle.mo_syntax.specs.declared.meaning.Kind.TheVariants.{Str as string_kind}
 use Rattle.mo_syntax.specs.declared.place.Place.{Place}
+use Rattle.mo_syntax.specs.declared.rules.TheConstants.{OUTSIDE_PROFILE, WRONG_TYPE, NO_VALUE}
 use Rattle.mo_tables.specs.declared.functions.TheConstants.{IDENTITY}
 use Rattle.mo_flat.specs.declared.array.ArrayExpr.{ArrayExpr, roll-ArrayExpr}
 use Rattle.mo_flat.specs.declared.array.ArrayNode.{ArrayNode}
 use Rattle.mo_flat.specs.declared.array.ArrayNode.TheVariants.{Whole, Sum, Power, If, Range, Der}
-use Rattle.mo_typing.specs.Outcome.{Outcome, breaks}
 use Rattle.mo_typing.specs.Dims.{Dims, dims_of}
 use Rattle.mo_typing.specs.Kinds.{kind_of}
 use Rattle.mo_values.specs.declared.context.Context.{Context}
@@ -22,11 +23,11 @@ takes function count = if nat_eq function IDENTITY then nat_eq count 1 else nat_
 
 abbrev pub known_number : Place → Known → Outcome ArrayNode
 known_number place (Some (whole_scalar n)) = Ok (Whole n)
-known_number place known = breaks 34 place
+known_number place known = breaks OUTSIDE_PROFILE place
 
 abbrev pub derivative_of : Place → List ArrayExpr → Outcome ArrayNode
 derivative_of place (argument ∷ []) = Ok (Der argument)
-derivative_of place arguments = breaks 33 place
+derivative_of place arguments = breaks WRONG_TYPE place
 
 abbrev pub is_string : Outcome Kind → Bool
 is_string (Ok string_kind) = true
@@ -42,7 +43,7 @@ is_string_sum (term ∷ []) = false
 is_string_sum (term ∷ next ∷ terms) = list_all is_joined (term ∷ next ∷ terms)
 
 abbrev pub sum_of : Place → List (Bool × Bool × ArrayExpr) → Outcome ArrayNode
-sum_of place terms = if is_string_sum terms then breaks 34 place else Ok (Sum terms)
+sum_of place terms = if is_string_sum terms then breaks OUTSIDE_PROFILE place else Ok (Sum terms)
 
 -- A power of a matrix is a form that is left out.
 abbrev pub is_matrix : Outcome Dims → Bool
@@ -50,12 +51,12 @@ is_matrix (Ok (n ∷ m ∷ [])) = true
 is_matrix outcome = false
 
 abbrev pub power_of : Place → ArrayExpr → Bool → ArrayExpr → Outcome ArrayNode
-power_of place base dotted exponent = if not dotted && is_matrix (dims_of base) then breaks 34 place else Ok (Power base dotted exponent)
+power_of place base dotted exponent = if not dotted && is_matrix (dims_of base) then breaks OUTSIDE_PROFILE place else Ok (Power base dotted exponent)
 
 -- Where one of them is undecided, rule 28 is broken at the range.
 abbrev pub range_of : Place → Known → Known → Known → Outcome ArrayNode
 range_of place (Some (Scalar.Whole first)) (Some (Scalar.Whole step)) (Some (Scalar.Whole last)) = Ok (Range first step last)
-range_of place first step last = breaks 28 place
+range_of place first step last = breaks NO_VALUE place
 
 -- the branches that are left with the value of the last one
 abbrev pub Choice : Type 0
@@ -71,5 +72,5 @@ abbrev pub made_end : Context → Place → Outcome ArrayNode
 made_end context place = end_of context.last
   where
     end_of : Option ℕ → Outcome ArrayNode
-    end_of None = breaks 34 place
+    end_of None = breaks OUTSIDE_PROFILE place
     end_of (Some size) = Ok (Whole (pos size))

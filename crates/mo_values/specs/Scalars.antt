@@ -3,12 +3,13 @@
 -- An operation with an undecided operand is undecided. A chain has a result only if every partial result from the left fits 64 bits.
 use Rattle.std.specs.Prelude.{ℕ, ℤ, Bool, true, false, ◌&&◌, not, List, [], ◌∷◌, Option, Some, None, Ok, if◌then◌else◌, nat_eq, nat_lt, int_lt}
 use Rattle.std.specs.Ordering.{int_eq}
+use Rattle.mo_syntax.specs.Outcome.{Outcome, and_then, breaks}
 use Rattle.mo_syntax.specs.declared.expr.RelOp.{RelOp}
 use Rattle.mo_syntax.specs.declared.meaning.Kind.{Kind}
 use Rattle.mo_syntax.specs.declared.meaning.Kind.TheVariants.{Real, Str}
 use Rattle.mo_syntax.specs.declared.place.Place.{Place}
+use Rattle.mo_syntax.specs.declared.rules.TheConstants.{INTEGER_ARITHMETIC}
 use Rattle.mo_tables.specs.declared.functions.TheConstants.{DIV, MOD}
-use Rattle.mo_typing.specs.Outcome.{Outcome, and_then, breaks}
 use Rattle.mo_values.specs.declared.value.Reckoned.{Reckoned}
 use Rattle.mo_values.specs.declared.value.Reckoned.TheVariants.{Unknown, Outside, Is}
 use Rattle.mo_values.specs.declared.value.Scalar.{Scalar}
@@ -50,7 +51,7 @@ of_number (Some n) = Is (Whole n)
 -- a number outside breaks rule 30 at the operation
 abbrev pub known_from : Place → Reckoned → Outcome Known
 known_from place Unknown = Ok None
-known_from place Outside = breaks 30 place
+known_from place Outside = breaks INTEGER_ARITHMETIC place
 known_from place (Is scalar) = Ok (Some scalar)
 
 -- the result at the place of its operation; of kind Real or String there is none

@@ -3,7 +3,7 @@
 -- A walk is given what is read so far. It answers with what is known, whatever the variables have that are not read yet, or with the
 -- number of a variable that has to be read first.
 use Rattle.std.specs.Prelude.{◌≡◌, ℕ, ◌-◌, List, Option, Some, None, Result, Ok, Err, slice_get}
-use Rattle.mo_typing.specs.Outcome.{Outcome}
+use Rattle.mo_syntax.specs.Outcome.{Outcome}
 use Rattle.mo_values.specs.declared.halt.Halt.{Halt}
 use Rattle.mo_values.specs.declared.halt.Halt.TheVariants.{Broken as broken_by, NoMemory as no_memory, Unread}
 use Rattle.mo_values.specs.Scalars.{Known}

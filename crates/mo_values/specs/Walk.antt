@@ -3,13 +3,13 @@
 -- Operands are read from left to right, before their operation, and only the elements that the index needs. An operation acts on what
 -- they give; Integer arithmetic that leaves 64 bits breaks rule 30 at the operation.
 use Rattle.std.specs.Prelude.{ℕ, ◌-◌, ℤ, pos, Bool, true, false, ◌&&◌, ◌||◌, List, [], ◌∷◌, ◌++◌, map, fold, length, take, drop, Option, Some, None, Ok, Err, if◌then◌else◌, nat_eq, slice_get}
+use Rattle.mo_syntax.specs.Outcome.{Outcome, and_then}
 use Rattle.mo_syntax.specs.declared.meaning.Kind.{Kind}
 use Rattle.mo_syntax.specs.declared.meaning.Kind.TheVariants.{Real}
 use Rattle.mo_syntax.specs.declared.place.Place.{Place}
 use Rattle.mo_tables.specs.declared.functions.TheConstants.{ABS, CROSS, IDENTITY, MAX, MIN, NDIMS, NO_EVENT, ONES, PRODUCT, SUM, TRANSPOSE}
 use Rattle.mo_flat.specs.declared.array.ArrayExpr.{ArrayExpr, ArrayExpr-F, para-ArrayExpr}
 use Rattle.mo_flat.specs.declared.array.ArrayNode.{ArrayNode, ArrayNode-F, para-ArrayNode}
-use Rattle.mo_typing.specs.Outcome.{Outcome, and_then}
 use Rattle.mo_typing.specs.Dims.{Dims}
 use Rattle.mo_typing.specs.Kinds.{kind_of_node}
 use Rattle.mo_typing.specs.Shape.{Operand, shape_of, or_scalar, size_of, is_matrix_factor, swapped}

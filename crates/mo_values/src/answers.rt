@@ -1,6 +1,6 @@
 //! Operations on the answers of a walk: an operand that halts halts its operation.
 ghost use Rattle.std.specs.Prelude.{◌≡◌, [], ◌∷◌, Ok};
-ghost use Rattle.mo_typing.specs.Outcome.{Outcome, and_then};
+ghost use Rattle.mo_syntax.specs.Outcome.{Outcome, and_then};
 ghost use Rattle.mo_values.specs.declared.value.Reckoned.{Reckoned};
 ghost use Rattle.mo_values.specs.declared.value.Reckoned.TheVariants.{Unknown};
 ghost use Rattle.mo_values.specs.Scalars.{Known, settled, of_known, negated, absolute_of, sum_with, product_with, related, lesser_of, greater_of, read_all};

@@ -1,6 +1,6 @@
 //! Where a chain of factors is multiplied as a matrix or a vector.
 ghost use Rattle.std.specs.Prelude.{◌≡◌, ◌≤◌, ℕ, length, slice_range, IfOk};
-ghost use Rattle.mo_typing.specs.Outcome.{Outcome};
+ghost use Rattle.mo_syntax.specs.Outcome.{Outcome};
 ghost use Rattle.mo_typing.specs.Indices.{Index};
 ghost use Rattle.mo_values.specs.Scalars.{Known};
 ghost use Rattle.mo_values.specs.steps.Chains.{chain_before, begun_by, behind_last, latest, acting};

@@ -1,6 +1,6 @@
 //! Elements that are known by indices, sizes and numbers alone.
 ghost use Rattle.std.specs.Prelude.{◌≡◌, ℕ, Ok};
-ghost use Rattle.mo_typing.specs.Outcome.{Outcome};
+ghost use Rattle.mo_syntax.specs.Outcome.{Outcome};
 ghost use Rattle.mo_typing.specs.Shape.{shape_of};
 ghost use Rattle.mo_typing.specs.Kinds.{kind_of};
 ghost use Rattle.mo_typing.specs.Indices.{own, located, range_element, variable_at};

@@ -1,14 +1,14 @@
 //! The layers behind resolving: what is asked of the kind, the dimensions and the subscripts of a resolved expression.
 ghost use Rattle.std.specs.Prelude.{◌≡◌, ◌≤◌, Ok};
+ghost use Rattle.mo_syntax.specs.declared.rules.TheConstants.{WRONG_TYPE};
 ghost use Rattle.mo_typing.specs.Outcome.{Gives};
 ghost use Rattle.mo_typing.specs.Kinds.{accepts};
 ghost use Rattle.mo_typing.specs.Indices.{is_index};
 ghost use Rattle.mo_values.specs.Asked.{only_whole, only_truth, only_scalar, scalar_or_vector, any_kind, layered, must_be_whole, must_be_truth, fitted};
 
-use crate::operations::broken;
 use crate::value::Scalar;
 use mo_flat::ArrayExpr;
-use mo_syntax::{Broken, Kind, List, Place, Stop};
+use mo_syntax::{Broken, Kind, List, Place, Stop, broken, rules};
 use mo_typing::shapes::is_scalar;
 use mo_typing::{accepts, dims_of, kind_of, subscripts};
 use std::alloc::Global;
@@ -28,10 +28,10 @@ fn only_whole(place: Place, kind: Kind) -> Result<(), Broken>
 {
     match kind {
         Kind::Whole => Ok(()),
-        Kind::Real => Err(broken(33, place)),
-        Kind::Truth => Err(broken(33, place)),
-        Kind::Str => Err(broken(33, place)),
-        Kind::Enumeration(_) => Err(broken(33, place)),
+        Kind::Real => Err(broken(rules::WRONG_TYPE, place)),
+        Kind::Truth => Err(broken(rules::WRONG_TYPE, place)),
+        Kind::Str => Err(broken(rules::WRONG_TYPE, place)),
+        Kind::Enumeration(_) => Err(broken(rules::WRONG_TYPE, place)),
     }
 }
 
@@ -68,18 +68,18 @@ fn scalar_or_vector(place: Place, dims: List<u32>) -> Result<List<u32>, Broken>
     match dims.as_slice() {
         [] => Ok(dims),
         [_] => Ok(dims),
-        [_, _, ..] => Err(broken(33, place)),
+        [_, _, ..] => Err(broken(rules::WRONG_TYPE, place)),
     }
 }
 
 /// Asks a scalar Integer: a size, an end of a range, the number of a dimension.
 pub fn whole_scalar(alloc: Global, place: Place, e: &ArrayExpr) -> Result<(), Stop>
-    ensures { Gives result (layered (only_whole place) (only_scalar 33 place) e.now) }
+    ensures { Gives result (layered (only_whole place) (only_scalar WRONG_TYPE place) e.now) }
 {
     let kind = answer(kind_of(e))?;
     answer(only_whole(place, kind))?;
     let dims = dims_of(alloc, e)?;
-    answer(only_scalar(33, place, dims.as_slice()))?;
+    answer(only_scalar(rules::WRONG_TYPE, place, dims.as_slice()))?;
     subscripts(alloc, e)
 }
 
@@ -140,16 +140,16 @@ pub fn fitted(place: Place, index: &[u32], dims: &[u32]) -> Result<(), Broken>
         return if index.is_empty() {
             Ok(())
         } else {
-            Err(broken(23, place))
+            Err(broken(rules::WRONG_EACH, place))
         };
     }
     if index.len() != dims.len() {
-        return Err(broken(33, place));
+        return Err(broken(rules::WRONG_TYPE, place));
     }
     if is_index(dims, index) {
         Ok(())
     } else {
-        Err(broken(31, place))
+        Err(broken(rules::WRONG_SIZE, place))
     }
 }
 
@@ -186,9 +186,9 @@ pub fn must_be_whole(place: Place, known: Option<Scalar>) -> Result<i64, Broken>
 {
     match known {
         Some(Scalar::Whole(n)) => Ok(n),
-        Some(Scalar::Truth(_)) => Err(broken(28, place)),
-        Some(Scalar::Literal(_, _)) => Err(broken(28, place)),
-        None => Err(broken(28, place)),
+        Some(Scalar::Truth(_)) => Err(broken(rules::NO_VALUE, place)),
+        Some(Scalar::Literal(_, _)) => Err(broken(rules::NO_VALUE, place)),
+        None => Err(broken(rules::NO_VALUE, place)),
     }
 }
 
@@ -198,8 +198,8 @@ pub fn must_be_truth(place: Place, known: Option<Scalar>) -> Result<bool, Broken
 {
     match known {
         Some(Scalar::Truth(b)) => Ok(b),
-        Some(Scalar::Whole(_)) => Err(broken(28, place)),
-        Some(Scalar::Literal(_, _)) => Err(broken(28, place)),
-        None => Err(broken(28, place)),
+        Some(Scalar::Whole(_)) => Err(broken(rules::NO_VALUE, place)),
+        Some(Scalar::Literal(_, _)) => Err(broken(rules::NO_VALUE, place)),
+        None => Err(broken(rules::NO_VALUE, place)),
     }
 }

@@ -37,6 +37,6 @@ pub use answers::{Answer, answer};
 pub use context::Context;
 pub use halt::{Halt, Told};
 pub use literal::part_at;
-pub use operations::{broken, division, has_values, if_it_has, value_with};
+pub use operations::{division, has_values, if_it_has, value_with};
 pub use value::{Reckoned, Scalar, Value};
 pub use walk::known;

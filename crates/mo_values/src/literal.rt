@@ -1,6 +1,6 @@
 //! Elements of array literals.
 ghost use Rattle.std.specs.Prelude.{◌≡◌, ℕ, IfSome, Ok, map};
-ghost use Rattle.mo_typing.specs.Outcome.{Outcome};
+ghost use Rattle.mo_syntax.specs.Outcome.{Outcome};
 ghost use Rattle.mo_typing.specs.Kinds.{kind_of};
 ghost use Rattle.mo_values.specs.Scalars.{Known, of_known};
 ghost use Rattle.mo_values.specs.Walk.{element_among, known_by, part_of, read_as};

@@ -8,10 +8,9 @@ ghost use Rattle.mo_values.specs.Made.{is_joined, is_string_sum, sum_of, is_matr
 
 use crate::context::Context;
 use crate::layers::answer;
-use crate::operations::broken;
 use crate::value::Scalar;
 use mo_flat::{ArrayExpr, ArrayNode};
-use mo_syntax::{Boxed, Broken, Kind, List, NoMemory, Place, Stop};
+use mo_syntax::{Boxed, Broken, Kind, List, NoMemory, Place, Stop, broken, rules};
 use mo_tables::functions;
 use mo_typing::shapes::Signed;
 use mo_typing::{dims_of, kind_of};
@@ -68,7 +67,7 @@ pub fn sum_of(place: Place, terms: List<Signed>) -> Result<ArrayNode, Broken>
     ensures { result ≡ sum_of place terms }
 {
     if is_string_sum(terms.as_slice()) {
-        Err(broken(34, place))
+        Err(broken(rules::OUTSIDE_PROFILE, place))
     } else {
         Ok(ArrayNode::Sum(terms))
     }
@@ -101,7 +100,7 @@ pub fn power_of(
     ensures { Gives result (power_of place base dotted exponent) }
 {
     if !dotted && is_matrix(alloc, &base)? {
-        return Err(Stop::Broken(broken(34, place)));
+        return Err(Stop::Broken(broken(rules::OUTSIDE_PROFILE, place)));
     }
     Ok(ArrayNode::Power(base, dotted, exponent))
 }
@@ -122,7 +121,7 @@ pub fn range_of(
             }
         }
     }
-    Err(broken(28, place))
+    Err(broken(rules::NO_VALUE, place))
 }
 
 /// An if-expression by the branches that are left: where none is, what its last branch is. `NoMemory` is the only other answer.
@@ -145,7 +144,7 @@ pub fn made_end(context: Context, place: Place) -> Result<ArrayNode, Broken>
     ensures { result ≡ made_end context place }
 {
     match context.last {
-        None => Err(broken(34, place)),
+        None => Err(broken(rules::OUTSIDE_PROFILE, place)),
         Some(size) => Ok(ArrayNode::Whole(i64::from(size))),
     }
 }
@@ -156,10 +155,10 @@ pub fn derivative_of(place: Place, arguments: List<ArrayExpr>) -> Result<ArrayNo
 {
     let mut arguments = arguments;
     if arguments.len() != 1 {
-        return Err(broken(33, place));
+        return Err(broken(rules::WRONG_TYPE, place));
     }
     match arguments.pop() {
-        None => Err(broken(33, place)),
+        None => Err(broken(rules::WRONG_TYPE, place)),
         Some(only) => Ok(ArrayNode::Der(only)),
     }
 }
@@ -181,8 +180,8 @@ pub fn known_number(place: Place, known: Option<Scalar>) -> Result<ArrayNode, Br
 {
     match known {
         Some(Scalar::Whole(n)) => Ok(ArrayNode::Whole(n)),
-        Some(Scalar::Truth(_)) => Err(broken(34, place)),
-        Some(Scalar::Literal(_, _)) => Err(broken(34, place)),
-        None => Err(broken(34, place)),
+        Some(Scalar::Truth(_)) => Err(broken(rules::OUTSIDE_PROFILE, place)),
+        Some(Scalar::Literal(_, _)) => Err(broken(rules::OUTSIDE_PROFILE, place)),
+        None => Err(broken(rules::OUTSIDE_PROFILE, place)),
     }
 }

@@ -1,16 +1,16 @@
 //! What is asked of the operands of `div`, `mod` and `rem`.
 ghost use Rattle.std.specs.Prelude.{◌≡◌, ◌&&◌, ◌∷◌, [], false, MatchOption, Ok};
 ghost use Rattle.std.specs.List.{list_all};
-ghost use Rattle.mo_typing.specs.Outcome.{and_then, each, Gives};
+ghost use Rattle.mo_syntax.specs.Outcome.{and_then};
+ghost use Rattle.mo_typing.specs.Outcome.{each, Gives};
 ghost use Rattle.mo_typing.specs.Dims.{scalars};
 ghost use Rattle.mo_typing.specs.Kinds.{kind_of};
 ghost use Rattle.mo_values.specs.Asked.{checked_operands, is_whole};
 ghost use Rattle.mo_values.specs.steps.Operands.{are_two, checked_two};
 
 use crate::layers::answer;
-use crate::operations::broken;
 use mo_flat::ArrayExpr;
-use mo_syntax::{Broken, Kind, Place, Stop};
+use mo_syntax::{Broken, Kind, Place, Stop, broken, rules};
 use mo_typing::shapes::is_scalar;
 use mo_typing::{dims_of, kind_of, subscripts};
 use std::alloc::Global;
@@ -61,10 +61,10 @@ fn two_scalars(place: Place, a: &[u32], b: &[u32]) -> Result<(), Broken>
     ensures { result ≡ and_then (scalars place (a.now ∷ b.now ∷ [])) (λ _. Ok tt) }
 {
     if !is_scalar(a) {
-        return Err(broken(33, place));
+        return Err(broken(rules::WRONG_TYPE, place));
     }
     if !is_scalar(b) {
-        return Err(broken(33, place));
+        return Err(broken(rules::WRONG_TYPE, place));
     }
     Ok(())
 }
@@ -86,10 +86,10 @@ pub fn checked_operands(alloc: Global, place: Place, operands: &[ArrayExpr]) -> 
 {
     let whole = answer(are_whole(operands))?;
     let Some((a, b)) = two_operands(operands) else {
-        return Err(Stop::Broken(broken(33, place)));
+        return Err(Stop::Broken(broken(rules::WRONG_TYPE, place)));
     };
     if !whole {
-        return Err(Stop::Broken(broken(33, place)));
+        return Err(Stop::Broken(broken(rules::WRONG_TYPE, place)));
     }
     checked_two(alloc, place, a, b)
 }

@@ -1,23 +1,11 @@
 //! Operations on what is known of scalars.
-ghost use Rattle.std.specs.Prelude.{◌≡◌, ◌≤◌};
-ghost use Rattle.mo_typing.specs.Outcome.{breach};
+ghost use Rattle.std.specs.Prelude.{◌≡◌};
 ghost use Rattle.mo_values.specs.Scalars.{has_values, if_it_has, value_with, of_known, of_number, known_from, settled, no_result, sum_with, product_with, absolute_of, lesser_of, greater_of, divided_by, division};
 
 use crate::arithmetic;
 use crate::value::{Reckoned, Scalar, Value};
-use mo_syntax::{Broken, Kind, Place, Rule};
+use mo_syntax::{Broken, Kind, Place, broken, rules};
 use mo_tables::functions;
-
-pub fn broken(rule: u8, place: Place) -> Broken
-    requires low { 1 ≤ rule }
-    requires high { rule ≤ 46 }
-    ensures { result ≡ breach rule place }
-{
-    Broken {
-        rule: Rule::new(rule),
-        place,
-    }
-}
 
 /// Whether expressions of that kind have values.
 pub fn has_values(kind: Kind) -> bool
@@ -73,7 +61,7 @@ fn known_from(place: Place, reckoned: Reckoned) -> Result<Option<Scalar>, Broken
 {
     match reckoned {
         Reckoned::Unknown => Ok(None),
-        Reckoned::Outside => Err(broken(30, place)),
+        Reckoned::Outside => Err(broken(rules::INTEGER_ARITHMETIC, place)),
         Reckoned::Is(scalar) => Ok(Some(scalar)),
     }
 }

@@ -6,9 +6,8 @@ ghost use Rattle.mo_typing.specs.Subscripts.{subscript, subscripts, is_within};
 ghost use Rattle.std.specs.List.{list_all};
 ghost use Rattle.mo_values.specs.Selected.{selected_numbers, selected, emptied};
 
-use crate::operations::broken;
 use mo_flat::Subscript;
-use mo_syntax::{Broken, List, NoMemory};
+use mo_syntax::{Broken, List, NoMemory, broken, rules};
 use mo_typing::is_within;
 use mo_typing::shapes::size_of;
 use std::alloc::Global;
@@ -162,8 +161,8 @@ fn subscript_within(size: u32, sub: &Subscript) -> Result<(), Broken>
     }
     match sub {
         Subscript::All => Ok(()),
-        Subscript::One(place, _) => Err(broken(32, *place)),
-        Subscript::Many(place, _) => Err(broken(32, *place)),
+        Subscript::One(place, _) => Err(broken(rules::SUBSCRIPT_OUTSIDE, *place)),
+        Subscript::Many(place, _) => Err(broken(rules::SUBSCRIPT_OUTSIDE, *place)),
     }
 }
 

@@ -1,7 +1,7 @@
 //! What is known of a resolved expression at an index.
 ghost use Rattle.std.specs.Prelude.{◌≡◌, ◌<◌, ◌≤◌, ◌++◌, ◌∷◌, [], ℕ, map, fold, length, Ok, slice_get, slice_range};
 ghost use Rattle.std.specs.Option.{option_map};
-ghost use Rattle.mo_typing.specs.Outcome.{Outcome, and_then};
+ghost use Rattle.mo_syntax.specs.Outcome.{Outcome, and_then};
 ghost use Rattle.mo_typing.specs.Indices.{indices};
 ghost use Rattle.mo_values.specs.declared.value.Reckoned.{Reckoned};
 ghost use Rattle.mo_values.specs.declared.value.Reckoned.TheVariants.{Unknown};

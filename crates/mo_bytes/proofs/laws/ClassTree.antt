@@ -1,6 +1,7 @@
 -- A rule of the class tree is broken where a name is declared, or at the path behind `within`.
 use Rattle.std.proofs.Common.{◌≡◌, ℕ, ◌+◌, Bool, true, false, List, [], ◌∷◌, ◌++◌, map, flat_map, Option, Some, None, subst, if◌then◌else◌}
 use Rattle.mo_syntax.specs.declared.class.FileTree.{FileTree}
+use Rattle.mo_syntax.specs.declared.rules.TheConstants.{WITHIN_NAMES_NO_CLASS, DECLARED_TWICE}
 use Rattle.mo_syntax.specs.declared.text.Path.{Path}
 use Rattle.mo_syntax.specs.declared.place.Broken.{Broken}
 use Rattle.mo_syntax.specs.declared.place.Place.{Place}
@@ -51,8 +52,8 @@ module _ (P : Written → Type 0) where
   unless_broken false b h = h
 
   broken_by_stands : (files : List FileTree) (before : List Asked) (asked : Asked) → AskedStands asked → IfAny BrokenAt (broken_by files before asked)
-  broken_by_stands files before (Within path place) h = unless_broken (is_long (class_of_path files path)) (record { rule = 10; place = place }) h
-  broken_by_stands files before (Names d) h = if_broken (is_repeated (declared_in before) d) (record { rule = 9; place = d.place }) h
+  broken_by_stands files before (Within path place) h = unless_broken (is_long (class_of_path files path)) (record { rule = WITHIN_NAMES_NO_CLASS; place = place }) h
+  broken_by_stands files before (Names d) h = if_broken (is_repeated (declared_in before) d) (record { rule = DECLARED_TWICE; place = d.place }) h
 
   otherwise_stands : (o other : Option Broken) → IfAny BrokenAt o → IfAny BrokenAt other → IfAny BrokenAt (otherwise o other)
   otherwise_stands (Some b) other h ho = h

@@ -1,12 +1,12 @@
 -- What named files give stands at bytes of them: the flat model, or the first rule that is broken.
 use Rattle.std.proofs.Common.{◌≡◌, ◌⊎◌, inl, inr, ℕ, List, Result, Ok, Err, sym, ap, subst, ◌∙◌}
+use Rattle.mo_syntax.specs.Outcome.{breach, breaks}
 use Rattle.mo_syntax.specs.declared.class.FileTree.{FileTree}
 use Rattle.mo_syntax.specs.declared.place.Broken.{Broken}
 use Rattle.mo_syntax.specs.declared.place.Place.{Place}
 use Rattle.mo_flat.specs.declared.model.FlatEquation.{FlatEquation}
 use Rattle.mo_flat.specs.declared.model.FlatModel.{FlatModel}
 use Rattle.mo_flat.specs.declared.model.FlatVar.{FlatVar}
-use Rattle.mo_scope.specs.Outcome.{breach, breaks}
 use Rattle.mo_front.specs.Told.{Outcome, flat as flat_model, broken as broken_rule, TreesGive, no_tree, not_flattened, flattened, TextsGive, no_tokens, no_trees, trees, unread, read, bytes_of_all}
 use Rattle.mo_places.specs.Written.{Written, At}
 use Rattle.mo_places.specs.TreeWritten.{nowhere}
@@ -21,6 +21,7 @@ use Rattle.mo_bytes.specs.Laws.{ModelsStand, RefusalsStand}
 use Rattle.mo_bytes.proofs.laws.ClassTree.{broken_tree_stands}
 use Rattle.mo_bytes.proofs.laws.Holding.{holds_at, written_holds}
 use Rattle.mo_bytes.proofs.laws.Phases.{FileStands, all_listed, reads_refused, reads_texts, tokens_given, tokens_refused, trees_given, trees_refused}
+use Rattle.mo_syntax.specs.declared.rules.TheConstants.{CLASS_NOT_FOUND}
 
 same_rule : (b c : Broken) → ◌≡◌ {A = Outcome} (broken_rule b) (broken_rule c) → b ≡ c
 same_rule b c is = ap held is
@@ -57,7 +58,7 @@ module _ (texts : List (List ℕ)) where
 
   -- a rule at a byte of a text, or rule 11 on the command line
   abbrev Refused : Broken → Type 0
-  Refused b = Q b.place ⊎ (b ≡ breach 11 nowhere)
+  Refused b = Q b.place ⊎ (b ≡ breach CLASS_NOT_FOUND nowhere)
 
   at_byte : (b c : Broken) → ◌≡◌ {A = Outcome} (broken_rule b) (broken_rule c) → Q c.place → Refused b
   at_byte b c is h = inl (subst (λ (x : Broken). Q x.place) (sym (same_rule b c is)) h)
@@ -67,11 +68,11 @@ module _ (texts : List (List ℕ)) where
   module _ (path : List (List ℕ)) (files : List FileTree) (stand : Every (FileStands Q) files) where
     told_refused : (b c : Broken) → ◌≡◌ {A = Outcome} (broken_rule b) (broken_rule c) → ToldStands (IsWritten files) (Err c) → Refused b
     told_refused b c is (inl answers) = at_byte b c is (holds_at Q c.place (written_holds Q files (all_listed Q files stand).0 answers.holds))
-    told_refused b c is (inr told) = inr (same_rule b c is ∙ same_error c (breach 11 nowhere) told)
+    told_refused b c is (inr told) = inr (same_rule b c is ∙ same_error c (breach CLASS_NOT_FOUND nowhere) told)
 
     told_model : (m : FlatModel) → ToldStands (IsWritten files) (Ok m) → ModelStands (HoldsAll Q) m
     told_model m (inl answers) = model_weaker (IsWritten files) (HoldsAll Q) (λ place h. written_holds Q files (all_listed Q files stand).0 h) m answers.holds
-    told_model m (inr told) = absurd (let clash : ◌≡◌ {A = Result FlatModel Broken} (Ok m) (breaks 11 nowhere) = told in cc)
+    told_model m (inr told) = absurd (let clash : ◌≡◌ {A = Result FlatModel Broken} (Ok m) (breaks CLASS_NOT_FOUND nowhere) = told in cc)
 
     trees_refuse : (b : Broken) → TreesGive path files (broken_rule b) → Refused b
     trees_refuse b (no_tree c is at) = at_byte b c at (holds_at Q c.place (broken_tree_stands (HoldsAll Q) files (all_listed Q files stand).0 (all_listed Q files stand).1 c is))
@@ -100,7 +101,7 @@ module _ (texts : List (List ℕ)) where
 pub refusals_law : RefusalsStand
 refusals_law path names contents b (unread c reads at) = inl (subst (λ (x : Broken). IsByteOfSome 1 (bytes_of_all contents names) x.place) (sym (same_rule b c at)) (reads_refused contents 1 _ names c reads))
 refusals_law path names contents b (read texts reads gives) =
-    subst (λ (all : List (List ℕ)). IsByteOfSome 1 all b.place ⊎ (b ≡ breach 11 nowhere)) (sym (reads_texts contents 1 _ names texts reads)) (texts_refuse texts path b gives)
+    subst (λ (all : List (List ℕ)). IsByteOfSome 1 all b.place ⊎ (b ≡ breach CLASS_NOT_FOUND nowhere)) (sym (reads_texts contents 1 _ names texts reads)) (texts_refuse texts path b gives)
 
 pub models_law : ModelsStand
 models_law path names contents m (unread c reads at) = absurd (let clash : ◌≡◌ {A = Outcome} (flat_model m) (broken_rule c) = at in cc)

@@ -21,6 +21,7 @@ use Rattle.mo_scope.specs.Lookup.{walked}
 use Rattle.mo_scope.specs.Sizes.{sizes_from}
 use Rattle.mo_eval.specs.Virtuals.{Making, Virtual, Component_element}
 use Rattle.mo_eval.specs.Components.{reading_by}
+use Rattle.mo_syntax.specs.declared.rules.TheConstants.{WRONG_TYPE}
 use Rattle.mo_values.specs.Asked.{for_flat, for_value, only_scalar, only_whole, scalar_or_vector, subscript_of}
 use Rattle.mo_eval.specs.Resolving.{made, made_node}
 use Rattle.mo_eval.specs.Values.{component_dims, reading}
@@ -125,7 +126,7 @@ x_dims : component_dims with_array.classes 255 x_member ≡ Ok (2 ∷ [])
 unfolding walked sizes_from with_array
 x_dims = rw (
   made_number with_array.classes (reading with_array.classes 255) (in_class 6).scope 2 15 for_value,
-  layers (only_whole (byte 15)) (only_scalar 33 (byte 15)) _ (whole_has (byte 15) (pos 2)) refl refl,
+  layers (only_whole (byte 15)) (only_scalar WRONG_TYPE (byte 15)) _ (whole_has (byte 15) (pos 2)) refl refl,
   known_whole _ (byte 15) (pos 2),
 ) refl
 

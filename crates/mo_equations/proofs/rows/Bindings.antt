@@ -1,15 +1,16 @@
 -- Worked examples of bindings, by computation.
 use Rattle.std.proofs.Common.{◌≡◌, ℕ, pos, List, [], ◌∷◌, Some, None, Ok, codes, refl}
 use Prim.Native.String.{String}
+use Rattle.mo_syntax.specs.Outcome.{breach, breaks}
 use Rattle.mo_syntax.specs.declared.meaning.Kind.{Kind}
 use Rattle.mo_syntax.specs.declared.meaning.Kind.TheVariants.{Real}
 use Rattle.mo_syntax.specs.declared.meaning.Kind.TheVariants as kinds
 use Rattle.mo_syntax.specs.declared.meaning.Role.{Role}
 use Rattle.mo_syntax.specs.declared.meaning.Role.TheVariants.{Unknown, Parameter}
 use Rattle.mo_flat.specs.declared.expr.FlatExpr as flat
-use Rattle.mo_scope.specs.Outcome.{breach, breaks}
 use Rattle.mo_scope.specs.Frames.{Top, In, No_source}
 use Rattle.mo_scope.specs.Instances.{Instance, Leaf}
+use Rattle.mo_syntax.specs.declared.rules.TheConstants.{WRONG_EACH}
 use Rattle.mo_typing.specs.Kinds.{accepts}
 use Rattle.mo_values.specs.Asked.{for_flat, for_value}
 use Rattle.mo_equations.specs.Leaves.{Tree}
@@ -117,8 +118,8 @@ with_element = record {
 }
 
 -- without `each` rule 23 at the binding
-pub scalar_is_refused : declared with_element (record { number = 1; instance = of_element; leaf = element }) ≡ breaks 23 (byte 55)
+pub scalar_is_refused : declared with_element (record { number = 1; instance = of_element; leaf = element }) ≡ breaks WRONG_EACH (byte 55)
 scalar_is_refused = rw (
   made_number with_element.classes (asking with_element) (in_class 6).scope 1 55 for_flat,
-  unfit (λ got. accepts Real got (byte 55)) (fits_sizes (byte 55) (2 ∷ [])) (breach 23 (byte 55)) (whole_has (byte 55) (pos 1)) refl refl,
+  unfit (λ got. accepts Real got (byte 55)) (fits_sizes (byte 55) (2 ∷ [])) (breach WRONG_EACH (byte 55)) (whole_has (byte 55) (pos 1)) refl refl,
 ) refl

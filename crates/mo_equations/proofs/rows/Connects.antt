@@ -21,6 +21,7 @@ use Rattle.mo_scope.specs.Frames.{Frame, Top, In, No_source, Indexed}
 use Rattle.mo_scope.specs.Lookup.{walked}
 use Rattle.mo_scope.specs.Sizes.{sizes_from}
 use Rattle.mo_scope.specs.Instances.{Instance, Leaf}
+use Rattle.mo_syntax.specs.declared.rules.TheConstants.{CONDITION_NOT_BOOLEAN}
 use Rattle.mo_values.specs.Asked.{for_value, only_scalar, only_truth}
 use Rattle.mo_eval.specs.Values.{reading}
 use Rattle.mo_equations.specs.Leaves.{Tree}
@@ -188,7 +189,7 @@ removed_connect =
     ap (λ former. former (byte 87) (in_class 8) 0) (at_Connect with_removed (name (id "q" 95 ∷ id "a" 97 ∷ [])) (name (id "z" 100 ∷ [])))
     ∙ rw (
       made_never with_removed.classes (reading with_removed.classes 255) (in_class 8).scope 70 for_value,
-      layers (only_truth 40 (byte 70)) (only_scalar 40 (byte 70)) _ (truth_has (byte 70) false) refl refl,
+      layers (only_truth CONDITION_NOT_BOOLEAN (byte 70)) (only_scalar CONDITION_NOT_BOOLEAN (byte 70)) _ (truth_has (byte 70) false) refl refl,
       known_truth _ (byte 70) false,
     ) refl
 

@@ -1,6 +1,7 @@
 -- Worked examples of equations, by computation.
 use Rattle.std.proofs.Common.{◌≡◌, ℕ, ℤ, pos, true, false, List, [], ◌∷◌, Some, None, Ok, codes, refl, ap, ◌∙◌}
 use Prim.Native.String.{String}
+use Rattle.mo_syntax.specs.Outcome.{Outcome, and_then, breaks}
 use Rattle.mo_syntax.specs.declared.equation.EquationKind.{EquationKind}
 use Rattle.mo_syntax.specs.declared.equation.EquationKind.TheVariants.{Equal}
 use Rattle.mo_syntax.specs.declared.equation.EquationKind.TheVariants as form
@@ -16,12 +17,12 @@ use Rattle.mo_flat.specs.declared.array.ArrayExpr.{ArrayExpr}
 use Rattle.mo_flat.specs.declared.array.ArrayNode.TheVariants as node
 use Rattle.mo_flat.specs.declared.expr.FlatExpr.{FlatExpr}
 use Rattle.mo_flat.specs.declared.expr.FlatExpr as flat
-use Rattle.mo_scope.specs.Outcome.{Outcome, and_then, breaks}
 use Rattle.mo_scope.specs.Rows.{no_flags}
 use Rattle.mo_scope.specs.Frames.{Scope}
 use Rattle.mo_scope.specs.Lookup.{walked}
 use Rattle.mo_scope.specs.Sizes.{sizes_from}
 use Rattle.mo_values.specs.declared.value.Scalar.TheVariants as scalar
+use Rattle.mo_syntax.specs.declared.rules.TheConstants.{WRONG_TYPE, CONDITION_NOT_BOOLEAN, BRANCH_COUNTS_DIFFER}
 use Rattle.mo_values.specs.Scalars.{Known}
 use Rattle.mo_eval.specs.Virtuals.{Element, Making, Virtual, resolved_by}
 use Rattle.mo_eval.specs.Components.{reader}
@@ -72,7 +73,7 @@ from_to a at b at' = roll-Expr (record { place = byte at; node = Range (number a
 end_of : (read : Element → Outcome Known) (context : Context) (e : Expr) (resolving : Context → Making ArrayExpr) (place : Place) (n : ℤ) →
     resolving (read_in context) [] ≡ Ok (at_place place (node.Whole n), []) → read_end read context (e, resolving) ≡ Ok (Some (scalar.Whole n))
 end_of read context e resolving place n h =
-    rw (h, layers (only_whole _) (only_scalar 33 _) _ (whole_has place n) refl refl, known_whole _ place n) refl
+    rw (h, layers (only_whole _) (only_scalar WRONG_TYPE _) _ (whole_has place n) refl refl, known_whole _ place n) refl
 
 -- a range of two numbers, resolved
 made_from_to : (tree : Tree) (scope : Scope) (context : Context) (a at b at' : ℕ) →
@@ -150,9 +151,9 @@ with_condition = record {
 condition_is_undecided : condition_known with_condition (in_class 6).scope (refers "b" 57) ≡ Ok None
 unfolding walked sizes_from reading with_condition
 condition_is_undecided =
-    ap (λ making. and_then (resolved_by (making [])) (truth_of (reader (asking with_condition)) 40 (byte 57))) (made_named with_condition (in_class 6).scope for_value "b" 57)
+    ap (λ making. and_then (resolved_by (making [])) (truth_of (reader (asking with_condition)) CONDITION_NOT_BOOLEAN (byte 57))) (made_named with_condition (in_class 6).scope for_value "b" 57)
     ∙ rw (
-      layers (only_truth 40 (byte 57)) (only_scalar 40 (byte 57)) _ (variable_has (byte 57) 1 Truth) refl refl,
+      layers (only_truth CONDITION_NOT_BOOLEAN (byte 57)) (only_scalar CONDITION_NOT_BOOLEAN (byte 57)) _ (variable_has (byte 57) 1 Truth) refl refl,
       undecided_variable _ (byte 57) 1 Truth refl refl,
     ) refl
 
@@ -160,10 +161,10 @@ condition_is_printed : flat_condition with_condition (in_class 6).scope (refers 
 unfolding walked sizes_from reading constant with_condition
 condition_is_printed =
     ap (λ making. and_then (resolved_by (making [])) (λ resolved.
-    and_then (layered (only_truth 40 (byte 57)) (only_scalar 40 (byte 57)) resolved.expression) (λ _. flat_element (replacing with_condition) resolved [])))
+    and_then (layered (only_truth CONDITION_NOT_BOOLEAN (byte 57)) (only_scalar CONDITION_NOT_BOOLEAN (byte 57)) resolved.expression) (λ _. flat_element (replacing with_condition) resolved [])))
     (made_named with_condition (in_class 6).scope for_flat "b" 57)
     ∙ rw (
-      layers (only_truth 40 (byte 57)) (only_scalar 40 (byte 57)) _ (variable_has (byte 57) 1 Truth) refl refl,
+      layers (only_truth CONDITION_NOT_BOOLEAN (byte 57)) (only_scalar CONDITION_NOT_BOOLEAN (byte 57)) _ (variable_has (byte 57) 1 Truth) refl refl,
       variable_element (byte 57) 1 Truth,
       replaced_variable (of_variable (replacing with_condition) (virtuals_in (named_in with_condition (in_class 6).scope for_flat "b" 57 []))) 1 0,
     ) refl
@@ -204,7 +205,7 @@ sets_name name at n at' = written at (Equal (refers name at) (number n at'))
 -- the branches have two equations and one: rule 35 at the if-equation
 pub branch_counts_differ :
     made_kind with_condition (form.If ((refers "b" 57, sets_name "x" 64 1 68 ∷ sets_name "y" 71 2 75 ∷ []) ∷ []) (sets_name "x" 83 3 87 ∷ [])) (byte 54) (in_class 6) 0
-    ≡ breaks 35 (byte 54)
+    ≡ breaks BRANCH_COUNTS_DIFFER (byte 54)
 branch_counts_differ =
     ap (λ former. former (byte 54) (in_class 6) 0)
     (at_If with_condition ((refers "b" 57, sets_name "x" 64 1 68 ∷ sets_name "y" 71 2 75 ∷ []) ∷ []) (sets_name "x" 83 3 87 ∷ []))

@@ -1,6 +1,7 @@
 -- Notation for worked examples, and what resolving makes of names and numbers.
 use Rattle.std.proofs.Common.{◌≡◌, ℕ, pos, false, List, [], ◌∷◌, Some, None, Ok, Err, codes, refl, ap, ◌∙◌}
 use Prim.Native.String.{String}
+use Rattle.mo_syntax.specs.Outcome.{Outcome}
 use Rattle.mo_syntax.specs.declared.equation.EquationKind.TheVariants.{Equal}
 use Rattle.mo_syntax.specs.declared.expr.Expr.{Expr, roll-Expr}
 use Rattle.mo_syntax.specs.declared.expr.Node.{Node-F}
@@ -12,7 +13,6 @@ use Rattle.mo_flat.specs.declared.array.ArrayExpr.{ArrayExpr}
 use Rattle.mo_flat.specs.declared.array.ArrayNode.TheVariants as node
 use Rattle.mo_flat.specs.declared.expr.FlatExpr.{FlatExpr}
 use Rattle.mo_flat.specs.declared.model.FlatEquation.{FlatEquation}
-use Rattle.mo_scope.specs.Outcome.{Outcome}
 use Rattle.mo_scope.specs.Rows.{Table}
 use Rattle.mo_scope.specs.Frames.{Frame, Top, In, No_source, Scope}
 use Rattle.mo_scope.specs.Instances.{Instance}

@@ -1,6 +1,7 @@
 -- Worked examples of whole classes with their sections, by computation.
 use Rattle.std.proofs.Common.{◌≡◌, ℕ, pos, true, false, List, [], ◌∷◌, None, Ok, codes, refl}
 use Prim.Native.String.{String}
+use Rattle.mo_syntax.specs.Outcome.{breaks}
 use Rattle.mo_syntax.specs.declared.class.Body.TheVariants.{Long, outs-Long}
 use Rattle.mo_syntax.specs.declared.class.ClassKind.TheVariants.{Model}
 use Rattle.mo_syntax.specs.declared.class.Item.{Item}
@@ -10,11 +11,11 @@ use Rattle.mo_syntax.specs.declared.meaning.Kind.TheVariants.{Real}
 use Rattle.mo_syntax.specs.declared.meaning.Role.TheVariants.{Unknown}
 use Rattle.mo_syntax.specs.Classes.{Under}
 use Rattle.mo_flat.specs.declared.expr.FlatExpr as flat
-use Rattle.mo_scope.specs.Outcome.{breaks}
 use Rattle.mo_scope.specs.Rows.{Part, Row, Long_class}
 use Rattle.mo_scope.specs.Lookup.{walked}
 use Rattle.mo_scope.specs.Sizes.{sizes_from}
 use Rattle.mo_eval.specs.Virtuals.{Virtual}
+use Rattle.mo_syntax.specs.declared.rules.TheConstants.{OUTSIDE_PROFILE}
 use Rattle.mo_values.specs.Asked.{for_flat}
 use Rattle.mo_eval.specs.Values.{reading}
 use Rattle.mo_equations.specs.Leaves.{Tree}
@@ -104,6 +105,6 @@ pub with_algorithm : Tree
 with_algorithm = record { classes = model 6 "M" 6 algorithm [] ∷ []; instances = root_instance 6 ∷ [] }
 
 -- rule 34 at the name of the class
-pub algorithm_is_refused : expansion_of with_algorithm ≡ breaks 34 (byte 6)
+pub algorithm_is_refused : expansion_of with_algorithm ≡ breaks OUTSIDE_PROFILE (byte 6)
 unfolding walked with_algorithm
 algorithm_is_refused = rw (outs-Long None algorithm false, outs-Algorithm false []) refl

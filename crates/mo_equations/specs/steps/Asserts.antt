@@ -1,11 +1,11 @@
 -- The parts of an assert.
 use Rattle.std.specs.Prelude.{List, map, Option, Some, None, Result, Ok}
 use Rattle.std.specs.Borrow.{Bor}
+use Rattle.mo_syntax.specs.Outcome.{Outcome, and_then}
 use Rattle.mo_syntax.specs.declared.expr.Expr.{Expr}
 use Rattle.mo_syntax.specs.declared.place.Stop.{Stop}
 use Rattle.mo_flat.specs.declared.expr.FlatExpr.{FlatExpr}
 use Rattle.mo_flat.specs.declared.model.FlatAssert.{FlatAssert}
-use Rattle.mo_scope.specs.Outcome.{Outcome, and_then}
 use Rattle.mo_scope.specs.Frames.{Scope}
 use Rattle.mo_equations.specs.declared.made.Made.{Made as MadeAt}
 use Rattle.mo_equations.specs.Asserts.{assert_with, assertion_level, flat_argument}

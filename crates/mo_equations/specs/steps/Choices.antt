@@ -1,12 +1,12 @@
 -- What the branches of an if-equation stand for, and the equations in which they are joined.
 use Rattle.std.specs.Prelude.{◌≡◌, ℕ, pos, ◌+◌, ◌-◌, ◌*◌, Bool, false, true, List, [], ◌∷◌, length, sum_by, slice_get, Option, Some, None, Result, Ok, nat_eq}
 use Rattle.std.specs.List.{list_all}
+use Rattle.mo_syntax.specs.Outcome.{Outcome, and_then, breaks}
 use Rattle.mo_syntax.specs.declared.place.Place.{Place}
 use Rattle.mo_syntax.specs.declared.place.Stop.{Stop}
 use Rattle.mo_flat.specs.declared.expr.FlatExpr.{FlatExpr}
 use Rattle.mo_flat.specs.declared.expr.FlatExpr as flat
 use Rattle.mo_flat.specs.declared.model.FlatEquation.{FlatEquation}
-use Rattle.mo_scope.specs.Outcome.{Outcome, and_then, breaks}
 use Rattle.mo_scope.specs.Places.{Every}
 use Rattle.mo_typing.specs.Indices.{numbers_to}
 use Rattle.mo_typing.specs.Outcome.{each}

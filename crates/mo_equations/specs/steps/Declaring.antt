@@ -1,5 +1,6 @@
 -- The variables that are declared, with what is counted of them.
 use Rattle.std.specs.Prelude.{◌≡◌, ℕ, ◌+◌, ◌≤◌, List, [], ◌∷◌, ◌++◌, flat_map, length, map, sum_by, Option, Some, None, option_map, slice_get, Ok, ◌&&◌, if◌then◌else◌}
+use Rattle.mo_syntax.specs.Outcome.{Outcome}
 use Rattle.mo_syntax.specs.declared.meaning.Kind.{Kind}
 use Rattle.mo_syntax.specs.declared.meaning.Role.{Role}
 use Rattle.mo_syntax.specs.declared.meaning.Role.TheVariants.{Unknown}
@@ -12,7 +13,6 @@ use Rattle.mo_flat.specs.Nodes.{node_count}
 use Rattle.mo_flat.specs.Roles.{unknown_numbers}
 use Rattle.mo_scope.specs.declared.instance.Chosen.{Chosen as ChosenAt}
 use Rattle.mo_scope.specs.declared.instance.Instance.{Instance as InstanceAt}
-use Rattle.mo_scope.specs.Outcome.{Outcome}
 use Rattle.mo_scope.specs.Frames.{Frame}
 use Rattle.mo_scope.specs.Instances.{Chosen}
 use Rattle.mo_scope.specs.Trees.{IsInstance, IsLeaf, attribute_in, chosen_in, instance_in, leaf_in}

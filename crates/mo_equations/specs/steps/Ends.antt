@@ -1,5 +1,6 @@
 -- The ends of connects, before their leaves are known.
 use Rattle.std.specs.Prelude.{ℕ, Bool, false, List, [], map, Ok, if◌then◌else◌}
+use Rattle.mo_syntax.specs.Outcome.{Outcome, and_then, breaks}
 use Rattle.mo_syntax.specs.declared.expr.Expr.{Expr}
 use Rattle.mo_syntax.specs.declared.expr.PartOf.{PartOf}
 use Rattle.mo_syntax.specs.declared.place.Place.{Place}
@@ -10,7 +11,6 @@ use Rattle.mo_flat.specs.declared.connect.End.{End}
 use Rattle.mo_flat.specs.declared.connect.Side.{Side}
 use Rattle.mo_flat.specs.declared.connect.Side.TheVariants.{Neither}
 use Rattle.mo_scope.specs.declared.row.Member.{Member as MemberAt}
-use Rattle.mo_scope.specs.Outcome.{Outcome, and_then, breaks}
 use Rattle.mo_scope.specs.Rows.{Table, is_class}
 use Rattle.mo_scope.specs.Frames.{Frame, Member, Scope}
 use Rattle.mo_scope.specs.Lookup.{Found, Component, asking_of, found_first}
@@ -18,6 +18,7 @@ use Rattle.mo_scope.specs.Sights.{declares_seen}
 use Rattle.mo_names.specs.Sights.{member_of}
 use Rattle.mo_names.specs.declared.found.Found.{Found as FoundAt}
 use Rattle.mo_names.specs.declared.found.Found.TheVariants.{Component as component_at}
+use Rattle.mo_syntax.specs.declared.rules.TheConstants.{NAME_NOT_FOUND}
 use Rattle.mo_typing.specs.Dims.{Dims}
 use Rattle.mo_typing.specs.Indices.{Index}
 use Rattle.mo_typing.specs.Subscripts.{subscripts}
@@ -31,11 +32,11 @@ elements_in frames elements = map (λ element. (member_of frames element.0, elem
 -- ---- names as they are declared
 
 abbrev pub component_or_broken : Place → MemberAt → Outcome MemberAt
-component_or_broken place member = if is_class (declares_seen member.declares) then breaks 12 place else Ok member
+component_or_broken place member = if is_class (declares_seen member.declares) then breaks NAME_NOT_FOUND place else Ok member
 
 abbrev pub component_in_found : Place → FoundAt → Outcome MemberAt
 component_in_found place (component_at frame member) = Ok member
-component_in_found place found = breaks 12 place
+component_in_found place found = breaks NAME_NOT_FOUND place
 
 -- the first component of a name
 abbrev pub first_component : Table → Bool → Scope → PartOf Expr → Outcome Member
@@ -43,7 +44,7 @@ first_component table top scope part = and_then (found_first table (asking_of ta
   where
     component_in : Found → Outcome Member
     component_in (Component frame member) = Ok member
-    component_in found = breaks 12 part.place
+    component_in found = breaks NAME_NOT_FOUND part.place
 
 -- ---- sides
 

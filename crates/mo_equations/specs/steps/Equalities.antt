@@ -1,9 +1,9 @@
 -- What an answer with equations says.
 use Rattle.std.specs.Prelude.{◌≡◌, List, Result, Ok, Err}
+use Rattle.mo_syntax.specs.Outcome.{Outcome, and_then}
 use Rattle.mo_syntax.specs.declared.place.Stop.{Stop}
 use Rattle.mo_syntax.specs.declared.place.Stop.TheVariants.{Broken as broken_by, NoMemory as no_memory}
 use Rattle.mo_flat.specs.declared.model.FlatEquation.{FlatEquation}
-use Rattle.mo_scope.specs.Outcome.{Outcome, and_then}
 use Rattle.mo_equations.specs.declared.made.Made.{Made as MadeAt}
 use Rattle.mo_equations.specs.Gathering.{Made, beside, made_equations}
 use Rattle.mo_equations.specs.steps.Flats.{Answers}

@@ -1,9 +1,9 @@
 -- Parts of an expression with their variables replaced, and what a list of counted expressions puts in their place.
 use Rattle.std.specs.Prelude.{ℕ, ◌-◌, Bool, List, Option, Some, None, Ok, slice_get}
 use Rattle.mo_flat.specs.declared.expr.FlatExpr.{FlatExpr}
-use Rattle.mo_scope.specs.Outcome.{Outcome, breaks}
 use Rattle.mo_equations.specs.declared.flat.Flat.{Flat}
 use Rattle.mo_equations.specs.Replacing.{branch_of, marked, with_variables}
+use Rattle.mo_syntax.specs.Outcome.{Outcome, breaks}
 
 -- the expression that is built for a variable; a rule that none has the number of where there is none
 abbrev pub built_at : List (Option Flat) → ℕ → Outcome FlatExpr

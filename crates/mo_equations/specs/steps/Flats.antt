@@ -1,10 +1,10 @@
 -- What the counted expressions of the code stand for, and what an answer says where its value stands for one of a definition.
 use Rattle.std.specs.Prelude.{◌≡◌, ℕ, ◌-◌, ◌<◌, ◌^◌, Bool, ◌||◌, Option, Some, None, Result, Ok, Err, min, nat_lt}
+use Rattle.mo_syntax.specs.Outcome.{Outcome}
 use Rattle.mo_syntax.specs.declared.place.Stop.{Stop}
 use Rattle.mo_syntax.specs.declared.place.Stop.TheVariants.{Broken as broken_by, NoMemory as no_memory}
 use Rattle.mo_flat.specs.declared.expr.FlatExpr.{FlatExpr}
 use Rattle.mo_flat.specs.Nodes.{node_count}
-use Rattle.mo_scope.specs.Outcome.{Outcome}
 use Rattle.mo_equations.specs.declared.flat.Flat.{Flat}
 use Rattle.mo_equations.specs.Size.{most_equations, most_nodes, most_unknowns}
 

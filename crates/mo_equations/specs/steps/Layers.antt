@@ -2,6 +2,7 @@
 use Rattle.std.specs.Prelude.{ℕ, ◌≤◌}
 use Rattle.mo_syntax.specs.declared.meaning.Kind.{Kind}
 use Rattle.mo_syntax.specs.declared.place.Place.{Place}
+use Rattle.mo_syntax.specs.declared.rules.TheConstants.{CONDITION_NOT_BOOLEAN}
 use Rattle.mo_typing.specs.Dims.{Dims}
 use Rattle.mo_typing.specs.Kinds.{accepts}
 use Rattle.mo_typing.specs.Subscripts.{Checked}
@@ -14,7 +15,7 @@ use Rattle.mo_equations.specs.Variables.{fits_sizes}
 
 abbrev pub wanted_of : Want → Place → Kind → Checked
 wanted_of (Accepted kind) place got = accepts kind got place
-wanted_of Condition place got = only_truth 40 place got
+wanted_of Condition place got = only_truth CONDITION_NOT_BOOLEAN place got
 
 abbrev pub fit_of : Fit → Place → Dims → Checked
 fit_of (Scalar rule) place dims = only_scalar rule place dims

@@ -1,9 +1,10 @@
 -- The numbers that an iteration variable goes through, and what is known of an expression that is read for its value.
 use Rattle.std.specs.Prelude.{ℤ, List, [], ◌∷◌, map, Result}
+use Rattle.mo_syntax.specs.Outcome.{Outcome, and_then}
 use Rattle.mo_syntax.specs.declared.expr.Expr.{Expr}
 use Rattle.mo_syntax.specs.declared.meaning.Kind.{Kind}
 use Rattle.mo_syntax.specs.declared.place.Stop.{Stop}
-use Rattle.mo_scope.specs.Outcome.{Gives, Outcome, and_then}
+use Rattle.mo_scope.specs.Outcome.{Gives}
 use Rattle.mo_scope.specs.Rows.{Table}
 use Rattle.mo_scope.specs.Frames.{Scope}
 use Rattle.mo_typing.specs.Dims.{Dims}

@@ -1,7 +1,6 @@
 -- What is asked of the variables of an expression, and what replaces a constant.
 use Rattle.std.specs.Prelude.{◌≡◌, ℕ, ◌-◌, List, Option, Some, None, Ok, if◌then◌else◌, replicate, slice_get}
 use Rattle.mo_flat.specs.declared.expr.FlatExpr.{FlatExpr}
-use Rattle.mo_scope.specs.Outcome.{Outcome, and_then, breaks}
 use Rattle.mo_scope.specs.Rows.{Table}
 use Rattle.mo_scope.specs.Instances.{Chosen}
 use Rattle.mo_scope.specs.Places.{Every}
@@ -9,6 +8,8 @@ use Rattle.mo_scope.specs.Worlds.{World}
 use Rattle.mo_names.specs.Sights.{IsMember}
 use Rattle.mo_eval.specs.declared.virtuals.Virtual.{Virtual as VirtualAt}
 use Rattle.mo_eval.specs.declared.virtuals.Virtual.TheVariants.{Component, Division as division_at}
+use Rattle.mo_syntax.specs.Outcome.{Outcome, and_then, breaks}
+use Rattle.mo_syntax.specs.declared.rules.TheConstants.{NO_VALUE}
 use Rattle.mo_values.specs.Scalars.{Known, has_values}
 use Rattle.mo_eval.specs.Virtuals.{Element}
 use Rattle.mo_eval.specs.Components.{binding_of, place_of}
@@ -28,7 +29,7 @@ abbrev pub constant_expression : Table → ℕ → Replacing → Element → Out
 constant_expression table left replace element = and_then (binding_of table element.member element.index) expression_of
   where
     expression_of : Option Chosen → Outcome FlatExpr
-    expression_of None = breaks 28 element.place
+    expression_of None = breaks NO_VALUE element.place
     expression_of (Some binding) =
         flat_chosen table left replace element.kind (fitted (place_of binding.value) binding.pending) binding
 

@@ -12,7 +12,6 @@ use Rattle.mo_eval.proofs.+resolving.Answers.Selections as selections
 use Rattle.mo_eval.proofs.+resolving.Answers.Subscripts as subscripts
 use Rattle.mo_eval.proofs.+resolving.Answers.Variables as variables
 use Rattle.mo_eval.proofs.+resolving.Goals as goal
-
 mod Alone
 mod Below
 mod Calls

@@ -3,6 +3,7 @@ use Rattle.mo_eval.proofs.Prefixes.{unread_among}
 use Rattle.mo_eval.specs.Calls.{make_arguments, read_sizes}
 use Rattle.mo_eval.specs.Components.{each_dim}
 use Rattle.mo_eval.specs.Contexts.{Part}
+use Rattle.mo_syntax.specs.Outcome.{and_then}
 use Rattle.mo_values.specs.Asked.{must_be_whole}
 use Rattle.mo_eval.specs.Keeping.{IsKept}
 use Rattle.mo_eval.specs.References.{read_subscripts, selections}
@@ -24,7 +25,7 @@ use Rattle.mo_scope.specs.Places.{Every}
 use Rattle.mo_scope.specs.Worlds.{Grows, frames_of, scope_in, table_in}
 use Rattle.mo_syntax.specs.declared.expr.Expr.{Expr}
 use Rattle.mo_typing.specs.Indices.{numbers_to}
-use Rattle.mo_typing.specs.Outcome.{and_then, each}
+use Rattle.mo_typing.specs.Outcome.{each}
 use Rattle.std.proofs.Common.{List, Ok, Option, Some, [], drop, length, map, option_map as option_map_of_common, ◌*◌, ◌++◌, ◌+◌, ◌∷◌, ◌≡◌}
 use Rattle.std.specs.Option.{option_map}
 use Rattle.std.specs.Prelude.{IfSome}

@@ -1,10 +1,11 @@
 -- Expressions that are read for their values: words of the contracts inside this crate alone.
 use Rattle.std.specs.Prelude.{[], None, Ok, if◌then◌else◌}
+use Rattle.mo_syntax.specs.Outcome.{Outcome, and_then, breaks}
 use Rattle.mo_syntax.specs.declared.meaning.Kind.{Kind}
 use Rattle.mo_syntax.specs.declared.place.Place.{Place}
+use Rattle.mo_syntax.specs.declared.rules.TheConstants.{WRONG_TYPE, NO_VALUE}
 use Rattle.mo_typing.specs.Kinds.{accepts, kind_of}
 use Rattle.mo_typing.specs.Indices.{Index}
-use Rattle.mo_typing.specs.Outcome.{Outcome, and_then, breaks}
 use Rattle.mo_typing.specs.Subscripts.{Checked}
 use Rattle.mo_eval.specs.declared.reader.Layers.{Layers}
 use Rattle.mo_values.specs.declared.value.Value.{Value}
@@ -16,7 +17,7 @@ use Rattle.mo_eval.specs.References.{is_replaced}
 -- what a scalar Integer has, decided or not
 abbrev pub end_in : (Element → Outcome Known) → Place → Resolved → Outcome Known
 end_in read place resolved =
-    and_then (layered (only_whole place) (only_scalar 33 place) resolved.expression) (λ _. known_at read resolved [])
+    and_then (layered (only_whole place) (only_scalar WRONG_TYPE place) resolved.expression) (λ _. known_at read resolved [])
 
 -- what a binding has at its pending indices
 abbrev pub bound_in : (Element → Outcome Known) → Kind → Place → Index → Resolved → Outcome Known
@@ -29,7 +30,7 @@ fits_layers want place pending layers = and_then (accepts want layers.kind place
 
 -- what an element without a binding has: a constant that is replaced breaks rule 28 at the reference
 abbrev pub unbound : Element → Outcome Known
-unbound element = if is_replaced element then breaks 28 element.place else Ok None
+unbound element = if is_replaced element then breaks NO_VALUE element.place else Ok None
 
 -- the value of a resolved expression at its pending indices
 abbrev pub value_in : (Element → Outcome Known) → Place → Index → Resolved → Outcome Value

@@ -1,8 +1,10 @@
 -- Calls by their arguments: words of the contracts inside this crate alone.
 use Rattle.std.specs.Prelude.{◌≡◌, ℤ, Bool, true, false, if◌then◌else◌, Ok, List, [], ◌∷◌, map, Option, Some, None}
+use Rattle.mo_syntax.specs.Outcome.{Outcome, breaks}
 use Rattle.mo_syntax.specs.declared.expr.Arg.{Arg}
 use Rattle.mo_syntax.specs.declared.expr.Expr.{Expr}
 use Rattle.mo_syntax.specs.declared.place.Place.{Place}
+use Rattle.mo_syntax.specs.declared.rules.TheConstants.{WRONG_TYPE}
 use Rattle.mo_tables.specs.declared.functions.TheConstants.{FILL}
 use Rattle.mo_flat.specs.declared.array.ArrayExpr.{ArrayExpr}
 use Rattle.mo_flat.specs.declared.array.ArrayNode.{ArrayNode}
@@ -10,7 +12,6 @@ use Rattle.mo_flat.specs.declared.array.ArrayNode.TheVariants.{Sized}
 use Rattle.mo_scope.specs.Rows.{Table}
 use Rattle.mo_scope.specs.Frames.{Scope}
 use Rattle.mo_scope.specs.Sizes.{is_nothing}
-use Rattle.mo_typing.specs.Outcome.{Outcome, breaks}
 use Rattle.mo_values.specs.declared.context.Context.{Context}
 use Rattle.mo_values.specs.Scalars.{Known}
 use Rattle.mo_eval.specs.Virtuals.{Ask, Element, Making, make, make_then, make_from}
@@ -26,7 +27,7 @@ number_of_size read context place [] = make None
 number_of_size read context place (number ∷ []) = make_then (make_from (read_size read context number)) (λ n. make (Some n))
 number_of_size read context place (number ∷ other ∷ others) =
     make_then (make_from (read_size read context number)) (λ n.
-    make_then (make_arguments context (other ∷ others)) (λ made. make_from (breaks 33 place)))
+    make_then (make_arguments context (other ∷ others)) (λ made. make_from (breaks WRONG_TYPE place)))
 
 abbrev pub made_derivative : Context → Place → List Part → Making ArrayNode
 made_derivative context place arguments = make_then (make_arguments context arguments) (λ made. make_from (derivative_of place made))
@@ -48,4 +49,4 @@ is_lone parts = false
 
 -- `fill` with its sizes
 abbrev pub filled_with : Place → ArrayExpr → List (Place × ℤ) → Outcome ArrayNode
-filled_with place filling sizes = if is_nothing sizes then breaks 33 place else Ok (Sized FILL (Some filling) sizes)
+filled_with place filling sizes = if is_nothing sizes then breaks WRONG_TYPE place else Ok (Sized FILL (Some filling) sizes)

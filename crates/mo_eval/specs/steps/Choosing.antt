@@ -1,8 +1,9 @@
 -- If-expressions branch by branch: words of the contracts inside this crate alone.
 use Rattle.std.specs.Prelude.{Bool, true, false, List, [], ◌∷◌, Option, Some, None}
+use Rattle.mo_syntax.specs.Outcome.{Outcome, and_then}
 use Rattle.mo_syntax.specs.declared.expr.BranchOf.{BranchOf}
 use Rattle.mo_flat.specs.declared.array.ArrayExpr.{ArrayExpr}
-use Rattle.mo_typing.specs.Outcome.{Outcome, and_then}
+use Rattle.mo_syntax.specs.declared.rules.TheConstants.{WRONG_TYPE}
 use Rattle.mo_values.specs.declared.context.Context.{Context}
 use Rattle.mo_eval.specs.declared.choice.BranchMade.{BranchMade}
 use Rattle.mo_eval.specs.declared.choice.BranchMade.TheVariants.{Dropped, Kept, Last}
@@ -16,7 +17,7 @@ use Rattle.mo_eval.specs.steps.Parts.{made_two}
 
 -- a condition, decided or not
 abbrev pub read_condition : (Element → Outcome Known) → Context → Part → Outcome Known
-read_condition read context part = and_then (alone part (read_in context)) (truth_of read 33 (place_of part))
+read_condition read context part = and_then (alone part (read_in context)) (truth_of read WRONG_TYPE (place_of part))
 
 abbrev pub truth_in : Known → Option Bool
 truth_in (Some (Truth b)) = Some b

@@ -1,5 +1,6 @@
 -- The dimensions of components one after another: words of the contracts inside this crate alone.
 use Rattle.std.specs.Prelude.{◌≡◌, ℕ, ◌++◌, List, Option, Result, Ok, Err, length, map}
+use Rattle.mo_syntax.specs.Outcome.{Outcome, and_then}
 use Rattle.mo_syntax.specs.declared.expr.Expr.{Expr}
 use Rattle.mo_syntax.specs.declared.place.Stop.{Stop}
 use Rattle.mo_syntax.specs.declared.place.Stop.TheVariants.{Broken as broken_by, NoMemory as no_memory}
@@ -10,7 +11,6 @@ use Rattle.mo_scope.specs.Sizes.{Sizes}
 use Rattle.mo_scope.specs.Worlds.{World, frames_of, table_in}
 use Rattle.mo_names.specs.Sights.{member_of}
 use Rattle.mo_typing.specs.Dims.{Dims}
-use Rattle.mo_typing.specs.Outcome.{Outcome, and_then}
 use Rattle.mo_eval.specs.declared.dimensions.Measured.{Measured}
 use Rattle.mo_eval.specs.Virtuals.{Ask}
 use Rattle.mo_values.specs.Asked.{any_kind, for_value, layered}

@@ -1,5 +1,6 @@
 -- What the names of references find, as the code holds it: words of the contracts inside this crate alone.
 use Rattle.std.specs.Prelude.{List, ◌++◌, length, map, Ok, if◌then◌else◌, nat_eq}
+use Rattle.mo_syntax.specs.Outcome.{Outcome, and_then, breaks}
 use Rattle.mo_syntax.specs.declared.expr.Expr.{Expr}
 use Rattle.mo_syntax.specs.declared.expr.PartOf.{PartOf}
 use Rattle.mo_scope.specs.Frames.{Frame, Member}
@@ -8,7 +9,7 @@ use Rattle.mo_scope.specs.Places.{Every}
 use Rattle.mo_scope.specs.Rows.{Table}
 use Rattle.mo_scope.specs.Worlds.{World}
 use Rattle.mo_names.specs.Sights.{IsFound, IsMember, found_in, member_of}
-use Rattle.mo_typing.specs.Outcome.{Outcome, and_then, breaks}
+use Rattle.mo_syntax.specs.declared.rules.TheConstants.{WRONG_TYPE}
 use Rattle.mo_typing.specs.Subscripts.{Checked, fine}
 use Rattle.mo_eval.specs.declared.names.Name.{Name}
 use Rattle.mo_eval.specs.declared.names.Referred.{Referred}
@@ -47,4 +48,4 @@ abbrev pub named_on : Table → List (Member × PartOf Part) → Found → PartO
 named_on table before found part parts = and_then (named_from table found part parts) (λ named. Ok (named_behind before named))
 
 abbrev pub counted_in : Table → Member → PartOf Expr → Checked
-counted_in table member part = and_then (number_of_dims table member) (λ n. if nat_eq n (length part.subs) then fine else breaks 33 part.place)
+counted_in table member part = and_then (number_of_dims table member) (λ n. if nat_eq n (length part.subs) then fine else breaks WRONG_TYPE part.place)

@@ -1,5 +1,6 @@
 -- What the identifiers of a reference select, one after another: words of the contracts inside this crate alone.
 use Rattle.std.specs.Prelude.{ℕ, Bool, List, [], ◌∷◌, ◌++◌, map, Option, Some, None, Ok, is_ok}
+use Rattle.mo_syntax.specs.Outcome.{Outcome, and_then, breaks}
 use Rattle.mo_syntax.specs.declared.expr.PartOf.{PartOf}
 use Rattle.mo_syntax.specs.declared.place.Place.{Place}
 use Rattle.mo_scope.specs.declared.row.Member.{Member as MemberAt}
@@ -9,9 +10,10 @@ use Rattle.mo_scope.specs.Lookup.{Found, Component, Reached, Element, asking_of,
 use Rattle.mo_scope.specs.Names.{stands_for}
 use Rattle.mo_scope.specs.Worlds.{World, table_in}
 use Rattle.mo_names.specs.Sights.{member_of}
+use Rattle.mo_syntax.specs.declared.rules.TheConstants.{NAME_NOT_FOUND}
 use Rattle.mo_typing.specs.Dims.{Dims}
 use Rattle.mo_typing.specs.Indices.{Index}
-use Rattle.mo_typing.specs.Outcome.{Outcome, and_then, each, breaks}
+use Rattle.mo_typing.specs.Outcome.{each}
 use Rattle.mo_typing.specs.Subscripts.{subscripts}
 use Rattle.mo_syntax.specs.declared.meaning.Kind.{Kind}
 use Rattle.mo_values.specs.declared.context.Context.{Context}
@@ -46,14 +48,14 @@ dims_there reading place member = and_then (there reading place member) (λ _. r
 
 abbrev pub component_found : Place → Found → Outcome Member
 component_found place (Component frame part) = Ok part
-component_found place found = breaks 12 place
+component_found place found = breaks NAME_NOT_FOUND place
 
 abbrev pub component_standing : Table → Place → Frame → Member → Outcome Member
 component_standing table place frame part = and_then (stands_for table place (Component frame part)) (component_found place)
 
 abbrev pub component_reached : Table → Place → Frame → Reached → Outcome Member
 component_reached table place frame (Element part) = component_standing table place frame part
-component_reached table place frame other = breaks 12 place
+component_reached table place frame other = breaks NAME_NOT_FOUND place
 
 abbrev pub component_in : Table → Place → Frame → List ℕ → Outcome Member
 component_in table place frame name = and_then (reached table (asking_of table) place frame name) (component_reached table place frame)

@@ -2,13 +2,13 @@
 use Rattle.std.specs.Prelude.{List, [], ◌++◌, map, Option, Some, None, Ok}
 use Rattle.mo_scope.specs.Rows.{Table, component_of}
 use Rattle.mo_scope.specs.Frames.{Frame, Member}
-use Rattle.mo_scope.specs.Outcome.{Outcome, and_then}
 use Rattle.mo_scope.specs.Names.{child_of_member}
 use Rattle.mo_scope.specs.Parts.{Redeclaration}
 use Rattle.mo_scope.specs.Places.{Every}
 use Rattle.mo_scope.specs.Sizes.{Sizes, declared_sizes, sizes_in, type_sizes}
 use Rattle.mo_scope.specs.Worlds.{World, IsFrame, scope_in}
 use Rattle.mo_eval.specs.declared.sizes.Sizes.{Sizes as SizesAt}
+use Rattle.mo_syntax.specs.Outcome.{Outcome, and_then}
 
 abbrev pub size_seen : List Frame → SizesAt → Sizes
 size_seen frames sizes = record { subscripts = sizes.subscripts.now; scope = scope_in frames sizes.scope.frame.0 sizes.scope.iters }

@@ -1,11 +1,11 @@
 -- Subscripts one by one: words of the contracts inside this crate alone.
 use Rattle.std.specs.Prelude.{ℕ, List, [], ◌∷◌, Option, Some, None, Ok}
+use Rattle.mo_syntax.specs.Outcome.{Outcome, and_then}
 use Rattle.mo_syntax.specs.declared.place.Place.{Place}
 use Rattle.mo_flat.specs.declared.array.Subscript.{Subscript}
 use Rattle.mo_flat.specs.declared.array.Subscript.TheVariants.{All, One, Many}
 use Rattle.mo_typing.specs.Dims.{Dims}
 use Rattle.mo_typing.specs.Indices.{Index}
-use Rattle.mo_typing.specs.Outcome.{Outcome, and_then}
 use Rattle.mo_values.specs.Scalars.{Known}
 use Rattle.mo_eval.specs.Virtuals.{Element, Resolved, known_at}
 use Rattle.mo_eval.specs.Contexts.{Part}

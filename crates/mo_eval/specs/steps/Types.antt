@@ -1,7 +1,7 @@
 -- The bases in which the dimensions of types are found: words of the contracts inside this crate alone.
 use Rattle.std.specs.Prelude.{List, [], Option, Some, None, Ok, Err, if◌then◌else◌}
+use Rattle.mo_syntax.specs.Outcome.{Outcome}
 use Rattle.mo_syntax.specs.declared.expr.Expr.{Expr}
-use Rattle.mo_scope.specs.Outcome.{Outcome}
 use Rattle.mo_scope.specs.Rows.{Table, Row, row_at, Form, Short_class, Long_class}
 use Rattle.mo_scope.specs.Frames.{Frame, class_of}
 use Rattle.mo_scope.specs.Names.{clauses_of, walk_of}

@@ -15,10 +15,10 @@ use Rattle.mo_names.specs.Steps.{before_dot, import_step, package_behind, packag
 use Rattle.mo_scope.proofs.Numbered.{is_no_top}
 use Rattle.mo_scope.specs.Frames.{Frame, class_of, Scope}
 use Rattle.mo_scope.specs.Lookup.{and_also, contains, walked_class, Found, import_behind, through_star, Asking, found_element, Classed, class_behind, Walked, leaf_checked}
-use Rattle.mo_scope.specs.Outcome.{and_then}
 use Rattle.mo_scope.specs.Rows.{row_at, Part, Row}
 use Rattle.mo_scope.specs.Sights.{part_seen}
 use Rattle.mo_scope.specs.Worlds.{frame_at, frames_of, table_in, scope_in}
+use Rattle.mo_syntax.specs.Outcome.{and_then}
 use Rattle.mo_syntax.specs.declared.class.Import.{Import}
 use Rattle.mo_syntax.specs.declared.meaning.FrameId.{FrameId}
 use Rattle.mo_syntax.specs.declared.place.Place.{Place}

@@ -2,6 +2,7 @@
 use Rattle.std.proofs.Common.{◌≡◌, ◌≢◌, ℕ, Bool, true, false, List, [], ◌∷◌, map, Some, Ok, Err, IsTrue, refl, ap, sym, ◌∙◌, subst}
 use Rattle.std.specs.Prelude.{AllPairs, if◌then◌else◌}
 use Rattle.std.specs.List.{list_all}
+use Rattle.mo_syntax.specs.Outcome.{Outcome, breaks}
 use Rattle.mo_syntax.specs.declared.class.FileTree.{FileTree}
 use Rattle.mo_syntax.specs.Classes.{ClassRow}
 use Rattle.mo_syntax.specs.ClassTable.{class_of_path}
@@ -12,7 +13,6 @@ use Rattle.mo_flat.specs.declared.model.FlatModel.{FlatModel}
 use Rattle.mo_flat.specs.declared.model.FlatVar.{FlatVar}
 use Rattle.mo_scope.specs.Frames.{Indexed}
 use Rattle.mo_scope.specs.Instances.{Instance}
-use Rattle.mo_scope.specs.Outcome.{Outcome, breaks}
 use Rattle.mo_scope.specs.Places.{Every}
 use Rattle.mo_scope.specs.Rows.{Row, Table, row_at, table_of}
 use Rattle.mo_scope.proofs.laws.Standing.{every_map, every_weaker}
@@ -37,6 +37,7 @@ use Rattle.mo_path_names.proofs.laws.Printing.{paths_apart}
 use Rattle.mo_path_names.proofs.laws.Tables.{own_number, path_passes, table_passes}
 use Rattle.mo_path_names.proofs.laws.Testing.{every_all}
 use Rattle.mo_path_names.proofs.laws.Variables.{PathsDiffer, TextsDiffer, leaf_paths, leaves_differ, leaves_have, named_all, names_are, pairs_differ}
+use Rattle.mo_syntax.specs.declared.rules.TheConstants.{FLAT_MODEL_TOO_LARGE}
 
 -- ---- the asked class
 
@@ -75,7 +76,7 @@ expands tree e made =
 within : (e : Expanded) (sets : List FaceSet) (m : FlatModel) → within_size (model_of e sets) ≡ Ok m → model_of e sets ≡ m
 within e sets m is = by (is_too_large (model_of e sets)) is
   where
-    by : (large : Bool) → (if large then breaks 41 e.place else Ok (model_of e sets)) ≡ Ok m → model_of e sets ≡ m
+    by : (large : Bool) → (if large then breaks FLAT_MODEL_TOO_LARGE e.place else Ok (model_of e sets)) ≡ Ok m → model_of e sets ≡ m
     by true is = absurd cc
     by false is = same_value (model_of e sets) m is
 

@@ -2,17 +2,18 @@
 -- of their indices is greater than the number of components that a class may have.
 use Rattle.std.proofs.Common.{◌≡◌, ℕ, zero, suc, ◌+◌, ◌<◌, ◌≤◌, Bool, true, false, List, [], ◌∷◌, ◌++◌, length, map, flat_map, Ok, Err, nat_lt, ltb-false, refl, ap, sym, ◌∙◌, subst, arith, length-append, append-nil, append_assoc}
 use Rattle.std.specs.Prelude.{if◌then◌else◌}
+use Rattle.mo_syntax.specs.Outcome.{Outcome, and_then, breaks}
 use Rattle.mo_syntax.specs.declared.place.Place.{Place}
 use Rattle.mo_scope.specs.Frames.{Member}
 use Rattle.mo_scope.specs.Instances.{Instance}
 use Rattle.mo_scope.specs.Lookup.{Walked, members_in}
 use Rattle.mo_scope.specs.Names.{child_of_member, component_frame}
 use Rattle.mo_scope.specs.Compatible.{prefix_of}
-use Rattle.mo_scope.specs.Outcome.{Outcome, and_then, breaks}
 use Rattle.mo_scope.specs.Places.{Every}
 use Rattle.mo_scope.specs.Redeclarations.{Checked, fine}
 use Rattle.mo_scope.specs.Rows.{Table, is_class}
 use Rattle.mo_scope.proofs.laws.Standing.{every_append, every_map, every_weaker}
+use Rattle.mo_syntax.specs.declared.rules.TheConstants.{FLAT_MODEL_TOO_LARGE}
 use Rattle.mo_typing.specs.Dims.{Dims}
 use Rattle.mo_typing.specs.Indices.{Index, indices, numbers_to}
 use Rattle.mo_eval.specs.Values.{component_dims, most_references, there_of}
@@ -75,7 +76,7 @@ each_grows add grow (x ∷ xs) so_far more made =
 room_left : (asked : Place) (so_far : List Instance) (u : Unit {0}) → room_for_one asked so_far ≡ Ok u → length so_far ≤ most_instances
 room_left asked so_far u is = by (nat_lt most_instances (length so_far)) refl is
   where
-    by : (b : Bool) → nat_lt most_instances (length so_far) ≡ b → (if b then breaks 41 asked else fine) ≡ Ok u → length so_far ≤ most_instances
+    by : (b : Bool) → nat_lt most_instances (length so_far) ≡ b → (if b then breaks FLAT_MODEL_TOO_LARGE asked else fine) ≡ Ok u → length so_far ≤ most_instances
     by true less e = absurd cc
     by false less e = ltb-false most_instances (length so_far) less
 

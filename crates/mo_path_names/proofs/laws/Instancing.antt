@@ -2,6 +2,7 @@
 use Rattle.std.proofs.Common.{◌≡◌, ℕ, zero, suc, ◌+◌, ◌<◌, ◌≤◌, Bool, true, false, List, [], ◌∷◌, ◌++◌, length, map, Option, Some, None, Ok, Err, All, IsTrue, refl, ap, sym, ◌∙◌, subst, arith}
 use Rattle.std.specs.Prelude.{if◌then◌else◌, option_map}
 use Rattle.std.specs.List.{list_all}
+use Rattle.mo_syntax.specs.Outcome.{Outcome, and_then}
 use Rattle.mo_syntax.specs.declared.class.FileTree.{FileTree}
 use Rattle.mo_syntax.specs.declared.place.Place.{Place}
 use Rattle.mo_syntax.specs.SoundTree.{IsSoundNamedTree, Naming, any_name, is_sound_file}
@@ -10,7 +11,6 @@ use Rattle.mo_scope.specs.Frames.{Frame, Indexed, Member, at_of}
 use Rattle.mo_scope.specs.Instances.{Follow, Instance, IsInstanceTree, tree}
 use Rattle.mo_scope.specs.Lookup.{Inherited, Walked, members_in}
 use Rattle.mo_scope.specs.Names.{child_of_member, component_frame, walk_of}
-use Rattle.mo_scope.specs.Outcome.{Outcome, and_then}
 use Rattle.mo_scope.specs.Places.{Every}
 use Rattle.mo_scope.specs.Redeclarations.{Checked}
 use Rattle.mo_scope.specs.Rows.{Row, Table, is_class, row_at, table_of}

@@ -2,6 +2,7 @@
 use Rattle.std.proofs.Common.{ℕ, ℤ, ◌&&◌, List, [], ◌∷◌, map, length, Option, Some, None, Ok, if◌then◌else◌}
 use Rattle.std.specs.Prelude.{fold, nat_eq}
 use Rattle.std.specs.List.{list_all}
+use Rattle.mo_syntax.specs.Outcome.{Outcome}
 use Rattle.mo_syntax.specs.declared.expr.CalleeOf.{CalleeOf}
 use Rattle.mo_syntax.specs.declared.expr.CalleeOf.TheVariants.{Named, Der as der, Initial, Pure}
 use Rattle.mo_syntax.specs.declared.expr.Expr.{Expr}
@@ -19,7 +20,7 @@ use Rattle.mo_scope.specs.Rows.{Table}
 use Rattle.mo_scope.specs.Sizes.{is_nothing}
 use Rattle.mo_typing.specs.Dims.{Dims, dims_of, is_scalar, scalars, with_scalar}
 use Rattle.mo_typing.specs.Kinds.{is_among, kind_of}
-use Rattle.mo_typing.specs.Outcome.{Outcome, each}
+use Rattle.mo_typing.specs.Outcome.{each}
 use Rattle.mo_typing.specs.Subscripts.{Checked, fine, subscripts_of}
 use Rattle.mo_values.specs.Asked.{checked_operands, is_whole, argument_of_size, operand, read_in}
 use Rattle.mo_values.specs.Made.{derivative_of, known_number, takes}

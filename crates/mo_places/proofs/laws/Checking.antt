@@ -2,11 +2,11 @@
 -- stand.
 use Rattle.std.proofs.Common.{ℕ, Bool, true, false, ◌&&◌, List, [], ◌∷◌, ◌++◌, map, filter, length, Option, Some, None, nat_lt, if◌then◌else◌}
 use Rattle.std.specs.List.{list_any}
+use Rattle.mo_syntax.specs.Outcome.{breach}
 use Rattle.mo_syntax.specs.declared.class.Element.{Element}
 use Rattle.mo_syntax.specs.declared.place.Broken.{Broken}
 use Rattle.mo_syntax.specs.declared.place.Place.{Place}
 use Rattle.mo_syntax.specs.ClassTable.{path_eq}
-use Rattle.mo_scope.specs.Outcome.{breach}
 use Rattle.mo_scope.specs.Rows.{Table, Row, row_at, Declares, Clause, clauses_in, elements_in, is_class}
 use Rattle.mo_scope.specs.Frames.{Frame, Member, Origin, Own_of, Constraint_of, Elsewhere, Source, class_of, sources_of}
 use Rattle.mo_scope.specs.Parts.{declared_in}
@@ -26,6 +26,7 @@ use Rattle.mo_places.proofs.laws.Naming.{final_stands, walk_of_stands}
 use Rattle.mo_places.proofs.laws.Passing.{BrokenStands, ClaimStands, least_stands, or_later_stands, second_pass_answers, unless_answers}
 use Rattle.mo_places.proofs.laws.Speaking.{SpokenStands, spoken_in_stands}
 use Rattle.mo_places.proofs.laws.Redeclaring.{each_checked_answers, redeclarations_answer}
+use Rattle.mo_syntax.specs.declared.rules.TheConstants.{PROTECTED_ELEMENT, FINAL_MODIFIED, MODIFIED_ELEMENT_NOT_FOUND, MODIFIED_TWICE}
 
 module _ (P : Written → Type 0) (table : Table) (stands : TableStands P table) where
   abbrev Fine : Checked → Type 0
@@ -95,17 +96,17 @@ module _ (P : Written → Type 0) (table : Table) (stands : TableStands P table)
 
   member_stands : (spoken : Spoken) (member : Member) → SpokenStands P spoken → AllBroken (broken_member spoken member)
   member_stands spoken member h =
-      every_append (BrokenStands P) (breach_if (spoken.source.piece.outside && member.hidden) 17 spoken.place) (breach_if member.declares.flags.last 22 spoken.place)
+      every_append (BrokenStands P) (breach_if (spoken.source.piece.outside && member.hidden) PROTECTED_ELEMENT spoken.place) (breach_if member.declares.flags.last FINAL_MODIFIED spoken.place)
       (breach_stands (spoken.source.piece.outside && member.hidden) 17 spoken.place h.place)
       (breach_stands member.declares.flags.last 22 spoken.place h.place)
 
   found_stands : (is_replaced : List ℕ → Bool) (walked : Walked) (spoken : Spoken) (member : Option Member) → SpokenStands P spoken → AllBroken (broken_found is_replaced walked spoken member)
   found_stands is_replaced walked spoken (Some member) h = member_stands spoken member h
-  found_stands is_replaced walked spoken None h = if_list (BrokenStands P) (is_known is_replaced walked spoken) [] (breach 20 spoken.place ∷ []) tt (h.place, tt)
+  found_stands is_replaced walked spoken None h = if_list (BrokenStands P) (is_known is_replaced walked spoken) [] (breach MODIFIED_ELEMENT_NOT_FOUND spoken.place ∷ []) tt (h.place, tt)
 
   against_stands : (own claims : List Claim) → Every (ClaimStands P) claims → AllBroken (broken_against own claims)
   against_stands own claims h =
-      every_flat_map (BrokenStands P) (λ (one : Claim). breach_if (list_any (λ (other : Claim). path_eq other.path one.path) own) 21 one.place) claims
+      every_flat_map (BrokenStands P) (λ (one : Claim). breach_if (list_any (λ (other : Claim). path_eq other.path one.path) own) MODIFIED_TWICE one.place) claims
       (every_weaker (ClaimStands P) _ (λ one hp. breach_stands (list_any (λ (other : Claim). path_eq other.path one.path) own) 21 one.place hp) claims h)
 
   constraint_stands : (frame : Frame) (origin : Origin) (claims : List Claim) → Every (ClaimStands P) claims → AllBroken (broken_constraint table frame origin claims)

@@ -1,16 +1,17 @@
 -- What stands in the flat model for what is chosen and what is named breaks a rule only where these stand.
 use Rattle.std.proofs.Common.{ℕ, zero, suc, ◌-◌, Bool, List, [], ◌∷◌, Option, Some, None, Ok, if◌then◌else◌}
 use Rattle.std.specs.Prelude.{slice_get}
+use Rattle.mo_syntax.specs.Outcome.{Outcome, and_then, breaks}
 use Rattle.mo_syntax.specs.declared.expr.Expr.{Expr}
 use Rattle.mo_syntax.specs.declared.meaning.Kind.{Kind}
 use Rattle.mo_flat.specs.declared.expr.FlatExpr.{FlatExpr}
 use Rattle.mo_flat.specs.declared.expr.FlatExpr as flat
-use Rattle.mo_scope.specs.Outcome.{Outcome, and_then, breaks}
 use Rattle.mo_scope.specs.Rows.{Table}
 use Rattle.mo_scope.specs.Frames.{Indexed, Member, Scope, at_of}
 use Rattle.mo_scope.specs.Parts.{picked}
 use Rattle.mo_scope.specs.Names.{child_of_member, path_below}
 use Rattle.mo_scope.specs.Instances.{Chosen}
+use Rattle.mo_syntax.specs.declared.rules.TheConstants.{NO_VALUE}
 use Rattle.mo_typing.specs.Dims.{Dims}
 use Rattle.mo_typing.specs.Indices.{Index}
 use Rattle.mo_typing.specs.Kinds.{accepts}
@@ -113,7 +114,7 @@ module _ (P : Written → Type 0) (descends : Descends P) (layers : LayersStand 
       (child_of_member_stands P table stands member index hm) (λ child hc. record { holds = picked_stands P table stands child.sources [] hc.sources })
 
   abbrev bound : ℕ → Replacing → Element → Option Chosen → Outcome FlatExpr
-  bound left replace element None = breaks 28 element.place
+  bound left replace element None = breaks NO_VALUE element.place
   bound left replace element (Some binding) = flat_chosen table left replace element.kind (fitted (place_of binding.value) binding.pending) binding
 
   bound_answers : (left : ℕ) (replace : Replacing) → ReplacesWell replace → (element : Element) → ElementStands P element → (binding : Option Chosen) → IfAny (PickedStands P) binding →

@@ -1,13 +1,14 @@
 -- The variables of the flat model stand where the instances do, and a rule that their attributes and bindings break is broken at what is
 -- chosen for them.
 use Rattle.std.proofs.Common.{ℕ, ◌&&◌, List, [], ◌∷◌, length, Option, Some, None, Ok, nat_eq, if◌then◌else◌}
+use Rattle.mo_syntax.specs.Outcome.{Outcome, breaks}
 use Rattle.mo_syntax.specs.declared.meaning.Kind.{Kind}
 use Rattle.mo_syntax.specs.declared.meaning.Role.{Role}
 use Rattle.mo_syntax.specs.declared.meaning.Role.TheVariants.{Constant, Parameter, Given, Unknown}
 use Rattle.mo_syntax.specs.declared.place.Place.{Place}
 use Rattle.mo_flat.specs.declared.expr.FlatExpr.{FlatExpr}
-use Rattle.mo_scope.specs.Outcome.{Outcome, breaks}
 use Rattle.mo_scope.specs.Instances.{Chosen}
+use Rattle.mo_syntax.specs.declared.rules.TheConstants.{WRONG_SIZE, WRONG_TYPE}
 use Rattle.mo_typing.specs.Dims.{Dims, are_equal}
 use Rattle.mo_typing.specs.Kinds.{accepts}
 use Rattle.mo_typing.specs.Outcome.{each}
@@ -34,10 +35,10 @@ module _ (P : Written → Type 0) where
   abbrev Sure : Unit {0} → Type 0
   Sure = Anything {A = Unit {0}}
 
-  sized_answers : (place : Place) (sizes dims : Dims) → P (At place) → Answers P Sure (if nat_eq (length sizes) (length dims) then (if are_equal sizes dims then fine else breaks 31 place) else breaks 33 place)
+  sized_answers : (place : Place) (sizes dims : Dims) → P (At place) → Answers P Sure (if nat_eq (length sizes) (length dims) then (if are_equal sizes dims then fine else breaks WRONG_SIZE place) else breaks WRONG_TYPE place)
   sized_answers place sizes dims hp =
-      if_answers P Sure (nat_eq (length sizes) (length dims)) (if are_equal sizes dims then fine else breaks 31 place) (breaks 33 place)
-      (if_answers P Sure (are_equal sizes dims) fine (breaks 31 place) (record { holds = tt }) (record { holds = hp }))
+      if_answers P Sure (nat_eq (length sizes) (length dims)) (if are_equal sizes dims then fine else breaks WRONG_SIZE place) (breaks WRONG_TYPE place)
+      (if_answers P Sure (are_equal sizes dims) fine (breaks WRONG_SIZE place) (record { holds = tt }) (record { holds = hp }))
       (record { holds = hp })
 
   fits_answers : (place : Place) (sizes dims : Dims) → P (At place) → Answers P Sure (fits_sizes place sizes dims)

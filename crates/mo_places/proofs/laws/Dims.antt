@@ -2,13 +2,13 @@
 use Rattle.std.proofs.Common.{ℕ, ℤ, pos, negsuc, Bool, true, false, ◌&&◌, List, [], ◌∷◌, ◌++◌, map, length, Option, Some, None, Ok, sym, ap, subst}
 use Rattle.std.specs.Ordering.{int_eq}
 use Rattle.std.specs.Prelude.{fold, nat_eq, nat_lt}
+use Rattle.mo_syntax.specs.Outcome.{Outcome, and_then}
 use Rattle.mo_syntax.specs.declared.place.Place.{Place}
 use Rattle.mo_tables.specs.declared.functions.TheConstants.{ATAN2, CROSS, MAX, MIN, NDIMS, PRODUCT, SUM, TRANSPOSE}
 use Rattle.mo_flat.specs.declared.array.ArrayExpr.{ArrayExpr, ArrayExpr-F, fold-roll-ArrayExpr, ind-ArrayExpr, map-ArrayExpr, roll-ArrayExpr}
 use Rattle.mo_flat.specs.declared.array.ArrayNode.{ArrayNode, ArrayNode-F, fold-roll-ArrayNode, map-ArrayNode, roll-ArrayNode}
 use Rattle.mo_typing.specs.Dims.{Dims, Operand, Part, added, alike, are_equal, branch_dims, call, chain, condition, crossed, dims_node, dims_of, dims_of_all, dims_of_branches, dims_of_node, dims_part, filled, inner_matched, is_scalar, largest, matched, matrix_product, multiplied, operand, operands_of, part_of, raised, range, range_count, scalar, scalars, size, sizes_of, spread, times, transposed, with_alike, with_operand, with_scalar}
 use Rattle.mo_typing.specs.Kinds.{is_among, takes_sizes}
-use Rattle.mo_typing.specs.Outcome.{Outcome, and_then}
 use Rattle.mo_places.specs.Resolved.{ArrayNodeStands, ArrayStands, PlaceStands, in_array, in_array_node, in_branches, in_number, in_parts, in_signed, places_in_array, places_in_array_node}
 use Rattle.mo_places.specs.Stands.{Answers, Anything, Every}
 use Rattle.mo_places.specs.Written.{Written, At}

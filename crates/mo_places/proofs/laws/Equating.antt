@@ -1,6 +1,7 @@
 -- Equations between expressions, asserts, conditions and ranges break a rule only where they and their expressions stand, and the scalar
 -- equations stand where the equation does.
 use Rattle.std.proofs.Common.{ℕ, ℤ, Bool, true, false, ◌&&◌, List, [], ◌∷◌, ◌++◌, map, flat_map, Option, Some, None, Ok, if◌then◌else◌}
+use Rattle.mo_syntax.specs.Outcome.{Outcome, and_then}
 use Rattle.mo_syntax.specs.declared.expr.Arg.{Arg, Arg-F, out-Arg}
 use Rattle.mo_syntax.specs.declared.expr.Args.{Args, out-Args}
 use Rattle.mo_syntax.specs.declared.expr.Expr.{Expr}
@@ -12,8 +13,8 @@ use Rattle.mo_flat.specs.declared.array.ArrayExpr.{ArrayExpr}
 use Rattle.mo_flat.specs.declared.expr.FlatExpr.{FlatExpr}
 use Rattle.mo_flat.specs.declared.model.FlatAssert.{FlatAssert}
 use Rattle.mo_flat.specs.declared.model.FlatEquation.{FlatEquation}
-use Rattle.mo_scope.specs.Outcome.{Outcome, and_then}
 use Rattle.mo_scope.specs.Frames.{Scope}
+use Rattle.mo_syntax.specs.declared.rules.TheConstants.{WRONG_TYPE, CONDITION_NOT_BOOLEAN}
 use Rattle.mo_typing.specs.Dims.{Dims, dims_of, matched}
 use Rattle.mo_typing.specs.Indices.{Index, indices, numbers_to}
 use Rattle.mo_typing.specs.Kinds.{accepts, is_number, kind_of}
@@ -135,8 +136,8 @@ module _ (P : Written → Type 0) where
       argument_answers : (scope : Scope) (kind : Kind) (e : Expr) → FrameStands P scope.frame → P (Valued e) → Answers P (Anything {A = FlatExpr}) (flat_argument tree scope kind e)
       argument_answers scope kind e hf he =
           expression_answers P descends layers tree.classes stands reads most_references (replacing tree) (replaces P descends layers tree stands reads)
-          (λ got. accepts kind got (place_of e)) (only_scalar 33 (place_of e)) scope e [] hf he
-          (λ got. accepts_answers P kind got (place_of e) (place_stands e he)) (only_scalar_answers P 33 (place_of e) (place_stands e he))
+          (λ got. accepts kind got (place_of e)) (only_scalar WRONG_TYPE (place_of e)) scope e [] hf he
+          (λ got. accepts_answers P kind got (place_of e) (place_stands e he)) (only_scalar_answers P WRONG_TYPE (place_of e) (place_stands e he))
 
       with_answers : (scope : Scope) (condition message : Expr) (level : Outcome (Option FlatExpr)) → FrameStands P scope.frame → P (Valued condition) → P (Valued message) →
           Answers P (Anything {A = Option FlatExpr}) level → Answers P (Anything {A = FlatAssert}) (assert_with tree scope condition message level)
@@ -209,17 +210,17 @@ module _ (P : Written → Type 0) where
       pub condition_answer : (scope : Scope) (e : Expr) → FrameStands P scope.frame → P (Valued e) → Answers P (Anything {A = FlatExpr}) (flat_condition tree scope e)
       condition_answer scope e hf he =
           expression_answers P descends layers tree.classes stands reads most_references (replacing tree) (replaces P descends layers tree stands reads)
-          (only_truth 40 (place_of e)) (only_scalar 40 (place_of e)) scope e [] hf he (only_truth_answers P 40 (place_of e) (place_stands e he)) (only_scalar_answers P 40 (place_of e) (place_stands e he))
+          (only_truth CONDITION_NOT_BOOLEAN (place_of e)) (only_scalar CONDITION_NOT_BOOLEAN (place_of e)) scope e [] hf he (only_truth_answers P CONDITION_NOT_BOOLEAN (place_of e) (place_stands e he)) (only_scalar_answers P CONDITION_NOT_BOOLEAN (place_of e) (place_stands e he))
 
-      truth_of_answer : (place : Place) (it : Resolved) → P (At place) → ResolvedStands P it → Answers P (Anything {A = Known}) (truth_of (reader (reading tree.classes most_references)) 40 place it)
+      truth_of_answer : (place : Place) (it : Resolved) → P (At place) → ResolvedStands P it → Answers P (Anything {A = Known}) (truth_of (reader (reading tree.classes most_references)) CONDITION_NOT_BOOLEAN place it)
       truth_of_answer place it hp h =
-          then_answers P Sure (Anything {A = Known}) (layered (only_truth 40 place) (only_scalar 40 place) it.expression) _
-          (layered_answers P layers Sure (only_truth 40 place) (only_scalar 40 place) it.expression h.expression (only_truth_answers P 40 place hp) (only_scalar_answers P 40 place hp))
+          then_answers P Sure (Anything {A = Known}) (layered (only_truth CONDITION_NOT_BOOLEAN place) (only_scalar CONDITION_NOT_BOOLEAN place) it.expression) _
+          (layered_answers P layers Sure (only_truth CONDITION_NOT_BOOLEAN place) (only_scalar CONDITION_NOT_BOOLEAN place) it.expression h.expression (only_truth_answers P CONDITION_NOT_BOOLEAN place hp) (only_scalar_answers P CONDITION_NOT_BOOLEAN place hp))
           (λ u v. reads.known most_references it [] h)
 
       pub known_answer : (scope : Scope) (e : Expr) → FrameStands P scope.frame → P (Valued e) → Answers P (Anything {A = Known}) (condition_known tree scope e)
       known_answer scope e hf he =
-          then_answers P (ResolvedStands P) (Anything {A = Known}) (resolved_for_value tree.classes most_references scope e) (truth_of (reader (reading tree.classes most_references)) 40 (place_of e))
+          then_answers P (ResolvedStands P) (Anything {A = Known}) (resolved_for_value tree.classes most_references scope e) (truth_of (reader (reading tree.classes most_references)) CONDITION_NOT_BOOLEAN (place_of e))
           (reads.for_value most_references scope e hf he) (λ it h. truth_of_answer (place_of e) it (place_stands e he) h)
 
       numbers_answer : (it : Resolved) (place : Place) (n : ℕ) → ResolvedStands P it → P (At place) → Answers P (Anything {A = List ℤ}) (numbers_of (known_of tree.classes most_references it) place n)

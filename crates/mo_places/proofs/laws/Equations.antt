@@ -1,6 +1,7 @@
 -- What the equations of sections give stands where the sections stand, and a rule that they break is broken at such a place, or at the name
 -- of the asked class.
 use Rattle.std.proofs.Common.{ℕ, ◌+◌, Bool, true, false, ◌&&◌, not, List, [], ◌∷◌, map, flat_map, Option, Some, None, Ok, sym, subst, nat_lt}
+use Rattle.mo_syntax.specs.Outcome.{Outcome, and_then, breaks}
 use Rattle.mo_syntax.specs.declared.equation.EquationKind.{EquationKind, EquationKind-F, fold-roll-EquationKind, ind-EquationKind, map-EquationKind, out-EquationKind, out-roll-EquationKind, roll-EquationKind}
 use Rattle.mo_syntax.specs.declared.equation.EquationOf.{EquationOf}
 use Rattle.mo_syntax.specs.declared.expr.Args.{Args}
@@ -8,8 +9,8 @@ use Rattle.mo_syntax.specs.declared.expr.Expr.{Expr}
 use Rattle.mo_syntax.specs.declared.expr.IndexOf.{IndexOf}
 use Rattle.mo_syntax.specs.declared.expr.ReferenceOf.{ReferenceOf}
 use Rattle.mo_syntax.specs.declared.place.Place.{Place}
-use Rattle.mo_scope.specs.Outcome.{Outcome, and_then, breaks}
 use Rattle.mo_scope.specs.Frames.{Scope}
+use Rattle.mo_syntax.specs.declared.rules.TheConstants.{OUTSIDE_PROFILE}
 use Rattle.mo_values.specs.declared.value.Scalar.TheVariants.{Literal, Truth, Whole}
 use Rattle.mo_values.specs.Scalars.{Known}
 use Rattle.mo_equations.specs.Leaves.{Tree, place_of_root}
@@ -243,7 +244,7 @@ module _ (P : Written → Type 0) where
     form_stands : (y : EquationKind-F Kept) → Every P (in_kind (map-EquationKind Kept EquationKind (λ kept. kept.0) y)) →
         FormerStands (made_form tree (map-EquationKind EquationKind Former (made_kind tree) (map-EquationKind Kept EquationKind (λ kept. kept.0) y)))
     form_stands (EquationKind-F.Equal left right) h place site hp hf = equal_stands place site left right hp hf h.0 h.1.0
-    form_stands (EquationKind-F.When branches) h place site hp hf = turn_outcome Made_stands (breaks 34 place) (record { holds = hp })
+    form_stands (EquationKind-F.When branches) h place site hp hf = turn_outcome Made_stands (breaks OUTSIDE_PROFILE place) (record { holds = hp })
     form_stands (EquationKind-F.Connect left right) h place site hp hf =
         connect_stands place site left right hp hf (every_front P (in_name left) (in_name right) h) (every_back P (in_name left) (in_name right) h)
     form_stands (EquationKind-F.Call called arguments) h place site hp hf =
@@ -289,12 +290,12 @@ module _ (P : Written → Type 0) where
     parts_stand false made h = record { initial = record { equations = tt; connects = tt }; usual = h }
 
     abbrev placed_by : Placed → Section → Turning Parts
-    placed_by placed Left_out = turn_none (breaks 34 placed.name)
+    placed_by placed Left_out = turn_none (breaks OUTSIDE_PROFILE placed.name)
     placed_by placed (Equations initial equations) =
         turn_then (made_section tree (record { frame = placed.frame; iterations = [] }) equations) (λ made. turn_none (Ok (parts_of initial made)))
 
     by_section : (placed : Placed) (section : Section) → FrameStands P placed.frame → P (At placed.name) → SectionStands P section → TurnStands PartsStand (placed_by placed section)
-    by_section placed Left_out hf hn h = turn_outcome PartsStand (breaks 34 placed.name) (record { holds = hn })
+    by_section placed Left_out hf hn h = turn_outcome PartsStand (breaks OUTSIDE_PROFILE placed.name) (record { holds = hn })
     by_section placed (Equations initial equations) hf hn h =
         turn_behind Made_stands PartsStand (made_section tree (record { frame = placed.frame; iterations = [] }) equations) (λ made. turn_none (Ok (parts_of initial made)))
         (section_stands (record { frame = placed.frame; iterations = [] }) equations hf h)

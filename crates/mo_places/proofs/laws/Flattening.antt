@@ -2,6 +2,7 @@
 -- line, where no class has the path.
 use Rattle.std.proofs.Common.{◌≡◌, ℕ, inl, inr, Bool, true, false, List, [], ◌∷◌, flat_map, Option, Some, None, Ok, Err, sym, ap, subst, ◌∙◌, if◌then◌else◌}
 use Rattle.std.specs.Prelude.{option_map}
+use Rattle.mo_syntax.specs.Outcome.{Outcome, breaks}
 use Rattle.mo_syntax.specs.declared.class.FileTree.{FileTree}
 use Rattle.mo_syntax.specs.declared.place.Broken.{Broken}
 use Rattle.mo_syntax.specs.Classes.{ClassRow, Declaration, Declared, Component, Class}
@@ -9,7 +10,6 @@ use Rattle.mo_syntax.specs.ClassTable.{broken_class, class_of_path, declarations
 use Rattle.mo_flat.specs.declared.connect.Expanded.{Expanded}
 use Rattle.mo_flat.specs.declared.connect.FaceSet.{FaceSet}
 use Rattle.mo_flat.specs.declared.model.FlatModel.{FlatModel}
-use Rattle.mo_scope.specs.Outcome.{Outcome, breaks}
 use Rattle.mo_scope.specs.Rows.{table_of}
 use Rattle.mo_connect.specs.Equations.{equations_of}
 use Rattle.mo_equations.specs.Size.{is_too_large}
@@ -23,6 +23,7 @@ use Rattle.mo_places.specs.MadeStands.{EquationStands, ExpandedStands, ModelStan
 use Rattle.mo_places.proofs.laws.Standing.{every_append, if_answers}
 use Rattle.mo_places.proofs.laws.Trees.{DeclarationStands, DeclaredStands, declarations_stand}
 use Rattle.mo_places.proofs.laws.Connecting.{first_broken_stands, sets_stand}
+use Rattle.mo_syntax.specs.declared.rules.TheConstants.{FLAT_MODEL_TOO_LARGE, WRONG_KIND_OF_NAME, CLASS_NOT_FOUND}
 
 module _ (P : Written → Type 0) where
   -- ---- connections and the size
@@ -36,7 +37,7 @@ module _ (P : Written → Type 0) where
   }
 
   within_stands : (m : FlatModel) → ModelStands P m → Answers P (ModelStands P) (within_size m)
-  within_stands m h = if_answers P (ModelStands P) (is_too_large m) (breaks 41 m.place) (Ok m) (record { holds = h.place }) (record { holds = h })
+  within_stands m h = if_answers P (ModelStands P) (is_too_large m) (breaks FLAT_MODEL_TOO_LARGE m.place) (Ok m) (record { holds = h.place }) (record { holds = h })
 
   told_as : (told other : Outcome FlatModel) → told ≡ other → Answers P (ModelStands P) other → Answers P (ModelStands P) told
   told_as told other is h = subst (Answers P (ModelStands P)) (sym is) h
@@ -73,7 +74,7 @@ module _ (P : Written → Type 0) where
   broken_in : (row : ClassRow) (b : Broken) → RowStand row → broken_class (Some row) ≡ Some b → P (At b.place)
   broken_in row b h is = subst (IfAny (λ (x : Broken). P (At x.place))) is (unless (is_flattened row.class.kind))
     where
-      unless : (flattened : Bool) → IfAny (λ (x : Broken). P (At x.place)) (if flattened then None else Some (record { rule = 13; place = row.class.place }))
+      unless : (flattened : Bool) → IfAny (λ (x : Broken). P (At x.place)) (if flattened then None else Some (record { rule = WRONG_KIND_OF_NAME; place = row.class.place }))
       unless true = tt
       unless false = h.0
 
@@ -89,7 +90,7 @@ module _ (P : Written → Type 0) where
   module _ (files : List FileTree) (all : Every P (places_in_files files))
       (expands : (class : ℕ) → HasRow (table_of files) class → Answers P (ExpandedStands P) (expansion_in files class)) where
     refused : (o : Option ClassRow) (b : Broken) (told : Outcome FlatModel) → IfAny RowStand o → broken_class o ≡ Some b → told ≡ Err b → ToldStands P told
-    refused None b told h is at = inr (at ∙ ap Err (sym (same_some (record { rule = 11; place = nowhere }) b is)))
+    refused None b told h is at = inr (at ∙ ap Err (sym (same_some (record { rule = CLASS_NOT_FOUND; place = nowhere }) b is)))
     refused (Some row) b told h is at = inl (told_as told (Err b) at (record { holds = broken_in row b h is }))
 
     -- what is told of a class with a row

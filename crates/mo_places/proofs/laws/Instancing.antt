@@ -1,11 +1,11 @@
 -- The instances of a class stand where the class table stands, and a rule that is broken on the way is broken at such a place, or at the
 -- name of the asked class.
 use Rattle.std.proofs.Common.{ℕ, zero, suc, Bool, ◌&&◌, ◌||◌, not, List, [], ◌∷◌, ◌++◌, find, length, Option, Some, None, Ok, Err, nat_lt}
+use Rattle.mo_syntax.specs.Outcome.{Outcome, breaks}
 use Rattle.mo_syntax.specs.declared.class.ComponentOf.{ComponentOf}
 use Rattle.mo_syntax.specs.declared.class.Give.{Give}
 use Rattle.mo_syntax.specs.declared.place.Place.{Place}
 use Rattle.mo_syntax.specs.Classes.{Home, Under, Inside, Apart}
-use Rattle.mo_scope.specs.Outcome.{Outcome, breaks}
 use Rattle.mo_scope.specs.Rows.{Table, Row, row_at, Declares, component_of, is_class}
 use Rattle.mo_scope.specs.Frames.{Frame, Top, Member, sources_of}
 use Rattle.mo_scope.specs.Parts.{Redeclaration, first_of, picked}
@@ -15,6 +15,7 @@ use Rattle.mo_scope.specs.Compatible.{prefix_of}
 use Rattle.mo_scope.specs.Redeclarations.{fine}
 use Rattle.mo_scope.specs.Instances.{Chosen, Instance}
 use Rattle.mo_flat.specs.Text.{attribute_name}
+use Rattle.mo_syntax.specs.declared.rules.TheConstants.{OUTSIDE_PROFILE, FLAT_MODEL_TOO_LARGE}
 use Rattle.mo_typing.specs.Dims.{Dims}
 use Rattle.mo_typing.specs.Indices.{Index, indices}
 use Rattle.mo_eval.specs.Values.{component_dims, most_references, there_of}
@@ -62,7 +63,7 @@ module _ (P : Written → Type 0) (descends : Descends P) (table : Table) (stand
       Answers P (IfAny (LeafStands P)) (leaf_in table around member frame leaf)
   leaf_in_stands around member frame None hm hf hl = no_leaf_stands (picked table (sources_of frame) []) (binding_stands frame hf)
   leaf_in_stands around member frame (Some leaf) hm hf hl =
-      if_answers P (IfAny (LeafStands P)) (is_free around.vary && not (is_real (kind_of_leaf leaf))) (breaks 34 member.declares.place) (Ok (Some (leaf_made table around frame leaf)))
+      if_answers P (IfAny (LeafStands P)) (is_free around.vary && not (is_real (kind_of_leaf leaf))) (breaks OUTSIDE_PROFILE member.declares.place) (Ok (Some (leaf_made table around frame leaf)))
       (record { holds = hm.declares.place })
       (record { holds = record { attributes = attributes_stand leaf hl; binding = binding_stands frame hf } })
 
@@ -120,7 +121,7 @@ module _ (P : Written → Type 0) (descends : Descends P) (table : Table) (stand
       (one_more so_far (instance_of member sizes frame leaf) (record { frame = hf; place = hm.declares.place; leaf = hl }) hs))
 
   room_answers : (asked : Place) (so_far : List Instance) → P (At asked) → Answers P (Anything {A = Unit {0}}) (room_for_one asked so_far)
-  room_answers asked so_far ha = if_answers P (Anything {A = Unit {0}}) (nat_lt most_instances (length so_far)) (breaks 41 asked) fine (record { holds = ha }) (record { holds = tt })
+  room_answers asked so_far ha = if_answers P (Anything {A = Unit {0}}) (nat_lt most_instances (length so_far)) (breaks FLAT_MODEL_TOO_LARGE asked) fine (record { holds = ha }) (record { holds = tt })
 
   element_stands : (parts : Parts) (around : Around) (member : Member) (sizes : Dims) (index : Index) → PartsStand parts → P (At around.asked) → MemberStands P member →
       AddingStands (element_entered table parts around member sizes index)
@@ -137,7 +138,7 @@ module _ (P : Written → Type 0) (descends : Descends P) (table : Table) (stand
   component_entered_stands : (deeper : Deeper) (around : Around) (member : Member) → DeeperStands deeper → P (At around.asked) → MemberStands P member → AddingStands (component_entered table deeper around member)
   component_entered_stands deeper around member hd ha hm so_far hs =
       then_answers P (Anything {A = Unit {0}}) AllStand (prefix_in_profile member.declares.place (prefix_of table member)) _
-      (if_answers P (Anything {A = Unit {0}}) ((prefix_of table member).stream || is_discrete (prefix_of table member).vary) (breaks 34 member.declares.place) fine (record { holds = hm.declares.place }) (record { holds = tt })) (λ u v.
+      (if_answers P (Anything {A = Unit {0}}) ((prefix_of table member).stream || is_discrete (prefix_of table member).vary) (breaks OUTSIDE_PROFILE member.declares.place) fine (record { holds = hm.declares.place }) (record { holds = tt })) (λ u v.
       then_answers P (ChildStands P) AllStand (child_of_member table member []) _ (child_of_member_stands P table stands member [] hm) (λ child hc.
       then_answers P (Anything {A = Dims}) AllStand (component_dims table most_references member) _ (dims member hm) (λ sizes w.
       then_answers P PartsStand AllStand (deeper member.declares.place) _ (hd member.declares.place hm.declares.place) (λ parts hp.

@@ -1,13 +1,14 @@
 -- A rule of kinds is broken at a place of the expression.
 use Rattle.std.proofs.Common.{ℕ, Bool, ◌||◌, List, [], ◌∷◌, ◌++◌, map, flat_map, length, Option, Some, None, Ok, sym, subst, nat_eq, if◌then◌else◌}
 use Rattle.std.specs.Prelude.{fold}
+use Rattle.mo_syntax.specs.Outcome.{Outcome, and_then, breaks}
 use Rattle.mo_syntax.specs.declared.meaning.Kind.{Kind}
 use Rattle.mo_syntax.specs.declared.meaning.Kind.TheVariants.{Real, Whole, Truth, Str, Enumeration}
 use Rattle.mo_syntax.specs.declared.place.Place.{Place}
+use Rattle.mo_syntax.specs.declared.rules.TheConstants.{WRONG_ENUMERATION, WRONG_TYPE}
 use Rattle.mo_tables.specs.declared.functions.TheConstants.{ABS, ATAN2, CROSS, MAX, MIN, NDIMS, NO_EVENT, PRODUCT, SUM, TRANSPOSE}
 use Rattle.mo_flat.specs.declared.array.ArrayExpr.{ArrayExpr, ArrayExpr-F, fold-roll-ArrayExpr, ind-ArrayExpr, map-ArrayExpr, out-ArrayExpr, roll-ArrayExpr, roll-out-ArrayExpr}
 use Rattle.mo_flat.specs.declared.array.ArrayNode.{ArrayNode, ArrayNode-F, fold-roll-ArrayNode, map-ArrayNode, roll-ArrayNode}
-use Rattle.mo_scope.specs.Outcome.{Outcome, and_then, breaks}
 use Rattle.mo_typing.specs.declared.agree.Shared.{Shared}
 use Rattle.mo_typing.specs.declared.agree.Shared.TheVariants.{Unseen, Alike, Different}
 use Rattle.mo_typing.specs.Kinds.{Part, alike, are_enumerations, arithmetic, both, both_numeric, branch_kind, call, call_of_one, call_of_two, common, condition, divided, is_among, is_number, is_truth, joined, kept, kind_node, kind_of, kind_of_node, kind_part, kinds_of, kinds_of_branches, logical, number, numeric, or_breaks, part_of, raised, real_of, relation, settled, sum_of, takes_sizes, truth, wider, with_number, with_truth}
@@ -38,9 +39,9 @@ module _ (P : Written → Type 0) where
     number_fine : (kind : Kind) → Fine (number place kind)
     number_fine Real = any_ok P Real
     number_fine Whole = any_ok P Whole
-    number_fine (Enumeration class) = any_broken 39 place hp
-    number_fine Truth = any_broken 33 place hp
-    number_fine Str = any_broken 33 place hp
+    number_fine (Enumeration class) = any_broken WRONG_ENUMERATION place hp
+    number_fine Truth = any_broken WRONG_TYPE place hp
+    number_fine Str = any_broken WRONG_TYPE place hp
 
     arithmetic_fine : (kinds : List Kind) → Fine (arithmetic place kinds)
     arithmetic_fine kinds =
@@ -48,7 +49,7 @@ module _ (P : Written → Type 0) where
         (Ok Whole) kinds (any_ok P Whole)
 
     truth_fine : (kind : Kind) → Fine (truth place kind)
-    truth_fine kind = any_if (is_truth kind) (Ok Truth) (breaks 33 place) (any_ok P Truth) (any_broken 33 place hp)
+    truth_fine kind = any_if (is_truth kind) (Ok Truth) (breaks WRONG_TYPE place) (any_ok P Truth) (any_broken WRONG_TYPE place hp)
 
     logical_fine : (kinds : List Kind) → Fine (logical place kinds)
     logical_fine kinds = any_fold (with_truth place) (λ o kind h. any_then P o (λ _. truth place kind) h (λ a. truth_fine kind)) (Ok Truth) kinds (any_ok P Truth)
@@ -56,7 +57,7 @@ module _ (P : Written → Type 0) where
     settled_fine : (shared : Shared) → Fine (settled place shared)
     settled_fine Unseen = any_ok P Real
     settled_fine (Alike kind) = any_ok P kind
-    settled_fine Different = any_broken 33 place hp
+    settled_fine Different = any_broken WRONG_TYPE place hp
 
     alike_fine : (kinds : List Kind) → Fine (alike place kinds)
     alike_fine kinds = settled_fine (fold joined Unseen kinds)
@@ -66,16 +67,16 @@ module _ (P : Written → Type 0) where
     or_fine (Some kind) rule = any_ok P kind
 
     relation_fine : (a b : Kind) → Fine (relation place a b)
-    relation_fine a b = any_then P (or_breaks (common a b) (if are_enumerations a b then 39 else 33) place) (λ _. Ok Truth) (or_fine (common a b) (if are_enumerations a b then 39 else 33)) (λ k. any_ok P Truth)
+    relation_fine a b = any_then P (or_breaks (common a b) (if are_enumerations a b then WRONG_ENUMERATION else WRONG_TYPE) place) (λ _. Ok Truth) (or_fine (common a b) (if are_enumerations a b then WRONG_ENUMERATION else WRONG_TYPE)) (λ k. any_ok P Truth)
 
     numeric_fine : (kind : Kind) → Fine (numeric place kind)
-    numeric_fine kind = any_if (is_number kind) (Ok kind) (breaks 33 place) (any_ok P kind) (any_broken 33 place hp)
+    numeric_fine kind = any_if (is_number kind) (Ok kind) (breaks WRONG_TYPE place) (any_ok P kind) (any_broken WRONG_TYPE place hp)
 
     real_fine : (kind : Kind) → Fine (real_of place kind)
     real_fine kind = any_then P (numeric place kind) (λ _. Ok Real) (numeric_fine kind) (λ k. any_ok P Real)
 
     kept_fine : (kind : Kind) → Fine (kept place kind)
-    kept_fine kind = any_if (is_number kind || is_truth kind) (Ok kind) (breaks 33 place) (any_ok P kind) (any_broken 33 place hp)
+    kept_fine kind = any_if (is_number kind || is_truth kind) (Ok kind) (breaks WRONG_TYPE place) (any_ok P kind) (any_broken WRONG_TYPE place hp)
 
     call_one_fine : (function : ℕ) (kind : Kind) → Fine (call_of_one place function kind)
     call_one_fine function kind =
@@ -83,7 +84,7 @@ module _ (P : Written → Type 0) where
         (any_if (nat_eq function TRANSPOSE) _ _ (any_ok P kind)
         (any_if (nat_eq function NO_EVENT) _ _ (kept_fine kind)
         (any_if (is_among (ABS ∷ PRODUCT ∷ SUM ∷ []) function) _ _ (numeric_fine kind)
-        (any_if (is_among (ATAN2 ∷ CROSS ∷ MAX ∷ MIN ∷ []) function) _ _ (any_broken 33 place hp) (real_fine kind)))))
+        (any_if (is_among (ATAN2 ∷ CROSS ∷ MAX ∷ MIN ∷ []) function) _ _ (any_broken WRONG_TYPE place hp) (real_fine kind)))))
 
     both_numeric_fine : (a b : Kind) → Fine (both_numeric place a b)
     both_numeric_fine a b =
@@ -92,19 +93,19 @@ module _ (P : Written → Type 0) where
     call_two_fine : (function : ℕ) (a b : Kind) → Fine (call_of_two place function a b)
     call_two_fine function a b =
         any_if (is_among (CROSS ∷ MAX ∷ MIN ∷ []) function) _ _ (both_numeric_fine a b)
-        (any_if (nat_eq function ATAN2) _ _ (any_then P (numeric place a) (λ _. real_of place b) (numeric_fine a) (λ x. real_fine b)) (any_broken 33 place hp))
+        (any_if (nat_eq function ATAN2) _ _ (any_then P (numeric place a) (λ _. real_of place b) (numeric_fine a) (λ x. real_fine b)) (any_broken WRONG_TYPE place hp))
 
     call_fine : (function : ℕ) (kinds : List Kind) → Fine (call place function kinds)
-    call_fine function [] = any_broken 33 place hp
+    call_fine function [] = any_broken WRONG_TYPE place hp
     call_fine function (a ∷ []) = call_one_fine function a
     call_fine function (a ∷ b ∷ []) = call_two_fine function a b
-    call_fine function (a ∷ b ∷ c ∷ kinds) = any_broken 33 place hp
+    call_fine function (a ∷ b ∷ c ∷ kinds) = any_broken WRONG_TYPE place hp
 
     raised_fine : (a b : Kind) → Fine (raised place a b)
     raised_fine a b = any_then P (arithmetic place (a ∷ b ∷ [])) (λ _. Ok Real) (arithmetic_fine (a ∷ b ∷ [])) (λ k. any_ok P Real)
 
-    takes_fine : (function count : ℕ) (kind : Kind) → Fine (if takes_sizes function count then Ok kind else breaks 33 place)
-    takes_fine function count kind = any_if (takes_sizes function count) (Ok kind) (breaks 33 place) (any_ok P kind) (any_broken 33 place hp)
+    takes_fine : (function count : ℕ) (kind : Kind) → Fine (if takes_sizes function count then Ok kind else breaks WRONG_TYPE place)
+    takes_fine function count kind = any_if (takes_sizes function count) (Ok kind) (breaks WRONG_TYPE place) (any_ok P kind) (any_broken WRONG_TYPE place hp)
 
   -- ---- expressions
 
@@ -249,7 +250,7 @@ module _ (P : Written → Type 0) where
   layer_fine (ArrayNode-F.Size part at) place hp h = any_then P (kind_of part.0) (λ _. Ok Whole) (whole_fine part (front (places_in_array part.0) _ h)) (λ k. any_ok P Whole)
   layer_fine (ArrayNode-F.Sized function None sizes) place hp h = takes_fine place hp function (length sizes) Whole
   layer_fine (ArrayNode-F.Sized function (Some part) sizes) place hp h =
-      any_then P (kind_of part.0) (λ kind. if takes_sizes function (length sizes) then Ok kind else breaks 33 place) (whole_fine part (front (places_in_array part.0) _ h)) (takes_fine place hp function (length sizes))
+      any_then P (kind_of part.0) (λ kind. if takes_sizes function (length sizes) then Ok kind else breaks WRONG_TYPE place) (whole_fine part (front (places_in_array part.0) _ h)) (takes_fine place hp function (length sizes))
 
   expression_fine : (y : ArrayExpr-F NodeAt ExprAt) → Holds (roll-ArrayExpr (map-ArrayExpr NodeAt ExprAt ArrayNode ArrayExpr (λ t. t.0) (λ t. t.0) y))
   unfolding Holds HoldsIn

@@ -1,14 +1,15 @@
 -- What is asked of the kind, the dimensions and the subscripts of a resolved expression, and of its value, stands where the expression does:
 -- what these laws of kinds, dimensions, subscripts and walks say is gathered here, for the laws on what is resolved.
 use Rattle.std.proofs.Common.{ℕ, [], ◌∷◌, Some, None, Ok}
+use Rattle.mo_syntax.specs.Outcome.{Outcome}
 use Rattle.mo_syntax.specs.declared.meaning.Kind.{Kind}
 use Rattle.mo_syntax.specs.declared.meaning.Kind.TheVariants.{Real, Whole as whole_kind, Truth as truth_kind, Str, Enumeration}
 use Rattle.mo_syntax.specs.declared.place.Place.{Place}
 use Rattle.mo_flat.specs.declared.array.ArrayExpr.{ArrayExpr}
+use Rattle.mo_syntax.specs.declared.rules.TheConstants.{WRONG_TYPE}
 use Rattle.mo_typing.specs.Dims.{Dims, dims_of, is_scalar}
 use Rattle.mo_typing.specs.Indices.{Index}
 use Rattle.mo_typing.specs.Kinds.{kind_of}
-use Rattle.mo_typing.specs.Outcome.{Outcome}
 use Rattle.mo_typing.specs.Subscripts.{Checked, subscripts_of}
 use Rattle.mo_values.specs.Asked.{any_kind, layered, must_be_truth, must_be_whole, only_scalar, only_truth, only_whole, scalar_or_vector}
 use Rattle.mo_eval.specs.Contexts.{truth_of, whole_of}
@@ -71,8 +72,8 @@ module _ (P : Written → Type 0) (layers : LayersStand P) where
       then_answers P Q Q (fit dims) _ (hf dims) (λ fitted hq.
       then_answers P Anything Q (subscripts_of e) _ (layers.subscripts e h) (λ _ _. record { holds = hq })))))
 
-  pub whole_scalar_answers : (place : Place) → P (At place) → (e : ArrayExpr) → ArrayStands P e → Answers P Anything (layered (only_whole place) (only_scalar 33 place) e)
-  whole_scalar_answers place hp e h = layered_answers Anything (only_whole place) (only_scalar 33 place) e h (only_whole_answers P place hp) (only_scalar_answers P 33 place hp)
+  pub whole_scalar_answers : (place : Place) → P (At place) → (e : ArrayExpr) → ArrayStands P e → Answers P Anything (layered (only_whole place) (only_scalar WRONG_TYPE place) e)
+  whole_scalar_answers place hp e h = layered_answers Anything (only_whole place) (only_scalar WRONG_TYPE place) e h (only_whole_answers P place hp) (only_scalar_answers P WRONG_TYPE place hp)
 
   pub whole_vector_answers : (place : Place) → P (At place) → (e : ArrayExpr) → ArrayStands P e → Answers P Anything (layered (only_whole place) (scalar_or_vector place) e)
   whole_vector_answers place hp e h = layered_answers Anything (only_whole place) (scalar_or_vector place) e h (only_whole_answers P place hp) (scalar_or_vector_answers P place hp)
@@ -82,7 +83,7 @@ module _ (P : Written → Type 0) (layers : LayersStand P) where
 
   pub whole_of_answers : (read : Element → Outcome Known) → ReadStands P read → (place : Place) → P (At place) → (resolved : Resolved) → ResolvedStands P resolved → Answers P Anything (whole_of read place resolved)
   whole_of_answers read hr place hp resolved h =
-      then_answers P Anything Anything (layered (only_whole place) (only_scalar 33 place) resolved.expression) _ (whole_scalar_answers place hp resolved.expression h.expression) (λ _ _.
+      then_answers P Anything Anything (layered (only_whole place) (only_scalar WRONG_TYPE place) resolved.expression) _ (whole_scalar_answers place hp resolved.expression h.expression) (λ _ _.
       then_answers P Anything Anything (known_at read resolved []) _ (layers.known read hr resolved h []) (λ known _. must_be_whole_answers P place hp known))
 
   pub truth_of_answers : (read : Element → Outcome Known) → ReadStands P read → (rule : ℕ) (place : Place) → P (At place) → (resolved : Resolved) → ResolvedStands P resolved → Answers P Anything (truth_of read rule place resolved)

@@ -1,7 +1,8 @@
 -- What is made of expressions stands, step by step.
 use Rattle.std.proofs.Common.{ℕ, Bool, true, false, List, [], ◌∷◌, Ok, Err, if◌then◌else◌}
 use Rattle.std.specs.Prelude.{fold}
-use Rattle.mo_typing.specs.Outcome.{Outcome, and_then, each, breaks}
+use Rattle.mo_syntax.specs.Outcome.{Outcome, and_then, breaks}
+use Rattle.mo_typing.specs.Outcome.{each}
 use Rattle.mo_eval.specs.Contexts.{Part, alone}
 use Rattle.mo_eval.specs.Virtuals.{Making, Virtual, make, make_each, make_from, make_then, make_variables}
 use Rattle.mo_values.specs.declared.context.Context.{Context}

@@ -1,6 +1,7 @@
 -- What is asked of the conditions and the dimensions of components stands.
 use Rattle.std.proofs.Common.{◌≡◌, ℕ, ◌+◌, refl, List, [], ◌∷◌, ◌++◌, map, length, Option, Some, None}
 use Rattle.std.specs.Prelude.{nat_eq, take}
+use Rattle.mo_syntax.specs.Outcome.{Outcome}
 use Rattle.mo_syntax.specs.declared.class.ComponentOf.{ComponentOf}
 use Rattle.mo_syntax.specs.declared.class.Give.{Give}
 use Rattle.mo_syntax.specs.declared.expr.Expr.{Expr}
@@ -12,7 +13,6 @@ use Rattle.mo_scope.specs.Rows.{Table, Sort, A_class, A_component, Declares, com
 use Rattle.mo_scope.specs.Sizes.{Sizes, declared_sizes, or_original, sizes_if, sizes_in, type_sizes}
 use Rattle.mo_typing.specs.Dims.{Dims}
 use Rattle.mo_typing.specs.Indices.{Index, is_index}
-use Rattle.mo_typing.specs.Outcome.{Outcome}
 use Rattle.mo_eval.specs.Components.{binding_dims, binding_of, dim_at, dims_behind, dims_from, dims_of_component, each_dim, is_there, place_of, reader, written_dim}
 use Rattle.mo_values.specs.Asked.{any_kind, for_value}
 use Rattle.mo_eval.specs.Contexts.{whole_of}

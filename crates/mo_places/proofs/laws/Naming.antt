@@ -1,6 +1,7 @@
 -- Elements, children and what the names of expressions and types find stand where the class table and the frame stand, and a rule that
 -- they break is broken at such a place or at the name that asks.
 use Rattle.std.proofs.Common.{◌≡◌, ℕ, suc, ◌+◌, length, arith, Bool, false, ◌||◌, List, [], ◌∷◌, map, find, Option, Some, None, Ok, refl}
+use Rattle.mo_syntax.specs.Outcome.{Outcome}
 use Rattle.mo_syntax.specs.declared.expr.Expr.{Expr}
 use Rattle.mo_syntax.specs.declared.expr.PartOf.{PartOf}
 use Rattle.mo_syntax.specs.declared.expr.ReferenceOf.{ReferenceOf}
@@ -8,7 +9,6 @@ use Rattle.mo_syntax.specs.declared.class.ComponentOf.{ComponentOf}
 use Rattle.mo_syntax.specs.declared.class.Give.{Give}
 use Rattle.mo_syntax.specs.declared.place.Place.{Place}
 use Rattle.mo_places.specs.Written.{Written, At}
-use Rattle.mo_scope.specs.Outcome.{Outcome}
 use Rattle.mo_places.specs.TreeWritten.{nowhere, places_of_parts}
 use Rattle.mo_places.specs.Stands.{ChildStands, InnerStands, Every, IfAny, RowStands, Answers, NameStands, SortStands, ClauseStands, TableStands, FrameStands, MemberStands, RedeclarationStands, FoundStands, ReachedStands, WalkedStands}
 use Rattle.mo_scope.specs.Rows.{Table, Row, row_at, Sort, A_class, A_component, Declares, is_class, is_constant, component_of, Clause, number_of_classes}

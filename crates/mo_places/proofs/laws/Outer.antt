@@ -1,7 +1,7 @@
 -- A rule that an outer component breaks is broken where the component and the class table stand.
 use Rattle.std.proofs.Common.{[], Ok, Err, nat_eq}
+use Rattle.mo_syntax.specs.Outcome.{breaks}
 use Rattle.mo_syntax.specs.declared.place.Place.{Place}
-use Rattle.mo_scope.specs.Outcome.{breaks}
 use Rattle.mo_scope.specs.Rows.{Table}
 use Rattle.mo_scope.specs.Frames.{Member}
 use Rattle.mo_scope.specs.Names.{child_of_member, component_frame, inner_of}
@@ -13,6 +13,7 @@ use Rattle.mo_places.specs.Stands.{ChildStands, InnerStands, Anything, Answers, 
 use Rattle.mo_places.proofs.laws.Standing.{if_answers, then_answers}
 use Rattle.mo_places.proofs.laws.Naming.{child_of_member_stands, component_frame_stands, inner_of_stands}
 use Rattle.mo_places.proofs.laws.Comparing.{compatible_answers}
+use Rattle.mo_syntax.specs.declared.rules.TheConstants.{INNER_DIFFERS, NOT_COMPATIBLE}
 
 module _ (P : Written → Type 0) where
   abbrev Sure : Unit {0} → Type 0
@@ -20,7 +21,7 @@ module _ (P : Written → Type 0) where
 
   differing_answers : (place : Place) (checked : Checked) → P (At place) → Answers P Sure checked → Answers P Sure (as_differing place checked)
   differing_answers place (Ok done) hp h = record { holds = tt }
-  differing_answers place (Err broken) hp h = if_answers P Sure (nat_eq broken.rule 25) (breaks 46 place) (Err broken) (record { holds = hp }) (record { holds = h.holds })
+  differing_answers place (Err broken) hp h = if_answers P Sure (nat_eq broken.rule NOT_COMPATIBLE) (breaks INNER_DIFFERS place) (Err broken) (record { holds = hp }) (record { holds = h.holds })
 
   module _ (table : Table) (stands : TableStands P table) where
     matched_answers : (outer inner : Member) → MemberStands P outer → MemberStands P inner → Answers P Sure (is_matched table outer inner)

@@ -1,8 +1,8 @@
 -- A rule that the redeclarations of a frame break is broken where the frame and the class table stand.
 use Rattle.std.proofs.Common.{ℕ, false, List, [], ◌∷◌, Option, Some, None, Ok, is_some, if◌then◌else◌}
+use Rattle.mo_syntax.specs.Outcome.{Outcome, and_then, breaks}
 use Rattle.mo_syntax.specs.declared.class.ComponentOf.{ComponentOf}
 use Rattle.mo_syntax.specs.declared.class.Give.{Give}
-use Rattle.mo_scope.specs.Outcome.{Outcome, and_then, breaks}
 use Rattle.mo_scope.specs.Rows.{Table, Constraint, is_class, component_of}
 use Rattle.mo_scope.specs.Frames.{Frame, Scope, Member, sources_of}
 use Rattle.mo_scope.specs.Parts.{Redeclaration, with_list}
@@ -19,6 +19,7 @@ use Rattle.mo_places.proofs.laws.Finding.{ClassedStands, asking_of_stands, class
 use Rattle.mo_places.proofs.laws.Naming.{component_stands}
 use Rattle.mo_places.proofs.laws.Comparing.{compatible_answers}
 use Rattle.mo_places.proofs.laws.Speaking.{SpokenStands, spoken_in_stands}
+use Rattle.mo_syntax.specs.declared.rules.TheConstants.{WRONG_REPLACEABLE}
 
 pub each_checked_answers : {A : Type 0} (P : Written → Type 0) (check : A → Checked) (xs : List A) → Every (λ x. Answers P (Anything {A = Unit {0}}) (check x)) xs → Answers P (Anything {A = Unit {0}}) (each_checked check xs)
 each_checked_answers P check [] h = record { holds = tt }
@@ -75,13 +76,13 @@ module _ (P : Written → Type 0) (table : Table) (stands : TableStands P table)
 
   abbrev checked_by : Walked → Redeclaration → Option Member → Checked
   checked_by walked redeclaration (Some member) = redeclaration_checked table member redeclaration
-  checked_by walked redeclaration None = if is_some walked.leaf then breaks 24 redeclaration.place else fine
+  checked_by walked redeclaration None = if is_some walked.leaf then breaks WRONG_REPLACEABLE redeclaration.place else fine
 
   checked_by_answers : (walked : Walked) (redeclaration : Redeclaration) (member : Option Member) → RedeclarationStands P redeclaration → IfAny (MemberStands P) member →
       Answers P (Anything {A = Unit {0}}) (checked_by walked redeclaration member)
   checked_by_answers walked redeclaration (Some member) h hm = redeclaration_answers member redeclaration hm h
   checked_by_answers walked redeclaration None h hm =
-      if_answers P (Anything {A = Unit {0}}) (is_some walked.leaf) (breaks 24 redeclaration.place) fine (record { holds = h.place }) (record { holds = tt })
+      if_answers P (Anything {A = Unit {0}}) (is_some walked.leaf) (breaks WRONG_REPLACEABLE redeclaration.place) fine (record { holds = h.place }) (record { holds = tt })
 
   redeclaration_in_answers : (walked : Walked) (name : List ℕ) → WalkedStands P walked → (redeclaration : Redeclaration) → RedeclarationStands P redeclaration →
       Answers P (Anything {A = Unit {0}}) (redeclaration_in table walked name redeclaration)

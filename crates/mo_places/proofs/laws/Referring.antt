@@ -2,6 +2,7 @@
 use Rattle.std.proofs.Common.{◌≡◌, ℕ, false, refl, List, [], ◌∷◌, length, Option, Some, None}
 use Rattle.std.specs.List.{list_all}
 use Rattle.std.specs.Prelude.{nat_eq}
+use Rattle.mo_syntax.specs.Outcome.{Outcome, and_then}
 use Rattle.mo_syntax.specs.declared.expr.PartOf.{PartOf}
 use Rattle.mo_syntax.specs.declared.expr.ReferenceOf.{ReferenceOf}
 use Rattle.mo_syntax.specs.declared.place.Place.{Place}
@@ -14,7 +15,7 @@ use Rattle.mo_scope.specs.Rows.{Table}
 use Rattle.mo_scope.specs.Sizes.{is_nothing}
 use Rattle.mo_typing.specs.Dims.{Dims}
 use Rattle.mo_typing.specs.Indices.{Index, numbers_to}
-use Rattle.mo_typing.specs.Outcome.{Outcome, and_then, each}
+use Rattle.mo_typing.specs.Outcome.{each}
 use Rattle.mo_typing.specs.Subscripts.{is_within, subscript, subscripts}
 use Rattle.mo_eval.specs.Contexts.{Part, alone, place_of}
 use Rattle.mo_values.specs.Asked.{layered, must_be_whole, only_whole, scalar_or_vector, subscript_of}

@@ -1,11 +1,11 @@
 -- Expressions for the flat model break a rule only where what they are resolved to and what their names stand for break it.
 use Rattle.std.proofs.Common.{ℕ, Bool, List, [], ◌∷◌, map, Ok, sym, subst}
+use Rattle.mo_syntax.specs.Outcome.{Outcome, and_then}
 use Rattle.mo_syntax.specs.declared.expr.Expr.{Expr}
 use Rattle.mo_syntax.specs.declared.meaning.Kind.{Kind}
 use Rattle.mo_syntax.specs.declared.place.Place.{Place}
 use Rattle.mo_flat.specs.declared.expr.FlatExpr.{FlatExpr, FlatExpr-F, fold-roll-FlatExpr, ind-FlatExpr, map-FlatExpr, roll-FlatExpr}
 use Rattle.mo_flat.specs.declared.expr.FlatExpr as flat
-use Rattle.mo_scope.specs.Outcome.{Outcome, and_then}
 use Rattle.mo_scope.specs.Frames.{Scope}
 use Rattle.mo_scope.specs.Rows.{Table}
 use Rattle.mo_typing.specs.Outcome.{each}

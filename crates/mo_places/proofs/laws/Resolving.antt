@@ -1,5 +1,6 @@
 -- What is made of each form of an expression stands where what is made of its parts does.
 use Rattle.std.proofs.Common.{◌≡◌, ℕ, pos, Bool, true, false, ◌&&◌, not, refl, List, [], ◌∷◌, Option, Some, None}
+use Rattle.mo_syntax.specs.Outcome.{Outcome, and_then}
 use Rattle.mo_syntax.specs.declared.expr.BranchOf.{BranchOf}
 use Rattle.mo_syntax.specs.declared.expr.FactorOf.{FactorOf}
 use Rattle.mo_syntax.specs.declared.expr.ReferenceOf.{ReferenceOf}
@@ -12,8 +13,8 @@ use Rattle.mo_scope.specs.Frames.{Scope}
 use Rattle.mo_scope.specs.Lookup.{Found, Component, Class, Iteration, Function}
 use Rattle.mo_scope.specs.Lookup.{Literal as found_literal, Time as found_time}
 use Rattle.mo_scope.specs.Rows.{Table}
+use Rattle.mo_syntax.specs.declared.rules.TheConstants.{WRONG_TYPE}
 use Rattle.mo_typing.specs.Dims.{dims_of}
-use Rattle.mo_typing.specs.Outcome.{Outcome, and_then}
 use Rattle.mo_eval.specs.Contexts.{Part, alone, place_of, read_element, truth_of}
 use Rattle.mo_values.specs.Asked.{layered, only_scalar, only_whole, operand, read_in}
 use Rattle.mo_eval.specs.References.{Named, Components, Found_at, is_replaced, named}
@@ -118,7 +119,7 @@ module _ (P : Written → Type 0) (descends : Descends P) (layers : LayersStand 
   read_end_answers : (context : Context) (part : Part) → PartStands P part → Answers P Anything (read_end read context part)
   read_end_answers context part h =
       then_answers P (ResolvedStands P) Anything (alone part (read_in context)) _ (alone_stands P part (read_in context) h) (λ resolved hr.
-      then_answers P Anything Anything (layered (only_whole (place_of part)) (only_scalar 33 (place_of part)) resolved.expression) _
+      then_answers P Anything Anything (layered (only_whole (place_of part)) (only_scalar WRONG_TYPE (place_of part)) resolved.expression) _
       (whole_scalar_answers P layers (place_of part) (part_place part h) resolved.expression hr.expression) (λ _ _. layers.known read reads resolved hr []))
 
   read_step_answers : (context : Context) (step : Option Part) → IfAny (PartStands P) step → Answers P Anything (read_step read context step)
@@ -165,8 +166,8 @@ module _ (P : Written → Type 0) (descends : Descends P) (layers : LayersStand 
   choice_makes context [] other h ho =
       then_makes P (ArrayStands P) (ChoiceStands P) (make_part context other) _ (part_makes P context other ho) (λ value hv. makes P (ChoiceStands P) ([], value) (tt, hv))
   choice_makes context (branch ∷ branches) other h ho =
-      then_makes P Anything (ChoiceStands P) (make_from (and_then (alone branch.condition (read_in context)) (truth_of read 33 (place_of branch.condition)))) (decided_by context branch (made_choice read context branches other))
-      (from_makes P Anything (and_then (alone branch.condition (read_in context)) (truth_of read 33 (place_of branch.condition)))
+      then_makes P Anything (ChoiceStands P) (make_from (and_then (alone branch.condition (read_in context)) (truth_of read WRONG_TYPE (place_of branch.condition)))) (decided_by context branch (made_choice read context branches other))
+      (from_makes P Anything (and_then (alone branch.condition (read_in context)) (truth_of read WRONG_TYPE (place_of branch.condition)))
       (then_answers P (ResolvedStands P) Anything (alone branch.condition (read_in context)) _ (alone_stands P branch.condition (read_in context) h.0.0)
       (λ resolved hr. truth_of_answers P layers read reads 33 (place_of branch.condition) (part_place branch.condition h.0.0) resolved hr)))
       (λ known _. decided_makes context branch (made_choice read context branches other) h.0.0 h.0.1 (choice_makes context branches other h.1 ho) known)

@@ -1,6 +1,7 @@
 -- The elements that a reference selects stand, and so does what it hands in.
 use Rattle.std.proofs.Common.{Bool, true, false, List, [], ◌∷◌, map, Option, Some, None, if◌then◌else◌}
 use Rattle.std.specs.Prelude.{is_ok}
+use Rattle.mo_syntax.specs.Outcome.{and_then}
 use Rattle.mo_syntax.specs.declared.expr.PartOf.{PartOf}
 use Rattle.mo_syntax.specs.declared.meaning.Kind.{Kind}
 use Rattle.mo_syntax.specs.declared.place.Place.{Place}
@@ -11,7 +12,7 @@ use Rattle.mo_scope.specs.Names.{child_of_member, component_frame, walk_of}
 use Rattle.mo_scope.specs.Rows.{Table}
 use Rattle.mo_typing.specs.Dims.{Dims, are_equal, subscripted}
 use Rattle.mo_typing.specs.Indices.{Index}
-use Rattle.mo_typing.specs.Outcome.{and_then, each}
+use Rattle.mo_typing.specs.Outcome.{each}
 use Rattle.mo_typing.specs.Subscripts.{subscripts}
 use Rattle.mo_eval.specs.Contexts.{Part, read_element}
 use Rattle.mo_eval.specs.References.{Selection, agrees, component_behind, elements_below, elements_selected, every, handed_in, is_inside, is_replaced, joined, kind_accepted, kind_among, last_of, leaf_kind, made_reference, selections, there, virtual_elements}

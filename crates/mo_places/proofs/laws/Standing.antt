@@ -1,8 +1,8 @@
 -- What holds of each element of a list, and of what outcomes answer.
 use Rattle.std.proofs.Common.{ℕ, zero, suc, Bool, true, false, cond, List, [], ◌∷◌, ◌++◌, map, flat_map, filter, drop, find, Some, None, Ok, Err, if◌then◌else◌}
 use Rattle.mo_places.specs.Written.{Written}
-use Rattle.mo_scope.specs.Outcome.{Outcome, and_then}
 use Rattle.mo_places.specs.Stands.{Every, IfAny, Answers}
+use Rattle.mo_syntax.specs.Outcome.{Outcome, and_then}
 
 pub every_append : {A : Type 0} (P : A → Type 0) (xs ys : List A) → Every P xs → Every P ys → Every P (xs ++ ys)
 every_append P [] ys hx hy = hy

@@ -1,11 +1,11 @@
 -- A rule that the value of a resolved expression breaks is broken at a place in it, or where one of its variables breaks it.
 use Rattle.std.proofs.Common.{ℕ, Bool, true, false, List, [], ◌∷◌, ◌++◌, map, take, drop, length, Some, None, Ok}
 use Rattle.std.specs.Prelude.{◌-◌, fold, nat_eq}
+use Rattle.mo_syntax.specs.Outcome.{Outcome, and_then}
 use Rattle.mo_syntax.specs.declared.meaning.Kind.{Kind}
 use Rattle.mo_syntax.specs.declared.place.Place.{Place}
 use Rattle.mo_tables.specs.declared.functions.TheConstants.{ABS, CROSS, MAX, MIN, NDIMS, NO_EVENT, PRODUCT, SUM, TRANSPOSE}
 use Rattle.mo_typing.specs.Indices.{Index, first_number, indices, numbers_to, own}
-use Rattle.mo_typing.specs.Outcome.{Outcome, and_then}
 use Rattle.mo_typing.specs.Shape.{is_matrix_factor, multiplied, or_scalar, shape_of}
 use Rattle.mo_values.specs.Scalars.{Known, chained, division, divided_by, has_values, known_from, of_known, of_number, product_with, read_all, settled, sum_with, truth_eq}
 use Rattle.mo_values.specs.Walk.{Chain, Factor, Part, all_results, at, both, branch_reads, call, crossed_at, extended, inner_product, number, on_both, operand_of, read_as, result_at, sum_at, undecided_behind}

@@ -1,9 +1,9 @@
 -- What is told of the classes in files stands in the files.
 use Rattle.std.proofs.Common.{ℕ, List, Option, Some, sym, subst}
+use Rattle.mo_syntax.specs.Outcome.{Outcome, and_then}
 use Rattle.mo_syntax.specs.declared.class.FileTree.{FileTree}
 use Rattle.mo_flat.specs.declared.connect.Expanded.{Expanded}
 use Rattle.mo_flat.specs.declared.model.FlatModel.{FlatModel}
-use Rattle.mo_scope.specs.Outcome.{Outcome, and_then}
 use Rattle.mo_scope.specs.Rows.{Row, Table, table_of}
 use Rattle.mo_values.specs.Asked.{for_flat}
 use Rattle.mo_eval.specs.Values.{most_references}

@@ -3,14 +3,15 @@
 use Rattle.std.proofs.Common.{◌≡◌, ℕ, suc, zero, ◌+◌, ℤ, Bool, true, false, ◌||◌, List, [], ◌∷◌, map, find, Option, Some, None, Ok, refl, if◌then◌else◌, codes}
 use Rattle.std.specs.List.{list_any}
 use Rattle.std.specs.Str.{bytes_eq}
+use Rattle.mo_syntax.specs.Outcome.{Outcome, and_then, breaks}
 use Rattle.mo_syntax.specs.declared.expr.Expr.{Expr}
 use Rattle.mo_syntax.specs.declared.expr.PartOf.{PartOf}
 use Rattle.mo_syntax.specs.declared.expr.ReferenceOf.{ReferenceOf}
 use Rattle.mo_syntax.specs.declared.class.Import.{Import}
 use Rattle.mo_syntax.specs.declared.class.Import.TheVariants.{Renamed, Named, Group, All as Star}
 use Rattle.mo_syntax.specs.declared.place.Place.{Place}
+use Rattle.mo_syntax.specs.declared.rules.TheConstants.{PROTECTED_ELEMENT}
 use Rattle.mo_tables.specs.Words.{code_in, functions}
-use Rattle.mo_scope.specs.Outcome.{Outcome, and_then, breaks}
 use Rattle.mo_scope.specs.TreePlaces.{places_of_parts}
 use Rattle.mo_scope.specs.Places.{Every, IfAny, Answers, AskingStands, NameStands, DeclaresStand, ClauseStands, PartStands, ImportStands, RowStands, TableStands, FrameStands, MemberStands, RedeclarationStands, FoundStands, ReachedStands, WalkedStands}
 use Rattle.mo_scope.specs.Rows.{Table, Row, row_at, number_of_classes, Part, Element_of, Base_of, Declares, Clause, is_class, class_number, elements_in, top_classes, is_encapsulated, is_left_out}
@@ -155,7 +156,7 @@ module _ (P : Place → Type 0) (table : Table) (stands : TableStands P table) w
       Answers P (FoundStands P) (behind_class table asking ask place component frame name)
   behind_class_stands asking ask place component frame name ha hask hp hc hf = by component hc
     where
-      open_element : (member : Member) → MemberStands P member → Answers P (FoundStands P) (if member.hidden then breaks 17 place else met table frame member)
+      open_element : (member : Member) → MemberStands P member → Answers P (FoundStands P) (if member.hidden then breaks PROTECTED_ELEMENT place else met table frame member)
       open_element member hm = if_answers P (FoundStands P) member.hidden _ _ (record { holds = hp }) (met_stands frame member hf hm)
 
       by : (component : Option Place) → IfAny P component → Answers P (FoundStands P) (behind_class table asking ask place component frame name)

@@ -1,13 +1,13 @@
 -- Elements, children and what the names of expressions and types find stand where the class table and the frame stand, and a rule that
 -- they break is broken at such a place or at the name that asks.
 use Rattle.std.proofs.Common.{◌≡◌, ℕ, suc, ◌+◌, length, arith, Bool, false, ◌||◌, List, [], ◌∷◌, map, find, Option, Some, None, Ok, refl}
+use Rattle.mo_syntax.specs.Outcome.{Outcome}
 use Rattle.mo_syntax.specs.declared.expr.Expr.{Expr}
 use Rattle.mo_syntax.specs.declared.expr.PartOf.{PartOf}
 use Rattle.mo_syntax.specs.declared.expr.ReferenceOf.{ReferenceOf}
 use Rattle.mo_syntax.specs.declared.class.ComponentOf.{ComponentOf}
 use Rattle.mo_syntax.specs.declared.class.Give.{Give}
 use Rattle.mo_syntax.specs.declared.place.Place.{Place}
-use Rattle.mo_scope.specs.Outcome.{Outcome}
 use Rattle.mo_scope.specs.TreePlaces.{nowhere, places_of_parts}
 use Rattle.mo_scope.specs.Places.{Every, IfAny, RowStands, Answers, NameStands, SortStands, DeclaresStand, ClauseStands, TableStands, FrameStands, SourceStands, MemberStands, RedeclarationStands, FoundStands, ReachedStands, WalkedStands}
 use Rattle.mo_scope.specs.Rows.{Table, Row, row_at, Sort, A_class, A_component, Declares, is_class, is_constant, component_of, Clause, number_of_classes}

@@ -1,9 +1,9 @@
 -- The number in the elements of frames: once it is greater than the number of classes whose bases are not being found, a greater number
 -- changes nothing.
 use Rattle.std.proofs.Common.{◌≡◌, ℕ, zero, suc, ◌+◌, ◌<◌, ◌≤◌, Bool, true, false, ◌||◌, List, [], ◌∷◌, ◌++◌, length, Option, Some, None, nat_eq, refl, sym, ap, ◌∙◌, arith, eqb-true, eq-eqb}
+use Rattle.mo_syntax.specs.Outcome.{Outcome}
 use mathlib.Core.Path.{fun_ext}
 use Rattle.mo_syntax.specs.declared.place.Place.{Place}
-use Rattle.mo_scope.specs.Outcome.{Outcome}
 use Rattle.mo_scope.specs.Rows.{Table, Row, row_at, number_of_classes}
 use Rattle.mo_scope.specs.Frames.{Frame, class_of}
 use Rattle.mo_scope.specs.Lookup.{Walked, contains, walked, walked_by, walked_class, with_busy}

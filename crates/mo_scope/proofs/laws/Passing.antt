@@ -1,5 +1,7 @@
 -- A rule that the arguments of sources break is broken where the sources and the class table stand.
 use Rattle.std.proofs.Common.{◌≡◌, ℕ, Bool, true, false, ◌||◌, List, [], ◌∷◌, ◌++◌, map, flat_map, Option, Some, None, is_some, nat_lt, refl, ap, sym, subst, ◌∙◌, if◌then◌else◌}
+use Rattle.mo_syntax.specs.Outcome.{breach}
+use Rattle.mo_syntax.specs.declared.rules.TheConstants.{MODIFIED_TWICE, FINAL_MODIFIED, WRONG_EACH}
 use mathlib.Core.Path.{fun_ext}
 use Rattle.mo_syntax.specs.declared.class.ArgumentOf.{ArgumentOf}
 use Rattle.mo_syntax.specs.declared.class.Body.{Body}
@@ -9,7 +11,7 @@ use Rattle.mo_syntax.specs.declared.class.Item.{Item}
 use Rattle.mo_syntax.specs.declared.class.What.{What}
 use Rattle.mo_syntax.specs.declared.place.Broken.{Broken}
 use Rattle.mo_syntax.specs.declared.place.Place.{Place}
-use Rattle.mo_scope.specs.Outcome.{breach, unless_broken}
+use Rattle.mo_scope.specs.Outcome.{unless_broken}
 use Rattle.mo_scope.specs.TreePlaces.{places_in_give}
 use Rattle.mo_scope.specs.Places.{Every, IfAny, Answers, TableStands, ArgumentStands, DeclaresStand, SourceStands, GivenStands}
 use Rattle.mo_scope.specs.Rows.{Table, Declares}
@@ -123,15 +125,15 @@ module _ (P : Place → Type 0) where
   broken_claims_stand before after listing passed (one ∷ claims) h =
       every_append BrokenStands _ (broken_claims before after listing (passed ++ one ∷ []) claims)
       (every_append BrokenStands _ _
-      (if_list BrokenStands (is_repeated before listing one || is_among passed one) (breach 21 one.place ∷ []) [] (h.0, tt) tt)
-      (if_list BrokenStands (is_below_final after listing one) (breach 22 one.place ∷ []) [] (h.0, tt) tt))
+      (if_list BrokenStands (is_repeated before listing one || is_among passed one) (breach MODIFIED_TWICE one.place ∷ []) [] (h.0, tt) tt)
+      (if_list BrokenStands (is_below_final after listing one) (breach FINAL_MODIFIED one.place ∷ []) [] (h.0, tt) tt))
       (broken_claims_stand before after listing (passed ++ one ∷ []) claims h.1)
 
   broken_argument_stand : (before after : List Asked) (asked : Asked) → AskedStands asked → Every BrokenStands (broken_argument before after asked)
   broken_argument_stand before after asked h =
       every_append BrokenStands (broken_claims before after asked.listing [] asked.claims) _
       (broken_claims_stand before after asked.listing [] asked.claims h.claims)
-      (if_list BrokenStands asked.each (breach 23 asked.place ∷ []) [] (h.place, tt) tt)
+      (if_list BrokenStands asked.each (breach WRONG_EACH asked.place ∷ []) [] (h.place, tt) tt)
 
   if_broken : (b : Bool) (x y : Broken) → BrokenStands x → BrokenStands y → IfAny BrokenStands (if b then Some x else Some y)
   if_broken true x y hx hy = hx

@@ -4,6 +4,7 @@
 -- the definitions give.
 use Rattle.std.proofs.Common.{◌≡◌, inl, inr, List, [], ◌∷◌, Contains, Err, refl, ℕ, Bool}
 use Rattle.std.proofs.lemmas.List.Elements.{Contains-append_left, Contains-append_right, Contains-push}
+use Rattle.mo_syntax.specs.Outcome.{Outcome}
 use Rattle.mo_syntax.specs.declared.class.ArgumentOf.{ArgumentOf}
 use Rattle.mo_syntax.specs.declared.class.FileTree.{FileTree}
 use Rattle.mo_syntax.specs.declared.class.Give.{Give}
@@ -11,7 +12,6 @@ use Rattle.mo_syntax.specs.declared.expr.Expr.{Expr}
 use Rattle.mo_syntax.specs.declared.expr.ReferenceOf.{ReferenceOf}
 use Rattle.mo_syntax.specs.declared.place.Broken.{Broken}
 use Rattle.mo_syntax.specs.declared.place.Place.{Place}
-use Rattle.mo_scope.specs.Outcome.{Outcome}
 use Rattle.mo_scope.specs.TreePlaces.{nowhere, places_in_give, places_in_element, places_in_files}
 use Rattle.mo_scope.specs.Places.{Every, Answers, StandsIn, StandsInOrAsked, NameStands, ArgumentStands, ElementStands, ClauseStands, TableStands, GivenStands, FrameStands, SourcesStand, SourceStands, MemberStands}
 use Rattle.mo_scope.specs.Rows.{Clause, table_of}

@@ -1,11 +1,12 @@
 -- What may be found: classes behind components, protected elements, classes that are no packages, and constants.
 use Rattle.std.proofs.Common.{◌≡◌, [], ◌∷◌, Some, Ok, codes, refl}
-use Rattle.mo_scope.specs.Outcome.{breaks}
 use Rattle.mo_scope.specs.Rows.{Table}
 use Rattle.mo_scope.specs.Frames.{Top}
 use Rattle.mo_scope.specs.Lookup.{walked}
 use Rattle.mo_scope.specs.Names.{child_of, found, found_class}
 use Rattle.mo_scope.proofs.rows.Notation.{byte, id, name, hidden_flags, component, constant, class, class_by, row, plain, text_of, class_found, component_found}
+use Rattle.mo_syntax.specs.Outcome.{breaks}
+use Rattle.mo_syntax.specs.declared.rules.TheConstants.{WRONG_KIND_OF_NAME, PROTECTED_ELEMENT, NOT_A_PACKAGE, NAME_NOT_FOUND, NOT_A_CONSTANT}
 
 -- ---- a component in the name of a type
 
@@ -14,7 +15,7 @@ pub component_as_class : Table
 component_as_class = row 6 [] "M" 6 [] (component (name (id "a" 8 ∷ id "T" 10 ∷ [])) "a" 12 ∷ []) ∷ []
 
 -- rule 13 at the first identifier
-pub its_type_is_refused : child_of component_as_class (plain 6 Top) (codes "a") [] ≡ breaks 13 (byte 8)
+pub its_type_is_refused : child_of component_as_class (plain 6 Top) (codes "a") [] ≡ breaks WRONG_KIND_OF_NAME (byte 8)
 unfolding walked component_as_class
 its_type_is_refused = refl
 
@@ -33,7 +34,7 @@ unfolding walked with_protected
 public_is_found = refl
 
 -- behind a dot rule 17
-pub protected_is_refused : found_class with_protected (text_of (plain 9 Top)) (name (id "P" 72 ∷ id "B" 74 ∷ [])) ≡ breaks 17 (byte 74)
+pub protected_is_refused : found_class with_protected (text_of (plain 9 Top)) (name (id "P" 72 ∷ id "B" 74 ∷ [])) ≡ breaks PROTECTED_ELEMENT (byte 74)
 unfolding walked with_protected
 protected_is_refused = refl
 
@@ -52,12 +53,12 @@ no_package =
     row 8 [] "M" 44 [] (component (name (id "W" 46 ∷ id "A" 48 ∷ [])) "a" 50 ∷ []) ∷ []
 
 -- rule 16 at the identifier that is looked up in it
-pub no_package_is_refused : found_class no_package (text_of (plain 8 Top)) (name (id "W" 46 ∷ id "A" 48 ∷ [])) ≡ breaks 16 (byte 48)
+pub no_package_is_refused : found_class no_package (text_of (plain 8 Top)) (name (id "W" 46 ∷ id "A" 48 ∷ [])) ≡ breaks NOT_A_PACKAGE (byte 48)
 unfolding walked no_package
 no_package_is_refused = refl
 
 -- absent comes first
-pub absent_is_first : found_class no_package (text_of (plain 8 Top)) (name (id "W" 46 ∷ id "C" 60 ∷ [])) ≡ breaks 12 (byte 60)
+pub absent_is_first : found_class no_package (text_of (plain 8 Top)) (name (id "W" 46 ∷ id "C" 60 ∷ [])) ≡ breaks NAME_NOT_FOUND (byte 60)
 unfolding walked no_package
 absent_is_first = refl
 
@@ -74,7 +75,7 @@ unfolding walked around
 constant_is_found = refl
 
 -- what is no constant breaks rule 15 at its name
-pub variable_is_refused : found around (text_of (plain 7 (plain 6 Top))) (codes "d") (byte 66) ≡ breaks 15 (byte 66)
+pub variable_is_refused : found around (text_of (plain 7 (plain 6 Top))) (codes "d") (byte 66) ≡ breaks NOT_A_CONSTANT (byte 66)
 unfolding walked around
 variable_is_refused = refl
 

@@ -1,10 +1,11 @@
 -- The forms of imports.
 use Rattle.std.proofs.Common.{◌≡◌, ℕ, false, List, [], ◌∷◌, Some, Ok, codes, refl}
+use Rattle.mo_syntax.specs.Outcome.{Outcome, breaks}
 use Rattle.mo_syntax.specs.declared.class.Import.{Import}
 use Rattle.mo_syntax.specs.declared.class.Import.TheVariants.{Renamed, Named, Group, All as Star}
+use Rattle.mo_syntax.specs.declared.rules.TheConstants.{NAME_NOT_FOUND, PROTECTED_ELEMENT, IMPORTED_TWICE}
 use Rattle.mo_syntax.specs.declared.text.Path.{Path}
 use Rattle.mo_tables.specs.Words.{functions}
-use Rattle.mo_scope.specs.Outcome.{Outcome, breaks}
 use Rattle.mo_scope.specs.Rows.{Table}
 use Rattle.mo_scope.specs.Frames.{Top}
 use Rattle.mo_scope.specs.Lookup as lookup
@@ -40,7 +41,7 @@ pub renamed_is_found : class_found (in_M renamed (codes "D")) ≡ Ok (Some 7)
 unfolding walked renamed
 renamed_is_found = refl
 
-pub its_own_name_is_not : in_M renamed (codes "A") ≡ breaks 12 (byte 150)
+pub its_own_name_is_not : in_M renamed (codes "A") ≡ breaks NAME_NOT_FOUND (byte 150)
 unfolding walked renamed functions
 its_own_name_is_not = refl
 
@@ -54,7 +55,7 @@ unfolding walked qualified
 qualified_is_found = refl
 
 -- imports are not inherited
-pub inherits_no_import : found_class qualified (text_of (plain 10 Top)) (name (id "A" 220 ∷ [])) ≡ breaks 12 (byte 220)
+pub inherits_no_import : found_class qualified (text_of (plain 10 Top)) (name (id "A" 220 ∷ [])) ≡ breaks NAME_NOT_FOUND (byte 220)
 unfolding walked qualified functions
 inherits_no_import = refl
 
@@ -77,7 +78,7 @@ unfolding walked star
 star_is_found = refl
 
 -- a protected element is not found through it
-pub protected_is_not_found : in_M star (codes "C") ≡ breaks 12 (byte 150)
+pub protected_is_not_found : in_M star (codes "C") ≡ breaks NAME_NOT_FOUND (byte 150)
 unfolding walked star functions
 protected_is_not_found = refl
 
@@ -87,7 +88,7 @@ protected_is_not_found = refl
 pub of_protected : Table
 of_protected = with_import (Named (path (codes "P" ∷ codes "C" ∷ [])) (byte 115) ∷ [])
 
-pub protected_import_is_refused : in_M of_protected (codes "C") ≡ breaks 17 (byte 115)
+pub protected_import_is_refused : in_M of_protected (codes "C") ≡ breaks PROTECTED_ELEMENT (byte 115)
 unfolding walked of_protected
 protected_import_is_refused = refl
 
@@ -95,7 +96,7 @@ protected_import_is_refused = refl
 pub twice : Table
 twice = with_import (Star (path (codes "P" ∷ [])) (byte 115) ∷ Star (path (codes "Q" ∷ [])) (byte 125) ∷ [])
 
-pub two_elements_are_refused : in_M twice (codes "A") ≡ breaks 14 (byte 150)
+pub two_elements_are_refused : in_M twice (codes "A") ≡ breaks IMPORTED_TWICE (byte 150)
 unfolding walked twice
 two_elements_are_refused = refl
 

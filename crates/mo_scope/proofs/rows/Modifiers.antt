@@ -1,8 +1,8 @@
 -- Elements that differ in their modifiers, and the sources of a redeclared element.
 use Rattle.std.proofs.Common.{◌≡◌, ℕ, List, [], ◌∷◌, map, flat_map, Option, Some, None, Ok, codes, refl}
+use Rattle.mo_syntax.specs.Outcome.{Outcome, and_then, breaks}
 use Rattle.mo_syntax.specs.declared.class.Give.TheVariants.{outs-Redeclare}
 use Rattle.mo_syntax.specs.declared.class.What.TheVariants.{outs-Component}
-use Rattle.mo_scope.specs.Outcome.{Outcome, and_then, breaks}
 use Rattle.mo_scope.specs.Rows.{Table, no_flags, Constraint}
 use Rattle.mo_scope.specs.Frames.{Frame, Top, Member, class_of}
 use Rattle.mo_scope.specs.Parts.{held}
@@ -10,6 +10,7 @@ use Rattle.mo_scope.specs.Lookup.{walked, own_members, named}
 use Rattle.mo_scope.specs.Names.{Child, child_of, child_of_member, component_frame, elements_of}
 use Rattle.mo_syntax.specs.declared.class.Vary.TheVariants.{Free}
 use Rattle.mo_scope.proofs.rows.Notation.{byte, id, name, sets, redeclares, replaceable_flags, component, component_by, extends, extends_with, row, plain}
+use Rattle.mo_syntax.specs.declared.rules.TheConstants.{INHERITED_ELEMENTS_CLASH, NAME_NOT_FOUND}
 
 -- ---- one class as a base twice, with other modifiers
 
@@ -20,7 +21,7 @@ differing =
     row 7 [] "M" 29 [] (extends_with (name (id "B" 39 ∷ [])) (sets "x" 41 1 ∷ []) ∷ extends (name (id "B" 57 ∷ [])) ∷ []) ∷ []
 
 -- rule 19 at the element
-pub two_bases_that_differ : elements_of differing (plain 7 Top) ≡ breaks 19 (byte 13)
+pub two_bases_that_differ : elements_of differing (plain 7 Top) ≡ breaks INHERITED_ELEMENTS_CLASH (byte 13)
 unfolding walked differing
 two_bases_that_differ = refl
 
@@ -48,7 +49,7 @@ abbrev child_of_child : Table → Frame → List ℕ → List ℕ → Outcome (�
 child_of_child table frame first second = through (named first (own_members table frame))
   where
     through : Option Member → Outcome (ℕ × List (List (List ℕ)))
-    through None = breaks 12 (byte 0)
+    through None = breaks NAME_NOT_FOUND (byte 0)
     through (Some member) =
         and_then (child_of_member table member []) (λ child.
         and_then (child_of table (component_frame member [] child) second []) (λ inner. Ok (told inner)))

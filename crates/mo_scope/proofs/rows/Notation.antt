@@ -1,6 +1,7 @@
 -- Tables of classes in a notation that reads like the model: each name with its byte in the one file.
 use Rattle.std.proofs.Common.{ℕ, pos, Bool, true, false, List, [], ◌∷◌, map, Option, Some, None, Ok, codes}
 use Prim.Native.String.{String}
+use Rattle.mo_syntax.specs.Outcome.{Outcome, and_then}
 use Rattle.mo_syntax.specs.declared.expr.Expr.{Expr, roll-Expr}
 use Rattle.mo_syntax.specs.declared.expr.Node.TheVariants.{Whole}
 use Rattle.mo_syntax.specs.declared.expr.PartOf.{PartOf}
@@ -22,7 +23,6 @@ use Rattle.mo_syntax.specs.declared.class.Vary.TheVariants.{Free, Constant}
 use Rattle.mo_syntax.specs.declared.class.What.TheVariants.{Component}
 use Rattle.mo_syntax.specs.declared.place.Place.{Place}
 use Rattle.mo_syntax.specs.Classes.{Under}
-use Rattle.mo_scope.specs.Outcome.{Outcome, and_then}
 use Rattle.mo_scope.specs.Rows.{Row, Part, Element_of, Base_of, A_class, A_component, Constraint, Long_class, no_flags, no_modifiers}
 use Rattle.mo_scope.specs.Frames.{Frame, Top, In, No_source, Scope, class_of}
 use Rattle.mo_scope.specs.Lookup as lookup

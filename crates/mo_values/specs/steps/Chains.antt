@@ -1,7 +1,7 @@
 -- Chains of factors by the place of their last matrix factor, and folds of elements: words of the contracts inside this crate alone.
 use Rattle.std.specs.Prelude.{ℕ, ◌+◌, ◌++◌, Bool, true, false, List, [], ◌∷◌, map, fold, take, Option, Some, None, Ok, if◌then◌else◌, not, slice_get}
 use Rattle.mo_flat.specs.declared.array.ArrayExpr.{ArrayExpr}
-use Rattle.mo_typing.specs.Outcome.{Outcome}
+use Rattle.mo_syntax.specs.Outcome.{Outcome}
 use Rattle.mo_typing.specs.Shape.{or_scalar, multiplied}
 use Rattle.mo_typing.specs.Indices.{Index, numbers_to, own}
 use Rattle.mo_values.specs.declared.value.Reckoned.{Reckoned}

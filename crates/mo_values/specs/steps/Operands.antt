@@ -1,8 +1,8 @@
 -- Two operands: words of the contracts inside this crate alone.
 use Rattle.std.specs.Prelude.{Bool, true, false, List, [], ◌∷◌}
+use Rattle.mo_syntax.specs.Outcome.{and_then}
 use Rattle.mo_syntax.specs.declared.place.Place.{Place}
 use Rattle.mo_flat.specs.declared.array.ArrayExpr.{ArrayExpr}
-use Rattle.mo_typing.specs.Outcome.{and_then}
 use Rattle.mo_typing.specs.Dims.{dims_of, scalars}
 use Rattle.mo_typing.specs.Subscripts.{Checked, subscripts_of}
 

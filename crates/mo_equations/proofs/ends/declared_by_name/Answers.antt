@@ -1,10 +1,11 @@
 -- One component more.
 use Rattle.std.proofs.Common.{◌≡◌, ℕ, ◌+◌, ◌-◌, ◌++◌, ◌∷◌, [], List, Ok, Err, map, take, drop, length, ap, sym, subst, ◌∙◌, rules, arith}
+use Rattle.mo_syntax.specs.Outcome.{Outcome}
 use Rattle.mo_syntax.specs.declared.expr.Expr.{Expr}
 use Rattle.mo_syntax.specs.declared.expr.PartOf.{PartOf}
 use Rattle.mo_scope.specs.declared.row.Member.{Member as MemberAt}
 use Rattle.mo_scope.specs.Frames.{Member, Scope}
-use Rattle.mo_scope.specs.Outcome.{Gives, Outcome}
+use Rattle.mo_scope.specs.Outcome.{Gives}
 use Rattle.mo_scope.specs.Places.{Every}
 use Rattle.mo_scope.specs.Rows.{Table}
 use Rattle.mo_scope.specs.Worlds.{frames_of, scope_in, table_in}

@@ -1,7 +1,6 @@
 -- The equation of the elements at an index.
 use Rattle.std.proofs.Common.{◌≡◌, ℕ, [], ◌∷◌, Ok, Err, ap, sym, subst, ◌∙◌, rules}
 use Rattle.mo_flat.specs.declared.expr.FlatExpr.{FlatExpr}
-use Rattle.mo_scope.specs.Outcome.{Outcome}
 use Rattle.mo_scope.specs.Worlds.{frames_of}
 use Rattle.mo_arrays.specs.Elements.{element_of}
 use Rattle.mo_arrays.specs.Equations.{equation}
@@ -15,6 +14,7 @@ use Rattle.mo_equations.specs.steps.Flats.{Answers, IsFlat}
 use Rattle.mo_equations.specs.steps.Standing.{AreReplaced}
 use Rattle.mo_equations.proofs.Replacings.{answers_as}
 use Rattle.mo_equations.proofs.Sided.{both_are, left_stops, right_stops, same_variables}
+use Rattle.mo_syntax.specs.Outcome.{Outcome}
 use Rattle.mo_equations.proofs.equalities.put_equation.Goals as goal
 
 pub returns-in_err-left-clause-exact : goal.returns-in_err-left-clause-exact

@@ -2,11 +2,11 @@
 use Rattle.std.proofs.Common.{◌≡◌, Bool, List, Ok, ap, sym, ◌∙◌}
 use Rattle.mo_flat.specs.declared.expr.FlatExpr.{FlatExpr}
 use Rattle.mo_flat.specs.declared.expr.FlatExpr as flat
-use Rattle.mo_scope.specs.Outcome.{Outcome, and_then}
 use Rattle.mo_equations.specs.Replacing.{with_variables}
 use Rattle.mo_equations.specs.steps.Filling.{branch_with, built_at, signed_with}
 use Rattle.mo_equations.proofs.Eaching.{left_start, left_more, left_end}
 use Rattle.mo_equations.proofs.Making.{if_ok}
+use Rattle.mo_syntax.specs.Outcome.{Outcome, and_then}
 use Rattle.mo_equations.proofs.Filled as at
 use Rattle.mo_equations.proofs.filling.+filling.Goals as goal
 

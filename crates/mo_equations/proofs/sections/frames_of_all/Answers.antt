@@ -1,12 +1,11 @@
 -- The frames of all instances, one after another.
 use Rattle.std.proofs.Common.{◌≡◌, ◌+◌, ◌++◌, ◌∷◌, [], List, Ok, Err, map, take, drop, get_or, refl, ap, sym, subst, ◌∙◌, rules}
 use Rattle.std.proofs.lemmas.List.{take_all, take_more}
+use Rattle.mo_syntax.specs.Outcome.{IfBroken, Outcome}
 use Rattle.mo_syntax.specs.declared.meaning.FrameId.{FrameId}
-use Rattle.mo_typing.specs.Outcome.{IfBroken}
 use Rattle.mo_scope.specs.declared.instance.Instance.{Instance as InstanceAt}
 use Rattle.mo_scope.specs.Frames.{Frame}
 use Rattle.mo_scope.specs.Instances.{Instance}
-use Rattle.mo_scope.specs.Outcome.{Outcome}
 use Rattle.mo_scope.specs.Rows.{Table}
 use Rattle.mo_scope.specs.Trees.{IsInstance, instance_in, instances_in}
 use Rattle.mo_scope.specs.Worlds.{frame_at, frames_of, table_in}

@@ -1,16 +1,17 @@
 -- The sections of a class, an external clause behind them.
 use Rattle.std.proofs.Common.{◌≡◌, ◌++◌, ◌∷◌, [], List, Ok, Err, flat_map, map, if◌then◌else◌, refl, ap, sym, subst, ◌∙◌, rules}
 use Rattle.std.proofs.lemmas.List.{append-nil}
+use Rattle.mo_syntax.specs.Outcome.{breach}
 use Rattle.mo_syntax.specs.declared.class.Body.{out-Body}
 use Rattle.mo_syntax.specs.declared.class.Body.TheVariants.{outs-Long}
 use Rattle.mo_scope.specs.Worlds.{frame_in, frames_of}
-use Rattle.mo_typing.specs.Outcome.{breach}
 use Rattle.mo_equations.specs.Expansion.{Placed, made_placed}
 use Rattle.mo_equations.specs.Gathering.{turn_each}
 use Rattle.mo_equations.specs.Sections.{Section, Left_out, section_in, sections_in}
 use Rattle.mo_equations.specs.steps.Desks.{tree_in}
 use Rattle.mo_equations.specs.steps.Placing.{PutsParts, item_placed, placed_as}
 use Rattle.mo_equations.proofs.Parted.{in_class, left_out_breaks, puts_breaks, puts_nothing, puts_stop}
+use Rattle.mo_syntax.specs.declared.rules.TheConstants.{OUTSIDE_PROFILE}
 use Rattle.mo_equations.proofs.sections.put_class.Goals as goal
 
 pub returns-in_err-put_items-in-Long-clause-exact : goal.returns-in_err-put_items-in-Long-clause-exact
@@ -43,7 +44,7 @@ returns-then-external-clause-exact c =
     let told : sections_in (out-Body placed.class.now.body) ≡ flat_map section_in x.items ++ Left_out ∷ [] = rw (x.is, outs-Long x.extending x.items x.external, c.if-external.true) refl in
     subst (λ (ps : List Placed). PutsParts (Err c.stop.result) parts more later (turn_each (made_placed tree) ps desk.turns)) (sym (in_class frames placed x.items (Left_out ∷ []) told))
     (puts_stop tree (flat_map (item_placed frames placed) x.items) (left ∷ []) [] desk.turns parts more more later later c.stop.result (rw c.as_slice.ensures at c.in_ok-put_items-in-Long.ensures.exact)
-    (puts_breaks more more later (turn_each (made_placed tree) (left ∷ []) later.turns) c.stop.result (breach 34 placed.class.now.place) c.stop.ensures (left_out_breaks tree (frame_in frames placed.frame.0) placed.class.now.place later.turns)))
+    (puts_breaks more more later (turn_each (made_placed tree) (left ∷ []) later.turns) c.stop.result (breach OUTSIDE_PROFILE placed.class.now.place) c.stop.ensures (left_out_breaks tree (frame_in frames placed.frame.0) placed.class.now.place later.turns)))
 
 pub returns-else-external-clause-exact : goal.returns-else-external-clause-exact
 returns-else-external-clause-exact c =

@@ -1,6 +1,7 @@
 -- What stands for elements, one reference after another.
 use Rattle.std.proofs.Common.{◌≡◌, ℕ, ◌+◌, ◌-◌, List, [], ◌∷◌, Option, Some, None, Result, Ok, Err, ◌<◌, map, take, length, get_or, refl, ap, sym, subst, ◌∙◌, arith, rules}
 use Rattle.std.specs.Prelude.{slice_get, slice_set}
+use Rattle.mo_syntax.specs.Outcome.{Outcome}
 use Rattle.mo_syntax.specs.declared.place.Stop.{Stop}
 use Rattle.mo_flat.specs.declared.expr.FlatExpr.{FlatExpr}
 use Rattle.mo_flat.specs.declared.expr.FlatExpr as flat
@@ -8,7 +9,6 @@ use Rattle.mo_scope.specs.Places.{Every}
 use Rattle.mo_scope.specs.Rows.{Table}
 use Rattle.mo_scope.specs.Parts.{Picked, picked_here}
 use Rattle.mo_scope.specs.Sights.{picked_in, source_seen}
-use Rattle.mo_scope.specs.Outcome.{Outcome}
 use Rattle.mo_scope.specs.Worlds.{frames_of, scope_in, table_in}
 use Rattle.mo_names.specs.Children.{child_seen}
 use Rattle.mo_names.proofs.Later.{is_member_later, table_later}

@@ -1,9 +1,9 @@
 -- Number by number.
 use Rattle.std.proofs.Common.{◌≡◌, ℕ, ℤ, ◌+◌, ◌++◌, ◌∷◌, [], List, Result, Ok, Err, rules, ap, arith, sym, subst, ◌∙◌}
 use Rattle.std.proofs.lemmas.Int.{to_z-of_z}
+use Rattle.mo_syntax.specs.Outcome.{Outcome}
 use Rattle.mo_syntax.specs.declared.place.Stop.{Stop}
 use Rattle.mo_scope.specs.Outcome as seen
-use Rattle.mo_scope.specs.Outcome.{Outcome}
 use Rattle.mo_scope.specs.Worlds.{World, frames_of, table_in}
 use Rattle.mo_typing.specs.Indices.{Index, numbers_to}
 use Rattle.mo_typing.specs.Outcome.{Gives, each}

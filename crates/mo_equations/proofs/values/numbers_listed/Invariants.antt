@@ -1,8 +1,8 @@
 -- What was made, and what comes of the numbers that are left, is what comes of all.
 use Rattle.std.proofs.Common.{◌≡◌, ◌∷◌, []}
 use Rattle.mo_scope.specs.Worlds.{frames_of, table_in}
+use Rattle.mo_syntax.specs.Outcome.{and_then}
 use Rattle.mo_typing.specs.Indices.{numbers_to}
-use Rattle.mo_typing.specs.Outcome.{and_then}
 use Rattle.mo_values.specs.Asked.{must_be_whole}
 use Rattle.mo_eval.specs.References.{numbers_of}
 use Rattle.mo_eval.specs.Seen.{AreThere, resolved_seen}

@@ -1,7 +1,7 @@
 -- What is chosen, with the sizes that are pending.
 use Rattle.std.proofs.Common.{◌≡◌, refl, subst}
-use Rattle.mo_scope.specs.Outcome.{Outcome}
 use Rattle.mo_scope.specs.Worlds.{frames_of}
+use Rattle.mo_syntax.specs.Outcome.{Outcome}
 use Rattle.mo_typing.specs.Outcome.{Gives}
 use Rattle.mo_values.specs.Scalars.{Known}
 use Rattle.mo_equations.specs.steps.Declaring.{variable_in}

@@ -6,6 +6,7 @@ use Rattle.mo_eval.specs.Sites.{elements_in, part_in}
 use Rattle.mo_eval.specs.steps.Asking.{end_in}
 use Rattle.mo_scope.specs.Worlds.{frames_of}
 use Rattle.std.proofs.Common.{ap}
+use Rattle.mo_syntax.specs.declared.rules.TheConstants.{WRONG_TYPE}
 use Rattle.mo_eval.proofs.+resolving.Goals as goal
 
 pub read_end-returns-clause-exact : goal.alone::read_end-returns-clause-exact
@@ -35,4 +36,4 @@ read_condition-returns-clause-exact t c =
     let asked = resolved_seen (frames_of mid) c.in_ok-resolved.resolved in
     let place = place_of_of_contexts (part_in c.args.s.now c.args.site.now c.args.e.now) in
     let same = same_elements c.args.s.now mid left c.alone.ensures.grows in
-    rw (rw c.read_in.ensures at c.in_ok-resolved.ensures.exact) (gives_as c.truth_of.result (truth_of (elements_in mid left) 33 place asked) (truth_of (elements_in c.args.s.now left) 33 place asked) (ap (λ read. truth_of read 33 place asked) same) c.truth_of.ensures.exact)
+    rw (rw c.read_in.ensures at c.in_ok-resolved.ensures.exact) (gives_as c.truth_of.result (truth_of (elements_in mid left) WRONG_TYPE place asked) (truth_of (elements_in c.args.s.now left) WRONG_TYPE place asked) (ap (λ read. truth_of read WRONG_TYPE place asked) same) c.truth_of.ensures.exact)

@@ -4,6 +4,7 @@ use Rattle.mo_eval.proofs.Calling.{each_more, from_halts, none_by, plain_at, pla
 use Rattle.mo_eval.proofs.Growing.{behind_made as behind_made_of_growing, each_go_on, each_halt, given_made, gives_as, gives_halt, halts_through, made_as, same_asked, same_elements, same_made, same_part}
 use Rattle.mo_eval.proofs.Grown.{frame_stays, grows_on, kept_still, same_virtuals, there_still}
 use Rattle.mo_eval.proofs.Sizing.{same_plain, size_by}
+use Rattle.mo_syntax.specs.Outcome.{and_then}
 use Rattle.mo_values.specs.Asked.{argument_of_size, operand}
 use Rattle.mo_values.specs.Made.{derivative_of, takes}
 use Rattle.mo_eval.specs.Calls.{function_named, made_function, make_arguments, read_size, read_sizes}
@@ -14,7 +15,6 @@ use Rattle.mo_eval.specs.steps.Parts.{as_part, as_reference, made_arguments}
 use Rattle.mo_flat.specs.declared.array.ArrayNode.TheVariants.{Size, Sized}
 use Rattle.mo_scope.specs.Worlds.{frames_of, table_in}
 use Rattle.mo_syntax.specs.declared.expr.Args.{out-Args}
-use Rattle.mo_typing.specs.Outcome.{and_then}
 use Rattle.std.proofs.Common.{Err, None, Ok, Some, [], add-one, ap, arith, drop, false, length, refl, rules, suc, sym, true, ◌++◌, ◌∙◌, ◌∷◌, ◌≡◌}
 use Rattle.std.proofs.lemmas.List.{append-nil, drop_all}
 use Rattle.mo_eval.proofs.+resolving.Goals as goal

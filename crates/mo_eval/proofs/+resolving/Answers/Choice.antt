@@ -2,6 +2,7 @@
 use Rattle.mo_eval.proofs.Choosing.{behind_made, branch_ok, none_left, none_left_halts, one_halts, one_last, one_more}
 use Rattle.mo_eval.proofs.Growing.{gives_as, gives_halt, made_as, same_asked, same_making}
 use Rattle.mo_eval.proofs.Grown.{frame_stays, grows_on, same_virtuals, there_still}
+use Rattle.mo_syntax.specs.Outcome.{and_then}
 use Rattle.mo_values.specs.Made.{range_of}
 use Rattle.mo_eval.specs.Resolving.{made_choice, make_part, read_end, read_step}
 use Rattle.mo_values.specs.Scalars.{Known}
@@ -12,7 +13,6 @@ use Rattle.mo_eval.specs.steps.Choosing.{made_branch, truth_in}
 use Rattle.mo_eval.specs.steps.Parts.{as_branch, made_two}
 use Rattle.mo_scope.specs.Worlds.{frames_of}
 use Rattle.mo_typing.proofs.Gathering.{opened}
-use Rattle.mo_typing.specs.Outcome.{and_then}
 use Rattle.std.proofs.Common.{Err, None, Ok, Some, [], ap, drop, false, map, rules, sym, true, ◌+◌, ◌∙◌, ◌≡◌}
 use Rattle.std.proofs.lemmas.List.{drop_all}
 use Rattle.std.specs.Option.{option_map}

@@ -4,6 +4,8 @@ use Rattle.mo_eval.proofs.Bound.{bound_at, is_binding, with_layers_still}
 use Rattle.mo_eval.proofs.Growing.{gives_as, gives_halt, same_elements}
 use Rattle.mo_eval.proofs.Grown.{binding_still, is_there_still, kept_still, member_still, same_element, same_table}
 use Rattle.mo_eval.proofs.Layering.{by_fit}
+use Rattle.mo_syntax.specs.Outcome.{and_then}
+use Rattle.mo_syntax.specs.declared.rules.TheConstants.{CONDITION_NOT_BOOLEAN}
 use Rattle.mo_values.specs.Asked.{must_be_truth}
 use Rattle.mo_eval.specs.Components.{place_of, value_in}
 use Rattle.mo_eval.specs.Contexts.{truth_of}
@@ -20,7 +22,6 @@ use Rattle.mo_names.specs.declared.found.Child.{Child as ChildAt}
 use Rattle.mo_scope.specs.Parts.{Picked, picked_here}
 use Rattle.mo_scope.specs.Sights.{picked_in, source_seen}
 use Rattle.mo_scope.specs.Worlds.{frames_of, table_in}
-use Rattle.mo_typing.specs.Outcome.{and_then}
 use Rattle.std.proofs.Common.{Err, None, Ok, Some, ap, map, refl, rules, subst, sym, ◌∙◌, ◌≡◌}
 use Rattle.mo_eval.specs.declared.virtuals.Resolved.{Resolved as ResolvedAt}
 use Rattle.mo_eval.proofs.+resolving.Goals as goal
@@ -189,8 +190,8 @@ condition_in-returns-in_err-known-clause-exact t c =
     let stop = c.in_err-known.field-0.0 in
     let p : c.from_residual-in_err-known.result ≡ Err stop = search rules in
     rw (p, rw (c.for_value.ensures, c.new.ensures) at c.in_ok-resolved.ensures.exact)
-    (gives_halt {A = Known} stop (truth_of (elements_in c.args.s.now left) 40 place asked) (must_be_truth place)
-    (gives_as {A = Known} (Err stop) (truth_of (elements_in mid left) 40 place asked) (truth_of (elements_in c.args.s.now left) 40 place asked) (ap (λ read. truth_of read 40 place asked) same) c.in_err-known.ensures.exact))
+    (gives_halt {A = Known} stop (truth_of (elements_in c.args.s.now left) CONDITION_NOT_BOOLEAN place asked) (must_be_truth place)
+    (gives_as {A = Known} (Err stop) (truth_of (elements_in mid left) CONDITION_NOT_BOOLEAN place asked) (truth_of (elements_in c.args.s.now left) CONDITION_NOT_BOOLEAN place asked) (ap (λ read. truth_of read CONDITION_NOT_BOOLEAN place asked) same) c.in_err-known.ensures.exact))
 
 pub condition_in-returns-clause-exact : goal.components::condition_in-returns-clause-exact
 condition_in-returns-clause-exact t c =
@@ -199,7 +200,7 @@ condition_in-returns-clause-exact t c =
     let asked = resolved_seen (frames_of mid) c.in_ok-resolved.resolved in
     let same = same_elements c.args.s.now mid left c.alone.ensures.grows in
     let place = place_of c.args.e.now in
-    let known : truth_of (elements_in c.args.s.now left) 40 place asked ≡ Ok c.in_ok-known.known = ap (λ read. truth_of read 40 place asked) (sym same) ∙ c.in_ok-known.ensures.exact in
+    let known : truth_of (elements_in c.args.s.now left) CONDITION_NOT_BOOLEAN place asked ≡ Ok c.in_ok-known.known = ap (λ read. truth_of read CONDITION_NOT_BOOLEAN place asked) (sym same) ∙ c.in_ok-known.ensures.exact in
     rw (rw (c.for_value.ensures, c.new.ensures) at c.in_ok-resolved.ensures.exact)
     (gives_as c.answer.result (must_be_truth place c.in_ok-known.known) _ (ap (λ o. and_then o (must_be_truth place)) (sym known)) (rw c.must_be_truth.ensures at c.answer.ensures))
 

@@ -3,6 +3,7 @@ use Rattle.mo_eval.proofs.Calling.{from_halts}
 use Rattle.mo_eval.proofs.Dividing.{flat_is, kept_is, none_known, operands_halt, operands_made}
 use Rattle.mo_eval.proofs.Growing.{given_made, gives_as, gives_halt, halts_through, made_as, same_elements, same_known}
 use Rattle.mo_eval.proofs.Grown.{same_virtuals, there_still}
+use Rattle.mo_syntax.specs.Outcome.{and_then}
 use Rattle.mo_values.specs.Asked.{checked_operands, read_in}
 use Rattle.mo_values.specs.Made.{known_number}
 use Rattle.mo_eval.specs.Calls.{known_of_operands, make_arguments, value_of_division}
@@ -12,7 +13,6 @@ use Rattle.mo_eval.specs.Sites.{elements_in, variables_in}
 use Rattle.mo_eval.specs.Virtuals.{numbered}
 use Rattle.mo_values.specs.Walk.{known_by}
 use Rattle.mo_scope.specs.Worlds.{frames_of}
-use Rattle.mo_typing.specs.Outcome.{and_then}
 use Rattle.std.proofs.Common.{Err, Ok, [], ap, false, rules, sym, true, ◌∙◌, ◌≡◌}
 use Rattle.mo_eval.proofs.+resolving.Goals as goal
 

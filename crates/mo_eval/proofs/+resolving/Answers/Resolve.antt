@@ -2,6 +2,7 @@
 use Rattle.mo_eval.proofs.Forms.{at_All, at_Any, at_Array, at_ArrayFor, at_Call, at_Decimal, at_EndMark, at_If, at_Matrix, at_Not, at_Power, at_Product, at_Range, at_Ref, at_Relation, at_Str, at_Sum, at_Truth, at_Tuple, at_Whole, made_expression}
 use Rattle.mo_eval.proofs.Growing.{behind, behind_made as behind_made_of_growing, each_go_on, each_halt, given_made, halts_through, made_as, parts_go_on, parts_halt, same_made, same_part, two_halt, two_made, two_then}
 use Rattle.mo_eval.proofs.Grown.{grows_on, same_virtuals, there_still}
+use Rattle.mo_syntax.specs.Outcome.{and_then}
 use Rattle.mo_values.specs.Made.{power_of}
 use Rattle.mo_eval.specs.Resolving.{made_range, make_part, make_parts}
 use Rattle.mo_eval.specs.Seen.{virtuals_seen}
@@ -13,7 +14,6 @@ use Rattle.mo_flat.specs.declared.array.ArrayNode.{ArrayNode}
 use Rattle.mo_flat.specs.declared.array.ArrayNode.TheVariants.{Relation, Truth, Whole}
 use Rattle.mo_scope.specs.Worlds.{frames_of, table_in}
 use Rattle.mo_typing.proofs.Gathering.{opened}
-use Rattle.mo_typing.specs.Outcome.{and_then}
 use Rattle.std.proofs.Common.{Err, List, Ok, [], ap, drop, map, refl, rules, sym, ◌++◌, ◌+◌, ◌∙◌, ◌∷◌, ◌≡◌}
 use Rattle.std.specs.Option.{option_map}
 use Rattle.mo_eval.proofs.+resolving.Goals as goal

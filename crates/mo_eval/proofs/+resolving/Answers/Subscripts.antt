@@ -4,6 +4,7 @@ use Rattle.mo_eval.proofs.Growing.{gives_as, gives_halt, same_asked, same_elemen
 use Rattle.mo_eval.proofs.Grown.{grows_on, grows_still, there_still}
 use Rattle.mo_eval.proofs.Prefixes.{length-known}
 use Rattle.mo_eval.proofs.Subscripting.{behind_nothing, by_none, by_some, get_same, number_halts as number_halts_of_subscripting, number_more as number_more_of_subscripting, numbers_end, subscript_by, subscript_halts, subscript_more, subscripts_end}
+use Rattle.mo_syntax.specs.Outcome.{and_then}
 use Rattle.mo_values.specs.Asked.{layered, must_be_whole, only_whole, scalar_or_vector, subscript_of}
 use Rattle.mo_eval.specs.Contexts.{alone, place_of as place_of_of_contexts}
 use Rattle.mo_eval.specs.References.{numbers_of}
@@ -18,7 +19,6 @@ use Rattle.mo_flat.specs.declared.array.Subscript.{Subscript}
 use Rattle.mo_flat.specs.declared.array.Subscript.TheVariants.{Many, One}
 use Rattle.mo_scope.specs.Worlds.{frames_of}
 use Rattle.mo_typing.proofs.Gathering.{opened}
-use Rattle.mo_typing.specs.Outcome.{and_then}
 use Rattle.std.proofs.Common.{Err, List, Ok, [], ap, arith, drop, get_or, length, map, refl, rules, subst, sym, ℤ, ◌++◌, ◌+◌, ◌<◌, ◌∙◌, ◌∷◌, ◌≡◌}
 use Rattle.std.proofs.lemmas.List.{drop-map, drop_all, length-map}
 use Rattle.std.specs.Option.{option_map}

@@ -1,10 +1,10 @@
 -- The phases, one after another.
 use Rattle.std.proofs.Common.{map, subst, Ok, Err}
 use Rattle.mo_syntax.specs.Lexeme.{lexemes}
-use Rattle.mo_lexer.specs.Lexing.{IfBroken}
 use Rattle.mo_front.specs.Files.{Trees}
 use Rattle.mo_front.proofs.SoundTrees.{trees_sound}
 use Rattle.mo_front.proofs.Answering.{trees-flat, trees-refusal, no-trees, no-tokens}
+use Rattle.mo_syntax.specs.Outcome.{IfBroken}
 use Rattle.mo_front.proofs.answer.of_texts.Goals as goal
 
 pub returns-in-Ok-all_trees-clause-flat : goal.returns-in-Ok-all_trees-clause-flat

@@ -23,5 +23,5 @@ returns-in-Err-Unsound-clause-broken c = λ refusal whole is.
     ap (λ (n : ℕ). given n c.deref-2.result.now) count ∙ ap (given (length (unknown_numbers c.args.m.now.vars))) c.deref-2.ensures.value ∙ c.in_ok-rows.ensures whole in
     let failed : c.from_rows.result ≡ Err RowsError.Unsound = c.in-Err-Unsound.is ∙ ap (λ (e : RowsError). Err e) c.in-Err-Unsound.field-0-is in
     let unsound : IsSound (incidence_of c.args.m.now) → ⊥ = λ sound. c.from_rows.ensures.unsound failed (subst (λ g. IsSound g) (sym same) sound) in
-    let stop : c.broken.result ≡ Stop.Broken refusal = cc in
-    refused_size c.args.m.now refusal c.broken.result whole c.requires.carried unsound c.broken.ensures stop
+    let stop : c.stop.result ≡ Stop.Broken refusal = cc in
+    refused_size c.args.m.now refusal c.stop.result whole c.requires.carried unsound c.stop.ensures stop

@@ -3,7 +3,6 @@ use Rattle.std.proofs.Common.{◌≡◌, ap, drop, length, map, sym, ◌∙◌}
 use Rattle.std.proofs.lemmas.Result.{err_from_is_err_and}
 use Rattle.mo_scope.specs.Frames.{Source, sources_of}
 use Rattle.mo_scope.specs.Lookup.{Walked}
-use Rattle.mo_scope.specs.Outcome.{Outcome, and_then}
 use Rattle.mo_scope.specs.Redeclarations.{fine}
 use Rattle.mo_scope.specs.Sights.{source_seen}
 use Rattle.mo_scope.specs.Worlds.{frame_at, frames_of, source_in, table_in}
@@ -12,6 +11,7 @@ use Rattle.mo_instance.specs.Checks.{frame_passed}
 use Rattle.mo_instance.specs.Passes.{inherits}
 use Rattle.mo_instance.proofs.Checking.{base_before}
 use Rattle.mo_instance.proofs.Lists.{broken_on, length_mapped}
+use Rattle.mo_syntax.specs.Outcome.{Outcome, and_then}
 use Rattle.mo_instance.proofs.checks.base_passed.Goals as goal
 
 pub returns-in_err-frame_passed-clause-value : goal.returns-in_err-frame_passed-clause-value

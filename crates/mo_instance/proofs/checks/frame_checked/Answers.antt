@@ -1,10 +1,10 @@
 -- The frame, then its bases.
 use Rattle.std.proofs.Common.{◌≡◌, Err, false, List, Ok, ap, map, sym, ◌∙◌}
 use Rattle.std.proofs.lemmas.Result.{err_from_is_err_and}
+use Rattle.mo_syntax.specs.Outcome.{and_then}
 use Rattle.mo_syntax.specs.declared.meaning.FrameId.{FrameId}
 use Rattle.mo_scope.specs.Frames.{sources_of}
 use Rattle.mo_scope.specs.Lookup.{Walked}
-use Rattle.mo_scope.specs.Outcome.{and_then}
 use Rattle.mo_scope.specs.Redeclarations.{Checked, each_checked}
 use Rattle.mo_scope.specs.Worlds.{frame_at, frames_of, table_in}
 use Rattle.mo_names.specs.Sights.{frames_through, walk_seen}

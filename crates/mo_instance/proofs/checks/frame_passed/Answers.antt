@@ -4,7 +4,7 @@ use Rattle.std.specs.Prelude.{option_copied}
 use Rattle.std.proofs.lemmas.Result.{err_from_is_err_and}
 use Rattle.mo_scope.specs.Frames.{sources_of}
 use Rattle.mo_scope.specs.Lookup.{Walked}
-use Rattle.mo_scope.specs.Outcome.{Gives, and_then}
+use Rattle.mo_scope.specs.Outcome.{Gives}
 use Rattle.mo_scope.specs.Redeclarations.{Checked}
 use Rattle.mo_scope.specs.Worlds.{frame_at, frames_of, table_in}
 use Rattle.mo_names.specs.Sights.{walk_seen}
@@ -14,6 +14,7 @@ use Rattle.mo_instance.specs.FirstSteps.{is_replaced_by}
 use Rattle.mo_instance.specs.Walks.{walk_or_none}
 use Rattle.mo_instance.proofs.Checking.{passes_are, passes_before}
 use Rattle.mo_instance.proofs.Lists.{broken_on}
+use Rattle.mo_syntax.specs.Outcome.{and_then}
 use Rattle.mo_instance.proofs.checks.frame_passed.Goals as goal
 
 pub returns-in_err-passes-clause-value : goal.returns-in_err-passes-clause-value

@@ -1,8 +1,8 @@
 -- Its class, its dimensions, and what holds below it.
 use Rattle.std.proofs.Common.{ℕ, List, Ok, ap, ◌∙◌}
 use Rattle.std.proofs.lemmas.Result.{err_from_is_err_and}
+use Rattle.mo_syntax.specs.Outcome.{Outcome, and_then}
 use Rattle.mo_syntax.specs.declared.meaning.FrameId.{FrameId}
-use Rattle.mo_scope.specs.Outcome.{Outcome, and_then}
 use Rattle.mo_scope.specs.Worlds.{frame_at, frames_of, table_in}
 use Rattle.mo_names.specs.Sights.{member_of}
 use Rattle.mo_typing.specs.Dims.{Dims}

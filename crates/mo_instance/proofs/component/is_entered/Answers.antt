@@ -1,7 +1,7 @@
 -- A class, an outer component, and what the condition of another one says.
 use Rattle.std.proofs.Common.{◌≡◌, Bool, Ok, ap, false, subst, sym, ◌∙◌}
 use Rattle.std.proofs.lemmas.Result.{err_from_is_err_and}
-use Rattle.mo_scope.specs.Outcome.{Gives, and_then}
+use Rattle.mo_scope.specs.Outcome.{Gives}
 use Rattle.mo_scope.specs.Redeclarations.{Checked}
 use Rattle.mo_scope.specs.Worlds.{frames_of, table_in}
 use Rattle.mo_names.specs.Sights.{member_of}
@@ -9,6 +9,7 @@ use Rattle.mo_eval.specs.Values.{most_references, there_of}
 use Rattle.mo_instance.specs.Outer.{outer_checked}
 use Rattle.mo_instance.proofs.Asking.{entered_class, entered_outer, entered_there, gives_value}
 use Rattle.mo_instance.proofs.Lists.{broken_on}
+use Rattle.mo_syntax.specs.Outcome.{and_then}
 use Rattle.mo_instance.proofs.component.is_entered.Goals as goal
 
 pub returns-then-is_class-clause-value : goal.returns-then-is_class-clause-value

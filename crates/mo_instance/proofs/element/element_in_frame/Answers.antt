@@ -4,7 +4,7 @@ use Rattle.std.proofs.lemmas.Result.{err_from_is_err_and}
 use Rattle.mo_scope.specs.declared.instance.Instance.{Instance as InstanceAt}
 use Rattle.mo_scope.specs.Instances.{Instance}
 use Rattle.mo_scope.specs.Lookup.{Walked}
-use Rattle.mo_scope.specs.Outcome.{Gives, Outcome, and_then}
+use Rattle.mo_scope.specs.Outcome.{Gives}
 use Rattle.mo_scope.specs.Trees.{instance_in}
 use Rattle.mo_scope.specs.Worlds.{frame_at, frames_of, table_in}
 use Rattle.mo_names.specs.declared.walk.Walk.{Walk as WalkAt}
@@ -13,6 +13,7 @@ use Rattle.mo_instance.specs.Sights.{around_seen}
 use Rattle.mo_instance.specs.Steps.{instance_at}
 use Rattle.mo_instance.proofs.Framing.{in_frame, instance_before, with_walk}
 use Rattle.mo_instance.proofs.Lists.{broken_on, gives_as}
+use Rattle.mo_syntax.specs.Outcome.{Outcome, and_then}
 use Rattle.mo_instance.proofs.element.element_in_frame.Goals as goal
 
 pub returns-in_err-instance-clause-value : goal.returns-in_err-instance-clause-value

@@ -1,10 +1,10 @@
 -- What it is as a leaf, then the instance.
 use Rattle.std.proofs.Common.{◌≡◌, Ok, Option, ap, sym, ◌∙◌}
 use Rattle.mo_scope.specs.Instances.{Instance, Leaf}
-use Rattle.mo_scope.specs.Outcome.{Outcome, and_then}
 use Rattle.mo_scope.specs.Worlds.{frame_at, frames_of}
 use Rattle.mo_names.specs.Sights.{member_of}
 use Rattle.mo_instance.specs.Elements.{instance_of}
+use Rattle.mo_syntax.specs.Outcome.{Outcome, and_then}
 use Rattle.mo_instance.proofs.element.instance_at.Goals as goal
 
 pub returns-clause-value : goal.returns-clause-value

@@ -5,15 +5,16 @@
 use Rattle.std.proofs.Common.{◌≡◌, ◌⊎◌, inl, inr, Bool, true, false, List, [], ◌∷◌, map, flat_map, Option, Some, None, Ok, Err, refl, ap, subst, sym, if◌then◌else◌}
 use Rattle.std.specs.Prelude.{nat_eq}
 use Rattle.std.specs.Option.{option_map}
+use Rattle.mo_syntax.specs.Outcome.{Outcome, and_then, breaks}
 use Rattle.mo_syntax.specs.declared.expr.Expr.{Expr}
 use Rattle.mo_syntax.specs.declared.expr.PartOf.{PartOf}
 use Rattle.mo_syntax.specs.declared.expr.ReferenceOf.{ReferenceOf}
 use Rattle.mo_syntax.specs.declared.place.Place.{Place}
 use Rattle.mo_scope.specs.Frames.{Member, Scope}
-use Rattle.mo_scope.specs.Outcome.{Outcome, and_then}
 use Rattle.mo_scope.specs.Rows.{Table}
+use Rattle.mo_syntax.specs.declared.rules.TheConstants.{NAME_NOT_FOUND}
 use Rattle.mo_typing.specs.Indices.{Index}
-use Rattle.mo_typing.specs.Outcome.{each, breaks}
+use Rattle.mo_typing.specs.Outcome.{each}
 use Rattle.mo_typing.specs.Subscripts.{fine, subscripts}
 use Rattle.mo_eval.specs.Components.{reader}
 use Rattle.mo_eval.specs.Contexts.{Part}
@@ -70,7 +71,7 @@ module _ (table : Table) (read : Reading) where
   there_follows place member = by (read.is_there member)
     where
       by : (o : Outcome Bool) →
-          Follows (and_then (and_then o or_removed) (λ is_there. if is_there then fine else breaks 12 place)) (and_then (and_then o (λ is_there. Ok true)) (λ is_there. if is_there then fine else breaks 12 place))
+          Follows (and_then (and_then o or_removed) (λ is_there. if is_there then fine else breaks NAME_NOT_FOUND place)) (and_then (and_then o (λ is_there. Ok true)) (λ is_there. if is_there then fine else breaks NAME_NOT_FOUND place))
       by (Ok true) = inr refl
       by (Ok false) = inl refl
       by (Err broken) = inr refl

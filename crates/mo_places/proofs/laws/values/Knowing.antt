@@ -1,12 +1,12 @@
 -- What is known of a resolved expression at an index breaks a rule at a place in it, or where one of its variables breaks it.
 use Rattle.std.proofs.Common.{◌≡◌, ℕ, ◌-◌, Bool, List, [], ◌∷◌, ◌++◌, map, Option, Some, None, Ok, refl, sym, subst, zero, suc, true, false}
 use Rattle.std.specs.Prelude.{fold, slice_get}
+use Rattle.mo_syntax.specs.Outcome.{Outcome}
 use Rattle.mo_syntax.specs.declared.place.Place.{Place}
 use Rattle.mo_flat.specs.declared.array.ArrayExpr.{ArrayExpr, ArrayExpr-F, fold-roll-ArrayExpr, ind-ArrayExpr, map-ArrayExpr, para-roll-ArrayExpr, roll-ArrayExpr}
 use Rattle.mo_flat.specs.declared.array.ArrayNode.{ArrayNode, ArrayNode-F, fold-roll-ArrayNode, map-ArrayNode, para-roll-ArrayNode, roll-ArrayNode}
 use Rattle.mo_typing.specs.Indices.{Index, or_else}
 use Rattle.mo_typing.specs.Kinds.{kind_of_node}
-use Rattle.mo_typing.specs.Outcome.{Outcome}
 use Rattle.mo_values.specs.Scalars.{Known, chained, negated, of_known, related}
 use Rattle.mo_eval.specs.Virtuals.{Component_element, Division, Element, Resolved, Virtual, known_at, known_of_virtual, known_of_virtuals, numbered}
 use Rattle.mo_values.specs.Walk.{Factor, Part, at, branch_of, element_among, kind_or_real, known_by, known_part, number, part_of, result_node, result_of_node, signed_of, unbegun}

@@ -1,6 +1,7 @@
 -- What is resolved in a scope stands where the scope and the expression do.
 use Rattle.std.proofs.Common.{◌≡◌, ℕ, Bool, true, false, ◌&&◌, List, [], ◌∷◌, ◌++◌, map, flat_map, Option, Some, None, refl, ap, sym, ◌∙◌, subst, if◌then◌else◌}
 use Rattle.std.specs.Option.{option_map}
+use Rattle.mo_syntax.specs.Outcome.{breaks}
 use Rattle.mo_syntax.specs.declared.expr.Arg.{Arg, Arg-F, map-Arg, out-roll-Arg, roll-Arg}
 use Rattle.mo_syntax.specs.declared.expr.Arg.TheVariants.{rolls-Partial, rolls-Value}
 use Rattle.mo_syntax.specs.declared.expr.Args.{Args, Args-F, map-Args, out-roll-Args, roll-Args}
@@ -19,10 +20,10 @@ use Rattle.mo_syntax.specs.declared.place.Place.{Place}
 use Rattle.mo_flat.specs.declared.array.ArrayExpr.{ArrayExpr}
 use Rattle.mo_scope.specs.Frames.{Scope}
 use Rattle.mo_scope.specs.Rows.{Table}
-use Rattle.mo_typing.specs.Outcome.{breaks}
 use Rattle.mo_eval.specs.Contexts.{Part}
 use Rattle.mo_eval.specs.Resolving.{all_arguments, is_empty, made, made_node, resolved_in, with_argument}
 use Rattle.mo_eval.specs.Virtuals.{Ask, Making, make_from}
+use Rattle.mo_syntax.specs.declared.rules.TheConstants.{OUTSIDE_PROFILE}
 use Rattle.mo_values.specs.declared.context.Context.{Context}
 use Rattle.mo_eval.specs.steps.Parts.{Former, as_branch, as_callee, as_factor, as_identifier, as_part, as_reference, as_term, made_argument, made_arguments, made_below}
 use Rattle.mo_eval.proofs.Forms.{at_All, at_Any, at_Args, at_Array, at_ArrayFor, at_Call, at_Decimal, at_EndMark, at_If, at_Matrix, at_Not, at_Partial, at_Power, at_Product, at_Range, at_Ref, at_Relation, at_Str, at_Sum, at_Truth, at_Tuple, at_Value, at_Whole, at_expr}
@@ -158,10 +159,10 @@ module _ (P : Written → Type 0) (descends : Descends P) (layers : LayersStand 
       (form_makes P descends layers table stands ask asks scope framed form (law (subst (λ z. Every P (in_node z)) (out-roll-Node layer) h)) place hp context)
 
   -- a form that is left out
-  refused : (layer : Node-F Arg Node Args Expr) (node : Node) → roll-Node layer ≡ node → ((place : Place) (context : Context) → made_below table ask scope node place context ≡ make_from (breaks 34 place)) → NodeLaw (roll-Node layer)
+  refused : (layer : Node-F Arg Node Args Expr) (node : Node) → roll-Node layer ≡ node → ((place : Place) (context : Context) → made_below table ask scope node place context ≡ make_from (breaks OUTSIDE_PROFILE place)) → NodeLaw (roll-Node layer)
   unfolding NodeLaw
   refused layer node rolls same h place hp context =
-      subst (Makes P (ArrayStands P)) (sym (ap (λ n. made_below table ask scope n place context) rolls ∙ same place context)) (from_makes P (ArrayStands P) (breaks 34 place) (record { holds = hp }))
+      subst (Makes P (ArrayStands P)) (sym (ap (λ n. made_below table ask scope n place context) rolls ∙ same place context)) (from_makes P (ArrayStands P) (breaks OUTSIDE_PROFILE place) (record { holds = hp }))
 
   abbrev bare_node : Node-F ArgAt NodeAt ArgsAt ExprAt → Node-F Arg Node Args Expr
   bare_node y = map-Node ArgAt NodeAt ArgsAt ExprAt Arg Node Args Expr (λ t. t.0) (λ t. t.0) (λ t. t.0) (λ t. t.0) y

@@ -2,7 +2,6 @@
 use Rattle.std.proofs.Common.{◌≡◌, ℕ, zero, suc, Bool, true, false, List, [], ◌∷◌, Option, Some, None, Ok, Err, refl, if◌then◌else◌}
 use Rattle.mo_scope.specs.Frames.{Frame, class_of}
 use Rattle.mo_scope.specs.Names.{base_frame_of, clauses_of, walk_of}
-use Rattle.mo_scope.specs.Outcome.{Outcome}
 use Rattle.mo_scope.specs.Rows.{Base_of, Clause, Element_of, Enumeration_class, Form, Long_class, Other_class, Part, Row, Short_class, Table, clauses_in, number_of_classes, row_at}
 use Rattle.mo_scope.specs.Sizes.{Sizes, first_base, is_leaf, leaf_base, sizes_by, sizes_from, sizes_if, sizes_of_base, sizes_of_form, sizes_of_short}
 use Rattle.mo_places.specs.Stands.{Answers, ClauseStands, Every, FormStands, FrameStands, IfAny, PartStands, RowStands, TableStands}
@@ -11,6 +10,7 @@ use Rattle.mo_places.proofs.laws.Measuring.{SizesStand, TypeSizesStand, sizes_if
 use Rattle.mo_places.proofs.laws.Naming.{base_frame_of_stands}
 use Rattle.mo_places.proofs.laws.Sources.{row_stands}
 use Rattle.mo_places.proofs.laws.Standing.{every_append, if_list}
+use Rattle.mo_syntax.specs.Outcome.{Outcome}
 
 clauses_in_stand : (P : Written → Type 0) (parts : List Part) → Every (PartStands P) parts → Every (ClauseStands P) (clauses_in parts)
 clauses_in_stand P [] h = tt

@@ -1,5 +1,6 @@
 use Rattle.std.proofs.Common.{◌≡◌, refl, sym, ◌∙◌, arith, rules, Ok, Err}
-use Rattle.mo_typing.specs.Outcome.{breaks}
+use Rattle.mo_syntax.specs.Outcome.{breaks}
+use Rattle.mo_syntax.specs.declared.rules.TheConstants.{WRONG_TYPE}
 use Rattle.mo_typing.specs.Dims.{part_of, operand, branch_dims, with_operand, added, multiplied, settled, with_alike, with_scalar, condition, call}
 use Rattle.mo_typing.proofs.Gathering.{gathered, one_more, one_stops_by, ended, asked_first, stops_first, stops_through, given_first, gives_as}
 use Rattle.mo_typing.proofs.Calls.{many_args}
@@ -91,4 +92,4 @@ pub dims_of_node-returns-in-If : goal.dims_of_node-returns-in-If
 dims_of_node-returns-in-If t c = rw (c.in-If.is, at_If c.in-If.branches c.in-If.other c.args.place) (rw c.as_slice-in-If.ensures at c.of_choice.ensures)
 
 pub of_call-returns-in_ok-have_dims-in-len3-up : goal.of_call-returns-in_ok-have_dims-in-len3-up
-of_call-returns-in_ok-have_dims-in-len3-up t c = rw c.broken-in-len3-up.ensures (sym (many_args part_of dims_in (call c.args.place c.args.function) (breaks 33 c.args.place) (λ p q r ys. refl) c.args.args.now c.in_ok-have_dims-in-len3-up.field-0 (omega arith) c.in_ok-have_dims-in-len3-up.ensures))
+of_call-returns-in_ok-have_dims-in-len3-up t c = rw c.broken-in-len3-up.ensures (sym (many_args part_of dims_in (call c.args.place c.args.function) (breaks WRONG_TYPE c.args.place) (λ p q r ys. refl) c.args.args.now c.in_ok-have_dims-in-len3-up.field-0 (omega arith) c.in_ok-have_dims-in-len3-up.ensures))

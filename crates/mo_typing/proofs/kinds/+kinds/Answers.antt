@@ -1,6 +1,7 @@
 use Rattle.std.proofs.Common.{◌≡◌, refl, sym, ◌∙◌, arith, rules, Ok, Err}
+use Rattle.mo_syntax.specs.Outcome.{breaks}
+use Rattle.mo_syntax.specs.declared.rules.TheConstants.{WRONG_TYPE}
 use Rattle.mo_typing.specs.Kinds.{part_of, with_number, with_truth, joined, settled, condition, branch_kind, call}
-use Rattle.mo_typing.specs.Outcome.{breaks}
 use Rattle.mo_typing.proofs.Gathering.{gathered, one_more, one_stops, ended, asked_first, refused_first}
 use Rattle.mo_typing.proofs.Calls.{many_args}
 use Rattle.mo_typing.proofs.Nodes.{kind_in, at_Sum, at_Product, at_If, at_Sized}
@@ -82,4 +83,4 @@ pub kind_of_node-returns-in-Sized : goal.kind_of_node-returns-in-Sized
 kind_of_node-returns-in-Sized t c = rw (c.in-Sized.is, at_Sized c.in-Sized.function c.in-Sized.part c.in-Sized.sizes c.args.place) (rw c.len.ensures at c.of_sized.ensures)
 
 pub of_call-returns-in_ok-have_kinds-in-len3-up : goal.of_call-returns-in_ok-have_kinds-in-len3-up
-of_call-returns-in_ok-have_kinds-in-len3-up t c = rw c.broken-in-len3-up.ensures (many_args part_of kind_in (call c.args.place c.args.function) (breaks 33 c.args.place) (λ p q r ys. refl) c.args.args.now c.in_ok-have_kinds-in-len3-up.field-0 (omega arith) (sym c.have_kinds.ensures ∙ c.in_ok-have_kinds-in-len3-up.was))
+of_call-returns-in_ok-have_kinds-in-len3-up t c = rw c.broken-in-len3-up.ensures (many_args part_of kind_in (call c.args.place c.args.function) (breaks WRONG_TYPE c.args.place) (λ p q r ys. refl) c.args.args.now c.in_ok-have_kinds-in-len3-up.field-0 (omega arith) (sym c.have_kinds.ensures ∙ c.in_ok-have_kinds-in-len3-up.was))

@@ -1,5 +1,6 @@
 use Rattle.std.proofs.Common.{◌≡◌, ◌+◌, drop, true, Err, sym, ◌∙◌, arith, rules}
-use Rattle.mo_typing.specs.Outcome.{and_then, each}
+use Rattle.mo_syntax.specs.Outcome.{and_then}
+use Rattle.mo_typing.specs.Outcome.{each}
 use Rattle.mo_typing.specs.Kinds.{kind_of}
 use Rattle.mo_typing.proofs.Gathering.{ended, opened}
 use Rattle.mo_values.proofs.TwoOperands.{all_asked, all_whole, whole_halts, whole_more}

@@ -1,7 +1,7 @@
 use Rattle.std.proofs.Common.{◌≡◌, ℕ, ◌+◌, ◌*◌, ◌^◌, ◌∷◌, [], ◌++◌, max, map, flat_map, take, drop, length, Ok}
 use Rattle.std.specs.Prelude.{fold, slice_get, slice_range}
 use Rattle.mo_flat.specs.declared.array.ArrayExpr.{size-ArrayExpr}
-use Rattle.mo_typing.specs.Outcome.{Outcome}
+use Rattle.mo_syntax.specs.Outcome.{Outcome}
 use Rattle.mo_typing.specs.Indices.{indices, numbers_to}
 use Rattle.mo_values.specs.declared.value.Reckoned.{Reckoned}
 use Rattle.mo_values.specs.Scalars.{Known, of_known, read_all, chained}

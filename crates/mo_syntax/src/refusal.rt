@@ -1,12 +1,12 @@
-//! Broken rules.
+//! Refusals: the one way to say that a rule is broken at a place.
 ghost use Rattle.std.specs.Prelude.{◌≡◌, ◌≤◌};
-ghost use Rattle.mo_scope.specs.Outcome.{breach};
 ghost use Rattle.mo_syntax.specs.declared.place.Stop.TheVariants.{Broken as broken_by};
+ghost use Rattle.mo_syntax.specs.Outcome.{breach};
 
-use mo_syntax::{Broken, Place, Rule, Stop};
+use crate::place::{Broken, Place, Rule, Stop};
 
-/// A broken rule, at a place.
-pub(crate) fn broken(rule: u8, place: Place) -> Broken
+/// The rule of that number is broken at the place. The numbers have names in `rules`.
+pub fn broken(rule: u8, place: Place) -> Broken
     requires low { 1 ≤ rule }
     requires high { rule ≤ 46 }
     ensures { result ≡ breach rule place }
@@ -17,8 +17,8 @@ pub(crate) fn broken(rule: u8, place: Place) -> Broken
     }
 }
 
-/// The rule of that number is broken at a place.
-pub(crate) fn stop(rule: u8, place: Place) -> Stop
+/// The rule of that number is broken at the place, as the answer of a call that stops there.
+pub fn stop(rule: u8, place: Place) -> Stop
     requires low { 1 ≤ rule }
     requires high { rule ≤ 46 }
     ensures { result ≡ broken_by (breach rule place) }
