@@ -7,7 +7,7 @@ use Rattle.mo_flat.specs.declared.model.FlatModel.{FlatModel}
 use Rattle.mo_flat.specs.declared.model.FlatVar.{FlatVar}
 use Rattle.mo_flat.specs.Roles.{is_unknown_role, unknown_numbers, unknowns_from}
 use Rattle.mo_alias.specs.declared.alias.Alias.{Alias}
-use Rattle.mo_alias.specs.Forests.{AreWithin}
+use Rattle.mo_alias.specs.steps.Forests.{AreWithin}
 use Rattle.mo_alias.specs.Numbers.{numbers_among, numbers_from}
 use Rattle.mo_alias.specs.Recognized.{alias_of, aliases_in, is_zero_node, pair_of, positive, said_by, signed_node, two_terms, unknown_in, unknown_node, with_sign}
 

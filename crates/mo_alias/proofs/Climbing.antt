@@ -1,7 +1,7 @@
 -- Each unknown has one root at each moment.
 use Rattle.std.proofs.Common.{◌≡◌, ℕ, zero, suc, ◌+◌, ◌<◌, ◌≤◌, Bool, false, inl, inr, refl, sym, ap, subst, arith}
 use Rattle.std.proofs.lemmas.Bool.{cases_eq, cases_lt}
-use Rattle.mo_alias.specs.Climbing.{Climbs, top, up, Rises}
+use Rattle.mo_alias.specs.steps.Climbing.{Climbs, top, up, Rises}
 use Rattle.mo_alias.specs.Recognized.{sign_product}
 use Rattle.mo_alias.proofs.Signs.{product-assoc, product-plus}
 

@@ -5,9 +5,9 @@ use Rattle.std.specs.Prelude.{◌⊎◌, not, eqb}
 use Rattle.std.proofs.lemmas.Bool.{cases_eq, eq-eqb, ne_eqb}
 use Rattle.mo_alias.specs.declared.alias.Alias.{Alias}
 use Rattle.mo_alias.specs.Chains.{Chain, IsLink, IsLinkBelow, IsNew, link, none, Says, forth, back}
-use Rattle.mo_alias.specs.Marking.{IsMarked}
+use Rattle.mo_alias.specs.steps.Marking.{IsMarked}
 use Rattle.mo_alias.specs.Recognized.{sign_product}
-use Rattle.mo_alias.specs.Stretches.{AreDistinct}
+use Rattle.mo_alias.specs.steps.Stretches.{AreDistinct}
 use Rattle.mo_alias.proofs.Linking.{roots-at}
 use Rattle.mo_alias.proofs.Marking.{closed-apart, no-alias, root-joins}
 use Rattle.mo_alias.proofs.Stretching.{below-less, distinct-head, distinct-tail}

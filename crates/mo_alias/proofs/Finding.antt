@@ -10,7 +10,7 @@ use Rattle.mo_alias.specs.declared.alias.Alias.{Alias}
 use Rattle.mo_alias.specs.declared.classify.Finding.{Finding}
 use Rattle.mo_alias.specs.Aliases.{AreLoops, IsLoop, IsSpare}
 use Rattle.mo_alias.specs.Chains.{Agrees, Contradicts, IsJoined, IsLink}
-use Rattle.mo_alias.specs.Findings.{AreLoopsTo, contradicting, is_spare, IsFinding}
+use Rattle.mo_alias.specs.steps.Findings.{AreLoopsTo, contradicting, is_spare, IsFinding}
 use Rattle.mo_alias.proofs.Ascending.{ascend-none, ascend-put, contains-kept, contains-last, contains-put}
 use Rattle.mo_alias.proofs.Linking.{roots-at}
 use Rattle.mo_alias.proofs.Marking.{one-sign}

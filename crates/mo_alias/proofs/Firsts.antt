@@ -8,9 +8,9 @@ use Rattle.mo_alias.specs.declared.alias.Alias.{Alias}
 use Rattle.mo_alias.specs.declared.found.Gone.{Gone}
 use Rattle.mo_alias.specs.declared.trees.Trees.{Trees}
 use Rattle.mo_alias.specs.Aliases.{AreGone, IsGone}
-use Rattle.mo_alias.specs.Climbing.{top}
-use Rattle.mo_alias.specs.Forests.{AreRooted, IsForest, minus_in, parent_in, Reaches, since_in}
-use Rattle.mo_alias.specs.Leasts.{AreFirst, AreGoneBelow, AreRoots, AreSplit, IsFirst, IsGoneFrom}
+use Rattle.mo_alias.specs.steps.Climbing.{top}
+use Rattle.mo_alias.specs.steps.Forests.{AreRooted, IsForest, minus_in, parent_in, Reaches, since_in}
+use Rattle.mo_alias.specs.steps.Leasts.{AreFirst, AreGoneBelow, AreRoots, AreSplit, IsFirst, IsGoneFrom}
 use Rattle.mo_alias.specs.Recognized.{sign_product}
 use Rattle.mo_alias.proofs.Ascending.{ascend-none, ascend-put, contains-kept, contains-last, contains-put}
 use Rattle.mo_alias.proofs.Climbing.{climbs-inside, climbs-one}

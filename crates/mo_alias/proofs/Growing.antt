@@ -5,8 +5,8 @@ use Rattle.std.proofs.lemmas.Bool.{cases_eq}
 use Rattle.mo_alias.specs.declared.alias.Alias.{Alias}
 use Rattle.mo_alias.specs.declared.trees.Trees.{Trees}
 use Rattle.mo_alias.specs.Chains.{Agrees, Contradicts, IsJoined}
-use Rattle.mo_alias.specs.Forests.{AreRooted, IsForest, minus_in, parent_in, Reaches, since_in}
-use Rattle.mo_alias.specs.Marking.{IsMarked}
+use Rattle.mo_alias.specs.steps.Forests.{AreRooted, IsForest, minus_in, parent_in, Reaches, since_in}
+use Rattle.mo_alias.specs.steps.Marking.{IsMarked}
 use Rattle.mo_alias.specs.Recognized.{sign_product}
 use Rattle.mo_alias.proofs.Climbing.{climbs-between, climbs-one}
 use Rattle.mo_alias.proofs.Marking.{joined-signed, marked-closed, marked-none, one-root, root-joins}

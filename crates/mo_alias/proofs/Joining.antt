@@ -5,8 +5,8 @@ use Rattle.std.proofs.lemmas.Bool.{cases_eq}
 use Rattle.mo_alias.specs.declared.alias.Alias.{Alias}
 use Rattle.mo_alias.specs.declared.trees.Trees.{Trees}
 use Rattle.mo_alias.specs.Chains.{IsLink, Says, forth, back}
-use Rattle.mo_alias.specs.Climbing.{top, up}
-use Rattle.mo_alias.specs.Forests.{AreRooted, ends_in, IsForest, IsLinked, IsPut, minus_in, parent_in, Reaches, since_in}
+use Rattle.mo_alias.specs.steps.Climbing.{top, up}
+use Rattle.mo_alias.specs.steps.Forests.{AreRooted, ends_in, IsForest, IsLinked, IsPut, minus_in, parent_in, Reaches, since_in}
 use Rattle.mo_alias.specs.Recognized.{sign_product}
 use Rattle.mo_alias.proofs.Climbing.{climbs-kept, climbs-on, climbs-one, climbs-still, climbs-top}
 use Rattle.mo_alias.proofs.Growing.{no-later, reaches-now}

@@ -10,7 +10,7 @@ use Rattle.mo_flat.specs.Roles.{is_unknown_role, unknown_numbers, unknowns_from}
 use Rattle.mo_alias.specs.declared.found.Aliases.{Aliases}
 use Rattle.mo_alias.specs.declared.found.Gone.{Gone}
 use Rattle.mo_alias.specs.Numbers.{number_among, numbers_among, numbers_from, variable_of}
-use Rattle.mo_alias.specs.Placing.{flag_at, place_at, place_by, stays_by}
+use Rattle.mo_alias.specs.steps.Placing.{flag_at, place_at, place_by, stays_by}
 use Rattle.mo_alias.specs.Without.{gone_at, is_absent, is_kept, kept_from, kept_to, place, place_of, stays, without, without_by}
 use Rattle.mo_alias.proofs.Bounding.{number-within}
 

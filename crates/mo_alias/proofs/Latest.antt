@@ -3,8 +3,8 @@ use Rattle.std.proofs.Common.{◌≡◌, ℕ, suc, ◌<◌, ◌≤◌, false, in
 use Rattle.std.proofs.lemmas.Bool.{cases_eq, cases_lt}
 use Rattle.mo_alias.specs.declared.trees.Latest.{Latest}
 use Rattle.mo_alias.specs.declared.trees.Trees.{Trees}
-use Rattle.mo_alias.specs.Climbing.{top, up}
-use Rattle.mo_alias.specs.Forests.{AreOnce, AreTrees, ends_in, first, HaveRoot, IsLatest, LatestTo, minus_in, parent_in, Reaches, second, since_in}
+use Rattle.mo_alias.specs.steps.Climbing.{top, up}
+use Rattle.mo_alias.specs.steps.Forests.{AreOnce, AreTrees, ends_in, first, HaveRoot, IsLatest, LatestTo, minus_in, parent_in, Reaches, second, since_in}
 use Rattle.mo_alias.proofs.Climbing.{climbs-all, climbs-on, climbs-one, climbs-still, climbs-up}
 use Rattle.mo_alias.specs.Recognized.{sign_product}
 

@@ -4,7 +4,7 @@ use Rattle.std.specs.Prelude.{◌⊎◌, eqb}
 use Rattle.std.proofs.lemmas.Bool.{cases_eq, eq-eqb, ne_eqb}
 use Rattle.mo_alias.specs.declared.alias.Alias.{Alias}
 use Rattle.mo_alias.specs.Chains.{Says, forth, back, none, IsNew, IsLinkBelow, IsJoined}
-use Rattle.mo_alias.specs.Marking.{IsMarked}
+use Rattle.mo_alias.specs.steps.Marking.{IsMarked}
 use Rattle.mo_alias.specs.Recognized.{sign_product}
 use Rattle.mo_alias.proofs.Chaining.{chain-one}
 use Rattle.mo_alias.proofs.Marking.{is-new, joined-append, joined-back, joined-more, marked-closed, marked-none}

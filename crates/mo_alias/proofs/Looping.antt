@@ -7,17 +7,17 @@ use Rattle.std.proofs.lemmas.Bool.{cases_eq}
 use Rattle.std.specs.List.Sorted.{IsStrictlyIncreasing}
 use Rattle.std.specs.BTreeSet.{BTreeSet, IsEmpty, Updates}
 use Rattle.std.specs.Ordering.{nat_cmp}
-use Rattle.mo_graph.specs.Placing.{Has}
+use Rattle.mo_graph.specs.steps.Placing.{Has}
 use Rattle.mo_graph.proofs.Ready.{has-either, has-new, has-none}
 use Rattle.mo_alias.specs.declared.alias.Alias.{Alias}
 use Rattle.mo_alias.specs.declared.classify.Finding.{Finding}
 use Rattle.mo_alias.specs.declared.trees.Trees.{Trees}
 use Rattle.mo_alias.specs.Aliases.{IsLoop}
 use Rattle.mo_alias.specs.Chains.{Chain, Contradicts, IsJoined, IsLinkBelow}
-use Rattle.mo_alias.specs.Climbing.{top}
-use Rattle.mo_alias.specs.Findings.{AreFindings, IsFinding}
-use Rattle.mo_alias.specs.Forests.{AreRooted, AreTrees, AreWithin, IsForest, Reaches, since_in}
-use Rattle.mo_alias.specs.Stretches.{IsListed, IsOpen, IsStretch}
+use Rattle.mo_alias.specs.steps.Climbing.{top}
+use Rattle.mo_alias.specs.steps.Findings.{AreFindings, IsFinding}
+use Rattle.mo_alias.specs.steps.Forests.{AreRooted, AreTrees, AreWithin, IsForest, Reaches, since_in}
+use Rattle.mo_alias.specs.steps.Stretches.{IsListed, IsOpen, IsStretch}
 use Rattle.mo_alias.proofs.Linking.{marked-nothing}
 use Rattle.mo_alias.proofs.Marking.{one-root, one-sign}
 use Rattle.mo_alias.proofs.Stretching.{chain-low}

@@ -3,7 +3,7 @@ use Rattle.std.proofs.Common.{◌≡◌, ℕ, suc, ◌≤◌, Bool, inl, inr, Li
 use Rattle.std.specs.Prelude.{◌⊎◌}
 use Rattle.mo_alias.specs.declared.alias.Alias.{Alias}
 use Rattle.mo_alias.specs.Chains.{Says, IsNew, IsLinkBelow, IsJoined}
-use Rattle.mo_alias.specs.Marking.{IsMarked}
+use Rattle.mo_alias.specs.steps.Marking.{IsMarked}
 use Rattle.mo_alias.specs.Recognized.{sign_product}
 use Rattle.mo_alias.proofs.Chaining.{below-more, chain-append, chain-back, chain-keeps, chain-more, turned}
 use Rattle.mo_alias.proofs.Signs.{product-left}

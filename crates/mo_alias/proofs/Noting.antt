@@ -3,7 +3,7 @@ use Rattle.std.proofs.Common.{◌≡◌, ℕ, zero, suc, ◌<◌, ◌≤◌, Boo
 use Rattle.std.specs.Prelude.{nat_eq}
 use Rattle.std.proofs.lemmas.Bool.{cases_eq, eq-eqb, ne_eqb}
 use Rattle.mo_alias.specs.declared.found.Gone.{Gone}
-use Rattle.mo_alias.specs.Placing.{gone_from, gone_next}
+use Rattle.mo_alias.specs.steps.Placing.{gone_from, gone_next}
 use Rattle.mo_alias.specs.Without.{gone_at}
 
 from-some : (h : Gone) (gone : List Gone) (u : ℕ) → gone_from (Some h) gone u ≡ Some h

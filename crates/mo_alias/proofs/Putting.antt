@@ -4,7 +4,7 @@ use Rattle.std.proofs.lemmas.Bool.{cases_eq}
 use Rattle.mo_alias.specs.declared.alias.Alias.{Alias}
 use Rattle.mo_alias.specs.declared.trees.Trees.{Trees}
 use Rattle.mo_alias.specs.Chains.{IsLink, Says}
-use Rattle.mo_alias.specs.Forests.{AreOnce, AreTrees, ends_in, IsLinked, IsPut, minus_in, parent_in, Reaches, since_in}
+use Rattle.mo_alias.specs.steps.Forests.{AreOnce, AreTrees, ends_in, IsLinked, IsPut, minus_in, parent_in, Reaches, since_in}
 
 -- what is known of a link by its numbers
 pub linked-by : (said : List (Option Alias)) (t : Trees) (u at near far above : ℕ) (minus sign other : Bool) → since_in t u ≡ at → ends_in t u ≡ (near, far) → parent_in t u ≡ above

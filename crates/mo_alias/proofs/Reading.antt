@@ -2,8 +2,8 @@
 use Rattle.std.proofs.Common.{◌≡◌, ℕ, ◌<◌, Bool, false, get_or, length, sym, ap, ◌∙◌, subst, arith}
 use Rattle.std.proofs.lemmas.List.{get_or_default}
 use Rattle.mo_alias.specs.declared.trees.Trees.{Trees}
-use Rattle.mo_alias.specs.Climbing.{up}
-use Rattle.mo_alias.specs.Forests.{AreTrees, ends_in, minus_in, parent_in, Reaches, since_in}
+use Rattle.mo_alias.specs.steps.Climbing.{up}
+use Rattle.mo_alias.specs.steps.Forests.{AreTrees, ends_in, minus_in, parent_in, Reaches, since_in}
 use Rattle.mo_alias.specs.Recognized.{sign_product}
 use Rattle.mo_alias.proofs.Signs.{product-assoc}
 

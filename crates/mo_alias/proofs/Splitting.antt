@@ -4,7 +4,7 @@ use Rattle.std.specs.Prelude.{◌⊎◌}
 use Rattle.std.proofs.lemmas.Bool.{cases_lt}
 use Rattle.std.specs.BTreeSet.{BTreeSet, Updates}
 use Rattle.std.specs.Ordering.{nat_cmp}
-use Rattle.mo_graph.specs.Placing.{Has}
+use Rattle.mo_graph.specs.steps.Placing.{Has}
 use Rattle.mo_graph.proofs.Ready.{has-either, has-new, has-old}
 use Rattle.mo_alias.specs.declared.alias.Alias.{Alias}
 use Rattle.mo_alias.specs.declared.chain.Stretch.{Stretch}
@@ -12,9 +12,9 @@ use Rattle.mo_alias.specs.declared.trees.Latest.{Latest}
 use Rattle.mo_alias.specs.declared.trees.Trees.{Trees}
 use Rattle.mo_alias.specs.Chains.{Chain, IsJoined, IsLinkBelow, IsLink, Says, forth, back}
 use Rattle.mo_alias.specs.Chains as chains
-use Rattle.mo_alias.specs.Forests.{AreRooted, AreWithin, ends_in, first, HaveRoot, IsForest, IsLatest, minus_in, parent_in, Reaches, second, since_in}
-use Rattle.mo_alias.specs.Stretches.{AreLeft, AreOpen, AreSame, AreStretches, IsListed, IsOpen, IsStretch, weight, weight_of}
-use Rattle.mo_alias.specs.Stretches as stretches
+use Rattle.mo_alias.specs.steps.Forests.{AreRooted, AreWithin, ends_in, first, HaveRoot, IsForest, IsLatest, minus_in, parent_in, Reaches, second, since_in}
+use Rattle.mo_alias.specs.steps.Stretches.{AreLeft, AreOpen, AreSame, AreStretches, IsListed, IsOpen, IsStretch, weight, weight_of}
+use Rattle.mo_alias.specs.steps.Stretches as stretches
 use Rattle.mo_alias.proofs.Chaining.{says-back}
 use Rattle.mo_alias.proofs.Climbing.{climbs-one}
 use Rattle.mo_alias.proofs.Latest.{later-root}

@@ -5,8 +5,8 @@ use Rattle.std.proofs.lemmas.Bool.{cases_eq}
 use Rattle.mo_alias.specs.declared.alias.Alias.{Alias}
 use Rattle.mo_alias.specs.declared.chain.Stretch.{Stretch}
 use Rattle.mo_alias.specs.Chains.{Chain, IsLinkBelow, IsLink, link, none, Says}
-use Rattle.mo_alias.specs.Marking.{IsMarked}
-use Rattle.mo_alias.specs.Stretches.{AreDistinct, IsStretch, weight, weight_of}
+use Rattle.mo_alias.specs.steps.Marking.{IsMarked}
+use Rattle.mo_alias.specs.steps.Stretches.{AreDistinct, IsStretch, weight, weight_of}
 use Rattle.mo_alias.proofs.Chaining.{below-more, chain-append, chain-more}
 use Rattle.mo_alias.specs.Recognized.{sign_product}
 use Rattle.mo_alias.proofs.Linking.{one-saying}

@@ -4,9 +4,9 @@ use Rattle.std.specs.Prelude.{◌⊎◌, IsTrue}
 use Rattle.std.proofs.lemmas.Bool.{cases_eq}
 use Rattle.std.specs.BTreeSet.{BTreeSet, contains, IsEmpty, IsLowerBound, Updates}
 use Rattle.std.specs.Ordering.{nat_cmp}
-use Rattle.mo_graph.specs.Placing.{Has}
+use Rattle.mo_graph.specs.steps.Placing.{Has}
 use Rattle.mo_graph.proofs.Ready.{has-least, has-member, has-none, has-rest, has-still}
-use Rattle.mo_alias.specs.Listing.{IsListedTo}
+use Rattle.mo_alias.specs.steps.Listing.{IsListedTo}
 use Rattle.mo_alias.proofs.Ascending.{ascend-none, ascend-put, contains-kept, contains-last, contains-put}
 
 pub listed-init : (set : BTreeSet ℕ) → IsListedTo set set []

@@ -1,15 +1,8 @@
 pub mod Numbers
 pub mod Recognized
 pub mod Chains
-pub mod Climbing
-pub mod Forests
-pub mod Findings
-pub mod Stretches
-pub mod Leasts
-pub mod Listing
-pub mod Marking
 pub mod Aliases
 pub mod Without
-pub mod Placing
 pub mod Meaning
 pub mod Text
+pub mod steps

@@ -1,11 +1,11 @@
 //! The chains that contradicting equations close.
 ghost use Rattle.std.specs.Prelude.{◌≡◌, ℕ, ◌+◌, ◌-◌, ◌<◌, ◌⊎◌, List as Seq, Some, None, Contains, get_or, length, IfOk, OnOk};
 ghost use Rattle.std.specs.List.Sorted.{IsStrictlyIncreasing};
-ghost use Rattle.mo_graph.specs.Placing.{Has};
+ghost use Rattle.mo_graph.specs.steps.Placing.{Has};
 ghost use Rattle.mo_alias.specs.Aliases.{IsLoop};
 ghost use Rattle.mo_alias.specs.Chains.{Contradicts};
-ghost use Rattle.mo_alias.specs.Forests.{AreWithin, IsForest};
-ghost use Rattle.mo_alias.specs.Stretches.{IsListed, IsOpen, IsStretch};
+ghost use Rattle.mo_alias.specs.steps.Forests.{AreWithin, IsForest};
+ghost use Rattle.mo_alias.specs.steps.Stretches.{IsListed, IsOpen, IsStretch};
 
 use crate::alias::Alias;
 use crate::trees::Trees;

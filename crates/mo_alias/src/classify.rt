@@ -1,7 +1,7 @@
 //! Alias equations taken one after another.
 ghost use Rattle.std.specs.Prelude.{◌≡◌, ◌+◌, ◌<◌, Some, None, length, get_or, IfOk};
-ghost use Rattle.mo_alias.specs.Findings.{AreFindings, contradicting, is_spare, IsFinding};
-ghost use Rattle.mo_alias.specs.Forests.{AreWithin, IsForest};
+ghost use Rattle.mo_alias.specs.steps.Findings.{AreFindings, contradicting, is_spare, IsFinding};
+ghost use Rattle.mo_alias.specs.steps.Forests.{AreWithin, IsForest};
 
 use crate::alias::{Alias, sign_product};
 use crate::trees::Trees;

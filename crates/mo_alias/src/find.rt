@@ -1,9 +1,9 @@
 //! What is found of aliases in a model.
 ghost use Rattle.std.specs.Prelude.{◌≡◌, ℕ, ◌+◌, Bool as Truth, ◌<◌, None, get_or, length, IfOk, OnOk};
 ghost use Rattle.mo_alias.specs.Aliases.{AreDropped, AreGone, AreLoops};
-ghost use Rattle.mo_alias.specs.Findings.{AreFindings};
-ghost use Rattle.mo_alias.specs.Forests.{AreTrees, AreWithin, IsForest};
-ghost use Rattle.mo_alias.specs.Leasts.{AreGoneBelow, AreRoots, AreSplit};
+ghost use Rattle.mo_alias.specs.steps.Findings.{AreFindings};
+ghost use Rattle.mo_alias.specs.steps.Forests.{AreTrees, AreWithin, IsForest};
+ghost use Rattle.mo_alias.specs.steps.Leasts.{AreGoneBelow, AreRoots, AreSplit};
 ghost use Rattle.mo_alias.specs.Recognized.{aliases_in};
 
 use crate::alias::{Alias, aliases_in, sign_product};

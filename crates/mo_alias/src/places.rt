@@ -1,6 +1,6 @@
 //! What stands in the place of each variable.
 ghost use Rattle.std.specs.Prelude.{◌≡◌, ℕ, ◌+◌, ◌<◌, ◌≤◌, None, length, get_or, IfOk};
-ghost use Rattle.mo_alias.specs.Placing.{flag_at, gone_next, place_at, place_by, stays_by};
+ghost use Rattle.mo_alias.specs.steps.Placing.{flag_at, gone_next, place_at, place_by, stays_by};
 ghost use Rattle.mo_alias.specs.Without.{gone_at, kept_to, place, stays};
 
 use crate::found::Gone;

@@ -1,7 +1,7 @@
 //! Expressions with other variables in the places of theirs.
 ghost use Rattle.std.specs.Prelude.{◌≡◌, IfOk, map};
 ghost use Rattle.mo_flat.specs.declared.expr.FlatExpr.TheVariants.{If};
-ghost use Rattle.mo_alias.specs.Placing.{place_at};
+ghost use Rattle.mo_alias.specs.steps.Placing.{place_at};
 ghost use Rattle.mo_alias.specs.Without.{order_of, replaced, replaced_assert, replaced_attribute, replaced_equation, replaced_option, replaced_variable};
 
 use mo_flat::{FlatAssert, FlatEquation, FlatExpr, FlatVar};

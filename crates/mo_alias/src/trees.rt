@@ -2,7 +2,7 @@
 //! J. ACM 22, 1975): two are joined where they have one root. A tree is put under another by a link and stays there, so that the
 //! trees of any moment are seen by climbing only past links that came before.
 ghost use Rattle.std.specs.Prelude.{◌≡◌, ◌≢◌, ℕ, ◌+◌, ◌<◌, ◌⊎◌, length, get_or, IfOk};
-ghost use Rattle.mo_alias.specs.Forests.{AreOnce, AreTrees, HaveRoot, IsLatest, IsPut, Reaches, since_in};
+ghost use Rattle.mo_alias.specs.steps.Forests.{AreOnce, AreTrees, HaveRoot, IsLatest, IsPut, Reaches, since_in};
 
 use crate::alias::{Alias, sign_product};
 use mo_syntax::NoMemory;

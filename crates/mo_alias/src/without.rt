@@ -1,7 +1,7 @@
 //! The model without aliases.
 ghost use Rattle.std.specs.Prelude.{◌≡◌, ℕ, ◌+◌, ◌<◌, ◌≤◌, length, map, nat_eq, not, IfOk};
 ghost use Rattle.std.specs.List.{list_any};
-ghost use Rattle.mo_alias.specs.Placing.{flag_at, place_at};
+ghost use Rattle.mo_alias.specs.steps.Placing.{flag_at, place_at};
 ghost use Rattle.mo_alias.specs.Without.{kept_from, replaced_assert, replaced_equation, replaced_variable, without, without_by};
 
 use crate::found::Aliases;

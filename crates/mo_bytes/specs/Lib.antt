@@ -1,4 +1,4 @@
-pub mod Spelled
 pub mod Bytes
 pub mod Held
 pub mod Laws
+pub mod steps

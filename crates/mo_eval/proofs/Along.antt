@@ -20,7 +20,7 @@ use Rattle.mo_eval.specs.declared.selections.Selection.{Selection as SelectionAt
 use Rattle.mo_eval.specs.Components.{reader, reading_by}
 use Rattle.mo_eval.specs.Contexts.{Part}
 use Rattle.mo_eval.specs.References.{Selection, selection_at, selections}
-use Rattle.mo_eval.specs.Sites.{elements_in, part_in}
+use Rattle.mo_eval.specs.steps.Sites.{elements_in, part_in}
 use Rattle.mo_eval.specs.Values.{reading}
 use Rattle.mo_eval.specs.steps.Absence.{Removal, reading_for}
 use Rattle.mo_eval.specs.steps.Naming.{AreNames, name_seen, names_seen}

@@ -26,7 +26,7 @@ use Rattle.mo_eval.specs.Contexts.{Part}
 use Rattle.mo_values.specs.Asked.{operand}
 use Rattle.mo_eval.specs.Calls.{function_named, made_call, made_fill, made_function, made_ndims, make_arguments, read_size, read_sizes}
 use Rattle.mo_eval.specs.Resolving.{is_empty}
-use Rattle.mo_eval.specs.Sites.{IsMade}
+use Rattle.mo_eval.specs.steps.Sites.{IsMade}
 use Rattle.mo_eval.specs.steps.Parts.{made_arguments}
 use Rattle.mo_eval.specs.steps.Calling.{filled_with, is_lone, made_derivative, number_of_size, plain}
 use Rattle.mo_eval.proofs.Calling.{not_plain, only_plain}

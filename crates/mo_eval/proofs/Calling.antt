@@ -22,7 +22,7 @@ use Rattle.mo_scope.specs.Sizes.{is_nothing}
 use Rattle.mo_scope.specs.Worlds.{World}
 use Rattle.mo_eval.specs.declared.virtuals.Virtual.{Virtual as VirtualAt}
 use Rattle.mo_eval.specs.Virtuals.{Ask, Virtual}
-use Rattle.mo_eval.specs.Sites.{IsMade}
+use Rattle.mo_eval.specs.steps.Sites.{IsMade}
 use Rattle.mo_eval.specs.Contexts.{Part}
 use Rattle.mo_eval.specs.References.{identifier}
 use Rattle.mo_eval.specs.Calls.{has_subscripts, last_identifier}

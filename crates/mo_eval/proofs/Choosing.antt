@@ -17,7 +17,7 @@ use Rattle.mo_eval.specs.Virtuals.{Element, Virtual, Making, make, make_then}
 use Rattle.mo_eval.specs.Contexts.{Part}
 use Rattle.mo_values.specs.Made.{Choice}
 use Rattle.mo_eval.specs.Resolving.{make_part, made_choice}
-use Rattle.mo_eval.specs.Sites.{IsMade}
+use Rattle.mo_eval.specs.steps.Sites.{IsMade}
 use Rattle.mo_eval.specs.steps.Choosing.{read_condition, truth_in, branch_by, made_branch, kept_in, last_in}
 
 -- what the branches that are left make, with those that are made before

@@ -26,7 +26,7 @@ use Rattle.mo_values.specs.Asked.{read_in, checked_operands}
 use Rattle.mo_eval.specs.Calls.{division_variable, made_division, known_of_operands, make_arguments, value_of_division}
 use Rattle.mo_values.specs.Made.{known_number}
 use Rattle.mo_eval.specs.Seen.{AreThere, virtual_seen, virtuals_seen}
-use Rattle.mo_eval.specs.Sites.{IsMade}
+use Rattle.mo_eval.specs.steps.Sites.{IsMade}
 use Rattle.mo_values.specs.steps.Operands.{are_two}
 use Rattle.mo_eval.specs.steps.Dividing.{variable_of}
 

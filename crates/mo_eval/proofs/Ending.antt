@@ -26,7 +26,7 @@ use Rattle.mo_eval.specs.Contexts.{Part}
 use Rattle.mo_eval.specs.References.{Components, Named, Selection, elements_selected, named, selections}
 use Rattle.mo_eval.specs.Resolving.{made}
 use Rattle.mo_eval.specs.Values.{reading}
-use Rattle.mo_eval.specs.Sites.{elements_in, part_in, scope_of}
+use Rattle.mo_eval.specs.steps.Sites.{elements_in, part_in, scope_of}
 use Rattle.mo_eval.specs.steps.Absence.{Removes, reading_for}
 use Rattle.mo_eval.specs.steps.Ending.{selected_by, selection_of}
 use Rattle.mo_eval.specs.steps.Naming.{names_seen}

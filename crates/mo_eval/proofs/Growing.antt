@@ -21,7 +21,7 @@ use Rattle.mo_eval.specs.Components.{reader}
 use Rattle.mo_values.specs.Scalars.{Known}
 use Rattle.mo_eval.specs.Values.{reading}
 use Rattle.mo_eval.specs.Seen.{AreThere, virtuals_seen}
-use Rattle.mo_eval.specs.Sites.{scope_of, ask_of, part_in, elements_in, variables_in, IsMade}
+use Rattle.mo_eval.specs.steps.Sites.{scope_of, ask_of, part_in, elements_in, variables_in, IsMade}
 use Rattle.mo_eval.specs.steps.Parts.{made_two}
 use Rattle.mo_eval.proofs.Grown.{same_virtuals}
 

@@ -29,7 +29,7 @@ use Rattle.mo_eval.specs.declared.names.Name.{Name}
 use Rattle.mo_eval.specs.declared.resolve.Site.{Site}
 use Rattle.mo_eval.specs.Contexts.{Part}
 use Rattle.mo_eval.specs.References.{Named, Components, Found_at, counted_subscripts, identifier, named, named_before, named_from, named_last, number_of_dims}
-use Rattle.mo_eval.specs.Sites.{part_in, scope_of}
+use Rattle.mo_eval.specs.steps.Sites.{part_in, scope_of}
 use Rattle.mo_eval.proofs.Growing.{same_parts}
 use Rattle.mo_eval.proofs.Written.{every_later}
 use Rattle.mo_eval.specs.steps.Measuring.{GoesOn}

@@ -21,7 +21,7 @@ use Rattle.mo_eval.specs.declared.virtuals.Virtual.{Virtual as VirtualAt}
 use Rattle.mo_eval.specs.Contexts.{Part, read_element}
 use Rattle.mo_eval.specs.Components.{reading_by}
 use Rattle.mo_eval.specs.References.{Selection, elements_selected, handed_in, is_replaced, last_of, made_reference, selections, virtual_elements}
-use Rattle.mo_eval.specs.Sites.{IsMade}
+use Rattle.mo_eval.specs.steps.Sites.{IsMade}
 use Rattle.mo_eval.specs.Values.{reading}
 use Rattle.mo_eval.specs.Virtuals.{Ask, Reading, Virtual, numbers_behind}
 use Rattle.mo_eval.specs.steps.Selecting.{kind_of_elements}

@@ -33,7 +33,7 @@ use Rattle.mo_eval.specs.Contexts.{Part}
 use Rattle.mo_eval.specs.References.{Components, Found_at, Named, Selection, elements_selected, handed_in, last_of, made_reference, named, selections, virtual_elements}
 use Rattle.mo_eval.specs.Resolving.{made_found, made_name, made_named}
 use Rattle.mo_eval.specs.Seen.{AreThere, virtual_seen, virtuals_seen}
-use Rattle.mo_eval.specs.Sites.{IsMade, ask_of, elements_in, part_in, scope_of}
+use Rattle.mo_eval.specs.steps.Sites.{IsMade, ask_of, elements_in, part_in, scope_of}
 use Rattle.mo_eval.specs.Values.{reading}
 use Rattle.mo_eval.specs.Virtuals.{Virtual, numbers_behind}
 use Rattle.mo_eval.specs.steps.Naming.{AreNames, name_seen, names_seen}

@@ -19,7 +19,7 @@ use Rattle.mo_eval.specs.Values.{reading}
 use Rattle.mo_eval.specs.Contexts.{Part}
 use Rattle.mo_values.specs.Asked.{argument_of_size}
 use Rattle.mo_eval.specs.Calls.{made_size, make_arguments, read_size}
-use Rattle.mo_eval.specs.Sites.{plain_in, scope_of}
+use Rattle.mo_eval.specs.steps.Sites.{plain_in, scope_of}
 use Rattle.mo_eval.specs.steps.Calling.{number_of_size, plain}
 
 then_same : {A B : Type 0} (o : Outcome A) (f g : A → Outcome B) → ((a : A) → f a ≡ g a) → and_then o f ≡ and_then o g

@@ -1,7 +1,6 @@
 pub mod Virtuals
 pub mod Seen
 pub mod Sequence
-pub mod Sites
 pub mod steps
 pub mod Contexts
 pub mod References

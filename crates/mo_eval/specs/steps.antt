@@ -1,14 +1,16 @@
-pub mod Parts
-pub mod Choosing
+-- Words of the contracts inside this crate, which no public clause cites.
+pub mod Absence
 pub mod Asking
 pub mod Calling
-pub mod Subscripting
+pub mod Choosing
 pub mod Dividing
-pub mod Types
-pub mod Sizing
-pub mod Naming
-pub mod Absence
-pub mod Selecting
-pub mod Measuring
-pub mod Spelling
 pub mod Ending
+pub mod Measuring
+pub mod Naming
+pub mod Parts
+pub mod Selecting
+pub mod Sites
+pub mod Sizing
+pub mod Spelling
+pub mod Subscripting
+pub mod Types

@@ -9,7 +9,7 @@ ghost use Rattle.mo_eval.specs.Contexts.{alone, whole_of, truth_of};
 ghost use Rattle.mo_eval.specs.Resolving.{read_end};
 ghost use Rattle.mo_eval.specs.Calls.{read_size};
 ghost use Rattle.mo_eval.specs.Seen.{AreThere, resolved_seen};
-ghost use Rattle.mo_eval.specs.Sites.{part_in, elements_in};
+ghost use Rattle.mo_eval.specs.steps.Sites.{part_in, elements_in};
 ghost use Rattle.mo_eval.specs.steps.Asking.{end_in};
 ghost use Rattle.mo_eval.specs.steps.Choosing.{read_condition};
 

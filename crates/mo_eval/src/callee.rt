@@ -10,7 +10,7 @@ ghost use Rattle.mo_eval.specs.Virtuals.{Ask};
 ghost use Rattle.mo_eval.specs.Contexts.{Part as PartOf};
 ghost use Rattle.mo_eval.specs.Calls.{function_found, function_named, has_subscripts, last_identifier};
 ghost use Rattle.mo_eval.specs.Resolving.{all_arguments};
-ghost use Rattle.mo_eval.specs.Sites.{part_in, scope_of};
+ghost use Rattle.mo_eval.specs.steps.Sites.{part_in, scope_of};
 ghost use Rattle.mo_eval.specs.steps.Parts.{as_identifier, as_reference, made_argument, made_arguments};
 
 use crate::resolve::Site;

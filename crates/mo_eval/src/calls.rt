@@ -16,7 +16,7 @@ ghost use Rattle.mo_eval.specs.Contexts.{Part as PartOf};
 ghost use Rattle.mo_values.specs.Asked.{argument_of_size};
 ghost use Rattle.mo_eval.specs.Calls.{make_arguments, read_sizes, made_size, made_ndims, made_fill, made_sized, made_function, made_call};
 ghost use Rattle.mo_eval.specs.Seen.{AreThere, virtuals_seen};
-ghost use Rattle.mo_eval.specs.Sites.{part_in, plain_in, elements_in, ask_of, scope_of, IsMade};
+ghost use Rattle.mo_eval.specs.steps.Sites.{part_in, plain_in, elements_in, ask_of, scope_of, IsMade};
 ghost use Rattle.mo_eval.specs.steps.Parts.{as_callee, as_part, made_arguments};
 ghost use Rattle.mo_eval.specs.steps.Calling.{IsFirst, is_lone, filled_with, number_of_size, made_derivative, plain};
 

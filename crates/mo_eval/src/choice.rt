@@ -11,7 +11,7 @@ ghost use Rattle.mo_eval.specs.declared.virtuals.Virtual.{Virtual as VirtualAt};
 ghost use Rattle.mo_eval.specs.Virtuals.{Virtual as VirtualSeen};
 ghost use Rattle.mo_eval.specs.Resolving.{made_range, read_step, made_choice};
 ghost use Rattle.mo_eval.specs.Seen.{AreThere, virtuals_seen};
-ghost use Rattle.mo_eval.specs.Sites.{part_in, elements_in, IsMade};
+ghost use Rattle.mo_eval.specs.steps.Sites.{part_in, elements_in, IsMade};
 ghost use Rattle.mo_eval.specs.steps.Parts.{as_branch};
 ghost use Rattle.mo_eval.specs.steps.Choosing.{kept_in, last_in, made_branch, truth_in};
 

@@ -10,7 +10,7 @@ ghost use Rattle.mo_eval.specs.Keeping.{AreLayers, IsBinding, IsKept, bound_seen
 ghost use Rattle.mo_eval.specs.Components.{binding_of, condition_in, value_in};
 ghost use Rattle.mo_eval.specs.Values.{reading, resolved_for_value, there_of, value_of_element};
 ghost use Rattle.mo_eval.specs.Seen.{AreThere, element_seen};
-ghost use Rattle.mo_eval.specs.Sites.{elements_in};
+ghost use Rattle.mo_eval.specs.steps.Sites.{elements_in};
 ghost use Rattle.mo_eval.specs.steps.Asking.{bound_in, unbound};
 
 use crate::alone::{alone, truth_of};

@@ -8,7 +8,7 @@ ghost use Rattle.mo_eval.specs.Contexts.{Part as PartOf};
 ghost use Rattle.mo_eval.specs.Calls.{known_of_operands, value_of_division, division_variable, made_division};
 ghost use Rattle.mo_eval.specs.Seen.{AreThere, virtuals_seen};
 ghost use Rattle.mo_eval.specs.steps.Dividing.{variable_of};
-ghost use Rattle.mo_eval.specs.Sites.{plain_in, elements_in, IsMade};
+ghost use Rattle.mo_eval.specs.steps.Sites.{plain_in, elements_in, IsMade};
 
 use crate::calls::arguments;
 use crate::reader::Reader;

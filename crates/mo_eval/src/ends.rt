@@ -8,7 +8,7 @@ ghost use Rattle.mo_scope.specs.Worlds.{World, Grows, IsFrame, frames_of, table_
 ghost use Rattle.mo_eval.specs.Ends.{Selected as SelectedFrom, IsEnded, ended_by, ended_in, ended_of, ended_seen, first_identifier, unless_removed};
 ghost use Rattle.mo_eval.specs.Keeping.{IsKept};
 ghost use Rattle.mo_eval.specs.References.{Components};
-ghost use Rattle.mo_eval.specs.Sites.{part_in, scope_of};
+ghost use Rattle.mo_eval.specs.steps.Sites.{part_in, scope_of};
 ghost use Rattle.mo_eval.specs.Values.{most_references};
 ghost use Rattle.mo_eval.specs.steps.Absence.{Removes, as_stopped};
 ghost use Rattle.mo_eval.specs.steps.Ending.{AreSelected, selected_by, selected_seen};

@@ -11,7 +11,7 @@ ghost use Rattle.mo_names.specs.Sights.{IsFound, IsMember, found_in, member_of};
 ghost use Rattle.mo_typing.specs.Outcome.{Gives};
 ghost use Rattle.mo_eval.specs.Contexts.{Part as PartOf};
 ghost use Rattle.mo_eval.specs.References.{Named as NamedTree, counted_subscripts, named, named_before, named_last};
-ghost use Rattle.mo_eval.specs.Sites.{part_in, scope_of};
+ghost use Rattle.mo_eval.specs.steps.Sites.{part_in, scope_of};
 ghost use Rattle.mo_eval.specs.steps.Parts.{as_identifier, as_reference};
 ghost use Rattle.mo_eval.specs.steps.Measuring.{GoesOn};
 ghost use Rattle.mo_eval.specs.steps.Naming.{AreNames, IsReferred, counted_in, named_behind, named_on, referred_seen, names_seen};

@@ -8,7 +8,7 @@ ghost use Rattle.mo_eval.specs.Ends.{IsEnded, ended_of, ended_seen};
 ghost use Rattle.mo_eval.specs.Seen.{AreThere, element_seen, resolved_seen, sides_seen};
 ghost use Rattle.mo_eval.specs.Values.{most_references, value_of, value_of_element, sizes_of, sides_of, resolved, resolved_for_value, known_of, there_of, component_dims};
 ghost use Rattle.mo_eval.specs.Keeping.{IsKept};
-ghost use Rattle.mo_eval.specs.Sites.{elements_in};
+ghost use Rattle.mo_eval.specs.steps.Sites.{elements_in};
 ghost use Rattle.mo_eval.specs.steps.Asking.{value_in};
 
 use crate::alone::alone;

@@ -18,7 +18,7 @@ ghost use Rattle.mo_eval.specs.References.{Components, elements_selected, every,
 ghost use Rattle.mo_values.specs.Selected.{emptied};
 ghost use Rattle.mo_eval.specs.Resolving.{made_name, made_named, made_found};
 ghost use Rattle.mo_eval.specs.Seen.{AreThere, virtuals_seen};
-ghost use Rattle.mo_eval.specs.Sites.{IsMade, ask_of, part_in, scope_of};
+ghost use Rattle.mo_eval.specs.steps.Sites.{IsMade, ask_of, part_in, scope_of};
 ghost use Rattle.mo_eval.specs.Virtuals.{numbers_behind};
 ghost use Rattle.mo_eval.specs.steps.Absence.{Removal, as_stopped};
 ghost use Rattle.mo_eval.specs.steps.Naming.{AreNames, names_seen};

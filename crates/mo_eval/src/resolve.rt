@@ -12,7 +12,7 @@ ghost use Rattle.mo_eval.specs.Virtuals.{Virtual as VirtualSeen, make_each};
 ghost use Rattle.mo_values.specs.Made.{Choice, chosen, power_of, sum_of};
 ghost use Rattle.mo_eval.specs.Resolving.{make_part, make_parts};
 ghost use Rattle.mo_eval.specs.Seen.{AreThere, virtuals_seen};
-ghost use Rattle.mo_eval.specs.Sites.{scope_of, ask_of, part_in, IsMade};
+ghost use Rattle.mo_eval.specs.steps.Sites.{scope_of, ask_of, part_in, IsMade};
 ghost use Rattle.mo_eval.specs.steps.Parts.{made_below, made_two, as_term, as_factor, made_term, made_factor};
 
 use crate::calls::call;

@@ -10,7 +10,7 @@ ghost use Rattle.mo_typing.specs.Outcome.{Gives};
 ghost use Rattle.mo_eval.specs.Keeping.{IsKept};
 ghost use Rattle.mo_eval.specs.Contexts.{Part as PartOf};
 ghost use Rattle.mo_eval.specs.References.{component_behind, dims_at, selection_at, selections, there};
-ghost use Rattle.mo_eval.specs.Sites.{part_in, elements_in};
+ghost use Rattle.mo_eval.specs.steps.Sites.{part_in, elements_in};
 ghost use Rattle.mo_eval.specs.steps.Absence.{Removal, as_stopped};
 ghost use Rattle.mo_eval.specs.steps.Naming.{AreNames, name_seen, names_seen};
 ghost use Rattle.mo_eval.specs.steps.Parts.{as_identifier};

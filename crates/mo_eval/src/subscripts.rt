@@ -10,7 +10,7 @@ ghost use Rattle.mo_values.specs.Asked.{must_be_whole};
 ghost use Rattle.mo_eval.specs.References.{numbers_of, read_subscript, read_subscripts};
 ghost use Rattle.mo_eval.specs.Virtuals.{known_at};
 ghost use Rattle.mo_eval.specs.Seen.{AreThere, resolved_seen};
-ghost use Rattle.mo_eval.specs.Sites.{part_in, elements_in};
+ghost use Rattle.mo_eval.specs.steps.Sites.{part_in, elements_in};
 ghost use Rattle.mo_eval.specs.steps.Subscripting.{subscript_at, subscript_in};
 
 use crate::alone::alone;

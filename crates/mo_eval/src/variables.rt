@@ -12,7 +12,7 @@ ghost use Rattle.mo_eval.specs.Virtuals.{known_of_virtuals};
 ghost use Rattle.mo_values.specs.Told.{AreRead};
 ghost use Rattle.mo_eval.specs.Seen.{AreThere, element_seen, virtuals_seen};
 ghost use Rattle.mo_eval.specs.Sequence.{IsElement};
-ghost use Rattle.mo_eval.specs.Sites.{elements_in, variables_in};
+ghost use Rattle.mo_eval.specs.steps.Sites.{elements_in, variables_in};
 
 use crate::ahead::{Ahead, next_step};
 use crate::components::element_value;

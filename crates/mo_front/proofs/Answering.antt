@@ -20,7 +20,7 @@ use Rattle.mo_front.specs.declared.words.Emit.TheVariants as asks
 use Rattle.mo_front.specs.Emitted.{Refuses, Writes, analysed, without_aliases, reduced_model, flat_text, is_singular}
 use Rattle.mo_front.specs.Files.{Reads, none, text, Tokens, Trees}
 use Rattle.mo_front.specs.Limits.{all_files_limit}
-use Rattle.mo_front.specs.Loading.{RefusesReading, TellsTexts}
+use Rattle.mo_front.specs.steps.Loading.{RefusesReading, TellsTexts}
 use Rattle.mo_front.specs.Run.{IsAnswer}
 use Rattle.mo_front.specs.Told.{broken, flat, TreesGive, no_tree, not_flattened, flattened, TextsGive, trees, no_trees, no_tokens, read, unread, line_of_broken, bytes_of_all, Breaks, FilesGive, Tells, WritesGiven, no_model, no_text, refused, written}
 

@@ -10,7 +10,7 @@ use Rattle.mo_front.specs.declared.load.Unread.{Unread}
 use Rattle.mo_front.specs.declared.load.Unread.TheVariants.{Fault, NoMemory, Refused}
 use Rattle.mo_front.specs.Files.{IsText, too_long, not_utf8, Reads, none, broken, text, later, breaks_at}
 use Rattle.mo_front.specs.Limits.{file_limit, all_files_limit}
-use Rattle.mo_front.specs.Loading.{IsLine, IsTextOf, RefusesBytes, RefusesFile, RefusesReading, MoreFiles}
+use Rattle.mo_front.specs.steps.Loading.{IsLine, IsTextOf, RefusesBytes, RefusesFile, RefusesReading, MoreFiles}
 use Rattle.mo_front.specs.Refusal.{refusal_line}
 use Rattle.mo_front.specs.Run.{IsNamedFault}
 use Rattle.mo_front.specs.Told.{bytes_of_all, line_of_broken}

@@ -10,7 +10,7 @@ use Rattle.mo_syntax.specs.Lexeme.{Lexeme}
 use Rattle.mo_lexer.specs.Lexing.{Lexes, end_of}
 use Rattle.mo_parse_class.specs.WholeFiles.{EndsAtEnd, IsAtImpossible, IsFirstImpossible}
 use Rattle.mo_front.specs.Files.{Each, none, broken, given, later}
-use Rattle.mo_front.specs.Loading.{More}
+use Rattle.mo_front.specs.steps.Loading.{More}
 use Rattle.mo_syntax.specs.declared.rules.TheConstants.{FILE_TOO_LONG}
 
 module _ {A B : Type 0} (gives : ℕ → A → B → Type 0) (breaks : ℕ → A → Broken → Type 0) where

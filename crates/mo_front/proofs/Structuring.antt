@@ -22,7 +22,7 @@ use Rattle.mo_report.specs.declared.report.Report.{Report}
 use Rattle.mo_report.specs.Right.{AreLeastOffsets, AreOrdersAt, HasSquareParts, HasNoSquareParts, IsRightFor, singular, underdetermined, square}
 use Rattle.mo_report.specs.Right.{IsRightReport}
 use Rattle.mo_front.specs.declared.structure.Found.{Found}
-use Rattle.mo_front.specs.Structure.{order_by_offsets, IsEmptyReport, IsFoundOf, IsLeftOut, IsReportOn, as_many, fewer_equations, missing}
+use Rattle.mo_front.specs.steps.Structure.{order_by_offsets, IsEmptyReport, IsFoundOf, IsLeftOut, IsReportOn, as_many, fewer_equations, missing}
 use Rattle.mo_front.specs.Least.{IsLeastFor, least_offsets, left_out}
 
 mentions-known : (g : Signature) (i j : ℕ) → IsSound g → i < equations g → Mentions g i j → (0 < j) × (j ≤ g.unknowns)

@@ -23,7 +23,7 @@ use Rattle.mo_front.specs.Emitted.{PhasesBreak, Refuses, asked_by, least_status,
 use Rattle.mo_front.specs.Files.{Reads, breaks_at}
 use Rattle.mo_front.specs.Least.{IsLeastOf}
 use Rattle.mo_front.specs.Limits.{all_files_limit, printed_limit}
-use Rattle.mo_front.specs.Loading.{IsLine, JudgesTexts, RefusesReading, RefusesReadingAll, RefusesReport, TellsBytes, judges, of_files, of_report, refuses}
+use Rattle.mo_front.specs.steps.Loading.{IsLine, JudgesTexts, RefusesReading, RefusesReadingAll, RefusesReport, TellsBytes, judges, of_files, of_report, refuses}
 use Rattle.mo_front.specs.Run.{IsAnswer, IsNamedFault}
 use Rattle.mo_front.specs.Told.{Breaks, TextsGive, flat, line_of_broken, no_model, no_text}
 use Rattle.mo_front.specs.Verified.{FilesGiveWith, IsJudged, ReadsReport, SaysVerdict, TellsVerdict, judged, read, refused, too_long, unread, verdict_status}

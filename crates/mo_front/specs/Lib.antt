@@ -4,10 +4,9 @@ pub mod Ladder
 pub mod Least
 pub mod Limits
 pub mod Verified
-pub mod Loading
 pub mod Refusal
 pub mod Run
 pub mod States
-pub mod Structure
 pub mod Told
 pub mod Words
+pub mod steps

@@ -5,7 +5,7 @@ ghost use Rattle.mo_incidence.specs.Signature.{equations};
 ghost use Rattle.mo_incidence.specs.Offsets.{by_place, by_number, sum_unknowns};
 ghost use Rattle.mo_incidence.specs.Dummies.{greatest, states_of};
 ghost use Rattle.mo_report.specs.Right.{AreLeastOffsets, AreOrdersAt, has_zero, index_of};
-ghost use Rattle.mo_front.specs.Structure.{order_by_offsets};
+ghost use Rattle.mo_front.specs.steps.Structure.{order_by_offsets};
 
 use mo_blocks::counted_by_offsets;
 use mo_incidence::{Dummies, Incidence, Offsets};

@@ -11,7 +11,7 @@ ghost use Rattle.mo_report.specs.Size.{report_limit};
 ghost use Rattle.mo_select.specs.Text.{selection_lines};
 ghost use Rattle.mo_front.specs.States.{selected_lines};
 ghost use Rattle.mo_front.specs.Least.{IsLeastOf};
-ghost use Rattle.mo_front.specs.Structure.{IsFoundOf};
+ghost use Rattle.mo_front.specs.steps.Structure.{IsFoundOf};
 ghost use Rattle.mo_front.specs.Emitted.{IsReported, IsTextOf, IsTextOfAliases, PhaseBreaks, PhasesBreak, ReducedBreaks, Refuses, Selects, Writes, asked_by, derivatives_size, least_status, part_text, reduced_part, reduced_status, status_of};
 ghost use Rattle.mo_syntax.specs.Outcome.{IfBroken};
 

@@ -4,7 +4,7 @@ ghost use Rattle.std.specs.Str.Lossy.{utf8_valid_len};
 ghost use Rattle.mo_ports.specs.Counts.{Rose};
 ghost use Rattle.mo_front.specs.Files.{Reads, IsText, breaks_at};
 ghost use Rattle.mo_front.specs.Limits.{file_limit, all_files_limit, most_files};
-ghost use Rattle.mo_front.specs.Loading.{IsLine, IsTextOf, RefusesBytes, RefusesFile, RefusesReading};
+ghost use Rattle.mo_front.specs.steps.Loading.{IsLine, IsTextOf, RefusesBytes, RefusesFile, RefusesReading};
 ghost use Rattle.mo_front.specs.Run.{IsNamedFault};
 
 use crate::refusal::refusal_text;

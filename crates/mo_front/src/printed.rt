@@ -3,7 +3,7 @@ ghost use Rattle.std.specs.Prelude.{◌≡◌, ◌≢◌, ◌≤◌, ◌⊎◌, 
 ghost use Rattle.mo_ports.specs.Counts.{Rose};
 ghost use Rattle.mo_front.specs.Files.{Reads};
 ghost use Rattle.mo_front.specs.Limits.{all_files_limit, file_limit, most_files, printed_limit};
-ghost use Rattle.mo_front.specs.Loading.{JudgesTexts, RefusesReadingAll, RefusesReport, TellsBytes};
+ghost use Rattle.mo_front.specs.steps.Loading.{JudgesTexts, RefusesReadingAll, RefusesReport, TellsBytes};
 ghost use Rattle.mo_front.specs.Run.{IsAnswer, IsNamedFault, IsSilent, WritesFront, WritesTold, with_report};
 ghost use Rattle.mo_front.specs.Told.{Breaks, TextsGive};
 ghost use Rattle.mo_front.specs.Verified.{ReadsReport, TellsVerdict};

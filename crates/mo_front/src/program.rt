@@ -3,7 +3,7 @@ ghost use Rattle.std.specs.Prelude.{◌≡◌, ◌≢◌, ℕ, ◌≤◌, ◌⊎
 ghost use Rattle.mo_ports.specs.Counts.{Rose};
 ghost use Rattle.mo_front.specs.Ladder.{TellsLadder};
 ghost use Rattle.mo_front.specs.Limits.{most_files, file_limit};
-ghost use Rattle.mo_front.specs.Loading.{TellsTexts};
+ghost use Rattle.mo_front.specs.steps.Loading.{TellsTexts};
 ghost use Rattle.mo_front.specs.Run.{IsAnswer, IsNamedFault, IsSilent, NamesFault, NamesReport, TellsFiles, TellsWords, WritesTold, WritesFront, with_report, words_of};
 ghost use Rattle.mo_front.specs.Told.{Breaks, Tells, TextsGive, WritesGiven, line_of_broken};
 ghost use Rattle.mo_front.specs.Words.{Names};

@@ -11,7 +11,7 @@ ghost use Rattle.mo_match.specs.Results.{IsMadeFor};
 ghost use Rattle.mo_report.specs.Right.{IsRightReport, AreLeastOffsets};
 ghost use Rattle.mo_report.specs.Size.{unknown_names};
 ghost use Rattle.mo_front.specs.Emitted.{is_singular};
-ghost use Rattle.mo_front.specs.Structure.{IsEmptyReport, IsFoundOf, IsLeftOut, IsReportOn};
+ghost use Rattle.mo_front.specs.steps.Structure.{IsEmptyReport, IsFoundOf, IsLeftOut, IsReportOn};
 ghost use Rattle.mo_syntax.specs.Outcome.{IfBroken};
 
 use crate::degrees::{freedom, index, orders};

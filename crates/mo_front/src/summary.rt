@@ -3,7 +3,7 @@ ghost use Rattle.std.specs.Prelude.{◌≡◌, ◌++◌, None, length, string_by
 ghost use Rattle.mo_flat.specs.Sound.{IsSoundModel};
 ghost use Rattle.mo_incidence.specs.Model.{incidence_of, refusal_of};
 ghost use Rattle.mo_front.specs.Emitted.{PhasesBreak, Refuses, asked_by};
-ghost use Rattle.mo_front.specs.Structure.{IsFoundOf};
+ghost use Rattle.mo_front.specs.steps.Structure.{IsFoundOf};
 ghost use Rattle.mo_front.specs.Ladder.{IsSummary, counts_text, named_number, structure_text, summary_line};
 ghost use Rattle.mo_syntax.specs.Outcome.{IfBroken};
 

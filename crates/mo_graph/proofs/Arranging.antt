@@ -4,9 +4,9 @@ use Rattle.std.proofs.lemmas.Bool.{cases_lt}
 use Rattle.std.proofs.lemmas.Bool.Decides.{eqb_tells}
 use Rattle.mo_graph.specs.Order.{Leads, IsBlock, IsPlaced, IsReady, IsNext, IsInOrder}
 use Rattle.mo_graph.specs.Edges.{Edge, IsGraph, AreLeaders, AreReplaced}
-use Rattle.mo_graph.specs.Gathering.{AreClasses}
-use Rattle.mo_graph.specs.Placing.{IsOrdered, HasRanks}
-use Rattle.mo_graph.specs.Listing.{members, IsArranged}
+use Rattle.mo_graph.specs.steps.Gathering.{AreClasses}
+use Rattle.mo_graph.specs.steps.Placing.{IsOrdered, HasRanks}
+use Rattle.mo_graph.specs.steps.Listing.{members, IsArranged}
 use Rattle.mo_graph.proofs.Chains.{edge-at, edge-where}
 use Rattle.mo_graph.proofs.Members.{members-ascend, members-contain, contain-members, at-contains, least-contained}
 

@@ -5,7 +5,7 @@ use Rattle.mo_graph.specs.Counting.{sum_below}
 use Rattle.mo_graph.proofs.Counting.{without, sum-without, sum-same, without-same, without-other}
 use Rattle.mo_graph.specs.Order.{Leads}
 use Rattle.mo_graph.specs.Edges.{Edge}
-use Rattle.mo_graph.specs.Finishing.{none, unmarked, total}
+use Rattle.mo_graph.specs.steps.Finishing.{none, unmarked, total}
 
 pub below-next : (s t : ℕ) → s < t + 1 → (s < t) ⊎ (s ≡ t)
 below-next s t l = elim (eqb_tells s t) [ inl e ↦ inr e.1 | inr e ↦ inl (omega (arith, e.1)) ]

@@ -4,8 +4,8 @@ use Rattle.std.proofs.lemmas.Bool.{cases_lt}
 use Rattle.std.proofs.lemmas.Bool.Decides.{eqb_tells}
 use Rattle.mo_graph.specs.Order.{Leads}
 use Rattle.mo_graph.specs.Edges.{Edge, IsGraph, AreThreaded}
-use Rattle.mo_graph.specs.Finishing.{unmarked, IsFinished}
-use Rattle.mo_graph.specs.Gathering.{IsGathered, AreClasses}
+use Rattle.mo_graph.specs.steps.Finishing.{unmarked, IsFinished}
+use Rattle.mo_graph.specs.steps.Gathering.{IsGathered, AreClasses}
 use Rattle.mo_graph.proofs.Chains.{below-next, leads-on, edge-at, edge-where, unmarked-set, unmarked-all}
 
 pub gather-begin : (m : ℕ) (sources targets order : List ℕ) (count : ℕ) (class queue : List ℕ) → length class ≡ m → length queue ≡ m → ((v : ℕ) → get_or class v 0 ≡ 0)

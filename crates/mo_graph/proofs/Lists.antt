@@ -5,7 +5,7 @@ use Rattle.std.specs.Prelude.{Vec}
 use Rattle.std.specs.Global.{Global}
 use Rattle.std.proofs.lemmas.Bool.Decides.{eqb_tells}
 use Rattle.mo_graph.specs.Order.{numbers_in}
-use Rattle.mo_graph.specs.Listing.{members}
+use Rattle.mo_graph.specs.steps.Listing.{members}
 use Rattle.mo_graph.proofs.Members.{members-some, members-none}
 
 numbers-set : (xs : List (Vec ℕ Global)) (b : ℕ) (v : Vec ℕ Global) → numbers_in (set xs b v) ≡ set (numbers_in xs) b v.items

@@ -4,7 +4,7 @@ use Rattle.std.proofs.Math.Seq.{get_or-append_seam}
 use Rattle.std.proofs.Math.ListN.{get_or-append}
 use Rattle.std.specs.List.Sorted.{IsStrictlyIncreasing}
 use Rattle.std.proofs.lemmas.Bool.Decides.{eqb_tells}
-use Rattle.mo_graph.specs.Listing.{members}
+use Rattle.mo_graph.specs.steps.Listing.{members}
 
 pub members-none : (f : ℕ → ℕ) (q n : ℕ) → f n ≢ q → members f q (suc n) ≡ members f q n
 members-none f q n ne = elim (eqb_tells (f n) q) [ inl e ↦ absurd (ne e.1) | inr e ↦ rw e.0 refl ]

@@ -4,7 +4,7 @@ use Rattle.std.proofs.lemmas.Bool.Decides.{eqb_tells}
 use Rattle.mo_graph.specs.Counting.{sum_below}
 use Rattle.mo_graph.proofs.Counting.{without, without-same, without-other, sum-same, distinct-room}
 use Rattle.mo_graph.specs.Edges.{IsGraph, AreThreaded}
-use Rattle.mo_graph.specs.Placing.{where_same, waiting, leads_away, IsOrdered, AreOrdered, IsPlacing, Places}
+use Rattle.mo_graph.specs.steps.Placing.{where_same, waiting, leads_away, IsOrdered, AreOrdered, IsPlacing, Places}
 use Rattle.mo_graph.proofs.Chains.{below-next, sum-change}
 
 where-same : (k b y : ℕ) → k ≡ b → where_same k b y ≡ y

@@ -5,7 +5,7 @@ use Rattle.std.proofs.lemmas.Bool.{false≢true}
 use Rattle.std.proofs.lemmas.Bool.Decides.{nat_tests}
 use Rattle.std.specs.BTreeSet.{BTreeSet, contains, IsEmpty, Updates, IsLowerBound}
 use Rattle.std.specs.Ordering.{nat_cmp}
-use Rattle.mo_graph.specs.Placing.{Has}
+use Rattle.mo_graph.specs.steps.Placing.{Has}
 
 pub has-none : (s : BTreeSet ℕ) (q : ℕ) → IsEmpty s → Has s q → ⊥
 unfolding Has

@@ -4,7 +4,7 @@ use Rattle.std.specs.BTreeSet.{BTreeSet, IsEmpty, Updates, IsLowerBound}
 use Rattle.std.specs.Ordering.{nat_cmp}
 use Rattle.mo_graph.proofs.Counting.{without}
 use Rattle.mo_graph.specs.Edges.{IsGraph, AreThreaded}
-use Rattle.mo_graph.specs.Placing.{Has, HasReady, IsLed, HasRanks, IsPlacing, Places, AreOrdered}
+use Rattle.mo_graph.specs.steps.Placing.{Has, HasReady, IsLed, HasRanks, IsPlacing, Places, AreOrdered}
 use Rattle.mo_graph.proofs.Chains.{below-next}
 use Rattle.mo_graph.proofs.Places.{place-room, placing-place, placed-last, placing-skip, lower-some, placing-lower, all-placed}
 use Rattle.mo_graph.proofs.Ready.{has-none, has-old, has-new, has-either, has-rest, has-still, has-least}

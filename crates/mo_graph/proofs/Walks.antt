@@ -4,7 +4,7 @@ use Rattle.std.proofs.lemmas.Bool.{cases_lt}
 use Rattle.std.proofs.lemmas.Bool.Decides.{eqb_tells}
 use Rattle.mo_graph.specs.Order.{Leads}
 use Rattle.mo_graph.specs.Edges.{Edge, IsGraph, AreThreaded, HasThreads}
-use Rattle.mo_graph.specs.Finishing.{unmarked, total, IsWalk, Walks, IsFinished}
+use Rattle.mo_graph.specs.steps.Finishing.{unmarked, total, IsWalk, Walks, IsFinished}
 use Rattle.mo_graph.proofs.Chains.{below-next, leads-edge, edge-at, edge-where, unmarked-set, unmarked-all, total-set}
 
 pub walk-begin : (m : ℕ) (sources targets path mark cursor order before : List ℕ) → IsGraph m sources targets → AreThreaded sources cursor before

@@ -1,7 +1,7 @@
 //! The order in which a search by depth finishes vertices.
 ghost use Rattle.std.specs.Prelude.{◌≡◌, ◌≢◌, ℕ, ◌+◌, ◌-◌, ◌<◌, ◌≤◌, length, slice_index};
 ghost use Rattle.mo_graph.specs.Edges.{IsGraph, AreThreaded, HasThreads};
-ghost use Rattle.mo_graph.specs.Finishing.{Walks, IsFinished};
+ghost use Rattle.mo_graph.specs.steps.Finishing.{Walks, IsFinished};
 
 /// Finishes the vertices without a mark to which chains lead from the root, and gives how many are finished then. An edge to a vertex
 /// without a mark is looked at again once that is finished.

@@ -2,8 +2,8 @@
 //! applications in data flow analysis, Comput. Math. Appl. 7, 1981).
 ghost use Rattle.std.specs.Prelude.{◌≡◌, ◌≢◌, ℕ, ◌+◌, ◌-◌, ◌<◌, ◌≤◌, length, slice_index};
 ghost use Rattle.mo_graph.specs.Edges.{IsGraph, AreThreaded};
-ghost use Rattle.mo_graph.specs.Finishing.{IsFinished};
-ghost use Rattle.mo_graph.specs.Gathering.{IsGathered, AreClasses};
+ghost use Rattle.mo_graph.specs.steps.Finishing.{IsFinished};
+ghost use Rattle.mo_graph.specs.steps.Gathering.{IsGathered, AreClasses};
 
 /// Gives the number to the vertices without one from which an edge leads to the head of the queue, and puts them at its end.
 fn gather_row(

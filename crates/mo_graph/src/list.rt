@@ -2,7 +2,7 @@
 ghost use Rattle.std.specs.Prelude.{◌≡◌, ◌≢◌, ℕ, ◌+◌, ◌-◌, ◌<◌, ◌≤◌, ◌++◌, ◌∷◌, [], length, vec_len, slice_index, IfOk, OnOk};
 ghost use Rattle.std.proofs.Common.{get_or, suc};
 ghost use Rattle.mo_graph.specs.Order.{numbers_in};
-ghost use Rattle.mo_graph.specs.Listing.{members};
+ghost use Rattle.mo_graph.specs.steps.Listing.{members};
 
 use mo_syntax::NoMemory;
 use std::alloc::Global;

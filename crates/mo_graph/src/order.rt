@@ -2,10 +2,10 @@
 ghost use Rattle.std.specs.Prelude.{◌≡◌, ℕ, ◌<◌, ◌≤◌, List, length, slice_index, IfOk};
 ghost use Rattle.mo_graph.specs.Order.{IsInOrder, numbers_in};
 ghost use Rattle.mo_graph.specs.Edges.{Edge, IsGraph, AreLeaders, AreReplaced};
-ghost use Rattle.mo_graph.specs.Finishing.{IsFinished};
-ghost use Rattle.mo_graph.specs.Gathering.{AreClasses};
-ghost use Rattle.mo_graph.specs.Listing.{IsArranged};
-ghost use Rattle.mo_graph.specs.Placing.{IsLed, HasRanks, AreOrdered};
+ghost use Rattle.mo_graph.specs.steps.Finishing.{IsFinished};
+ghost use Rattle.mo_graph.specs.steps.Gathering.{AreClasses};
+ghost use Rattle.mo_graph.specs.steps.Listing.{IsArranged};
+ghost use Rattle.mo_graph.specs.steps.Placing.{IsLed, HasRanks, AreOrdered};
 
 use crate::edges::Edges;
 use crate::finish::finish_order;

@@ -2,7 +2,7 @@
 //! networks, Comm. ACM 5, 1962). Of the vertices, those count that are their own leaders.
 ghost use Rattle.std.specs.Prelude.{◌≡◌, ◌≢◌, ℕ, ◌+◌, ◌-◌, ◌<◌, ◌≤◌, length, slice_index, IfOk, OnOk};
 ghost use Rattle.mo_graph.specs.Edges.{IsGraph, AreThreaded};
-ghost use Rattle.mo_graph.specs.Placing.{waiting, leads_away, Has, HasReady, IsLed, HasRanks, Places, AreOrdered};
+ghost use Rattle.mo_graph.specs.steps.Placing.{waiting, leads_away, Has, HasReady, IsLed, HasRanks, Places, AreOrdered};
 
 use mo_syntax::NoMemory;
 use std::alloc::Global;

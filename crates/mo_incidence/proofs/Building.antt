@@ -7,7 +7,7 @@ use Rattle.std.proofs.lemmas.Bool.Decides.{eqb_tells}
 use Rattle.mo_graph.specs.Counting.{sum_below}
 use Rattle.mo_incidence.specs.Signature.{Signature, equations, row_len, unknown_at, order_at, entries, IsSound}
 use Rattle.mo_incidence.specs.Flat.{row_at, signature, IsCut, IsFlat}
-use Rattle.mo_incidence.specs.Given.{given, IsRow}
+use Rattle.mo_incidence.specs.steps.Given.{given, IsRow}
 use Rattle.mo_graph.proofs.Counting.{sum-same, sum-more}
 use Rattle.mo_incidence.proofs.Rows.{equations-signature, rows-signature, entries-signature}
 

@@ -6,7 +6,7 @@ use Rattle.mo_flat.specs.declared.expr.FlatExpr.{FlatExpr, FlatExpr-F, map-FlatE
 use Rattle.mo_symdiff.proofs.SigmaAt.{greatest-append}
 use Rattle.mo_symdiff.proofs.SigmaGather.{Related, folds_related, gathered, gather_node, greatest_by}
 use Rattle.mo_symdiff.proofs.SigmaOrders.{add, order_var}
-use Rattle.mo_incidence.specs.Gathered.{found, found_at, found_node}
+use Rattle.mo_incidence.specs.steps.Gathered.{found, found_at, found_node}
 use Rattle.mo_incidence.proofs.Sorting.{entry_rank, other_rank, own_rank}
 
 -- the entries of unknown j have as their greatest order, and one more, n with the derivatives around it

@@ -8,7 +8,7 @@ use Rattle.mo_flat.specs.declared.expr.FlatExpr.{FlatExpr, FlatExpr-F, fold_out-
 use Rattle.mo_flat.specs.declared.expr.FlatExpr.TheVariants.{Sum, Product, Power, Call, Relation, All, Any, If, outs-Sum, outs-Product, outs-Power, outs-Call, outs-Relation, outs-All, outs-Any, outs-If}
 use Rattle.mo_flat.specs.declared.model.FlatVar.{FlatVar}
 use Rattle.mo_symdiff.specs.Orders.{apart_in, apart_node}
-use Rattle.mo_incidence.specs.Gathered.{found, found_node}
+use Rattle.mo_incidence.specs.steps.Gathered.{found, found_node}
 
 apart_at : (vars : List FlatVar) (e : FlatExpr) (node : FlatExpr-F FlatExpr) (around : Bool) → out-FlatExpr e ≡ node → apart_in vars e around ≡ apart_node vars (map-FlatExpr FlatExpr (Bool → Bool) (apart_in vars) node) around
 apart_at vars e node around h = ap (λ f. f around) (fold_out-FlatExpr (Bool → Bool) (apart_node vars) e) ∙ ap (λ n. apart_node vars (map-FlatExpr FlatExpr (Bool → Bool) (apart_in vars) n) around) h

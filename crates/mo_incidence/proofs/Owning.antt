@@ -7,7 +7,7 @@ use Rattle.mo_incidence.specs.Signature.{Signature, equations, row_len, unknown_
 use Rattle.mo_incidence.specs.Offsets.{IsTight, by_place, by_number}
 use Rattle.mo_incidence.specs.Blocks.{Needs}
 use Rattle.mo_graph.specs.Edges.{Edge, IsGraph}
-use Rattle.mo_incidence.specs.Needing.{IsNeed, AreOwners, HasNeeds}
+use Rattle.mo_incidence.specs.steps.Needing.{IsNeed, AreOwners, HasNeeds}
 use Rattle.mo_graph.proofs.Chains.{below-next, edge-where}
 
 pub owners-next : (i : ℕ) (t : ℕ → ℕ) (owner : List ℕ) → AreOwners i t owner → t i < length owner → ((r : ℕ) → r < i → t r ≢ t i) → AreOwners (i + 1) t (set owner (t i) (i + 1))

@@ -11,7 +11,7 @@ use Rattle.mo_symdiff.proofs.SigmaAt.{greatest-append}
 use Rattle.mo_symdiff.proofs.SigmaGather.{gathered, greatest_by}
 use Rattle.mo_symdiff.proofs.SigmaLaws.{gathered_fits, sigma_raised_by}
 use Rattle.mo_symdiff.proofs.SigmaOrders.{add, order_var, raised_gathered, rank}
-use Rattle.mo_incidence.specs.Gathered.{found, last_of_each, unknown_places}
+use Rattle.mo_incidence.specs.steps.Gathered.{found, last_of_each, unknown_places}
 use Rattle.mo_incidence.specs.Model.{entries_from, entry_of, order_in, row_of}
 use Rattle.mo_incidence.proofs.Found.{IsPlace, both_in_range, found_in_range, found_tells}
 use Rattle.mo_incidence.proofs.Sorting.{Below, Matches, StartsAt, ascends, entry_rank, greatest-permutation, row_from_sorted}

@@ -8,7 +8,7 @@ use Rattle.std.proofs.lemmas.List.Elements.{All-cons, All-head, All-nil, All-tai
 use Rattle.std.proofs.lemmas.List.Sorted.{All-permutation, IsPermutation-sym}
 use Rattle.mo_symdiff.proofs.SigmaGather.{greatest_by}
 use Rattle.mo_symdiff.proofs.SigmaOrders.{rank}
-use Rattle.mo_incidence.specs.Gathered.{last_of_each}
+use Rattle.mo_incidence.specs.steps.Gathered.{last_of_each}
 use Rattle.mo_incidence.specs.Model.{entries_from, entry_of}
 
 each_below : {X : Type 0} (f : X → ℕ) (xs : List X) (n : ℕ) → greatest_by f xs ≤ n → All (λ x. f x ≤ n) xs

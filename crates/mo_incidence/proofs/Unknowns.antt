@@ -4,7 +4,7 @@ use Rattle.std.specs.Prelude.{if◌then◌else◌, slice_get}
 use Rattle.std.specs.Option.{option_map}
 use Rattle.mo_flat.specs.declared.model.FlatVar.{FlatVar}
 use Rattle.mo_flat.specs.Roles.{is_unknown, is_unknown_role, unknowns_from, unknown_numbers}
-use Rattle.mo_incidence.specs.Gathered.{places_from, unknown_places}
+use Rattle.mo_incidence.specs.steps.Gathered.{places_from, unknown_places}
 
 -- us lists the unknowns among variables that are numbered from n on, ps by variable their numbers as unknowns, which begin
 -- after c

@@ -3,11 +3,9 @@ pub mod Signature
 pub mod Flat
 pub mod Assignment
 pub mod Offsets
-pub mod Given
-pub mod Gathered
 pub mod Model
 pub mod Reasons
 pub mod Blocks
 pub mod Dummies
-pub mod Needing
 pub mod Transversal
+pub mod steps

@@ -1,7 +1,7 @@
 //! Making an incidence from given rows.
 ghost use Rattle.std.specs.Prelude.{◌≡◌, ◌+◌, ◌<◌, ◌≤◌, ◌↔◌, IsTrue, IfOk, OnOk};
 ghost use Rattle.mo_incidence.specs.Signature.{IsSound};
-ghost use Rattle.mo_incidence.specs.Given.{given, IsRow};
+ghost use Rattle.mo_incidence.specs.steps.Given.{given, IsRow};
 
 use crate::table::Incidence;
 use std::alloc::{AllocError, AllocFailed, Global};

@@ -3,7 +3,7 @@
 ghost use Rattle.std.specs.Prelude.{◌≡◌, ◌++◌, List as Seq, IfOk, OnOk, flat_map, slice_index};
 ghost use Rattle.mo_flat.specs.declared.model.FlatVar.{FlatVar as Variable};
 ghost use Rattle.mo_flat.specs.Sound.{IsSoundEquation};
-ghost use Rattle.mo_incidence.specs.Gathered.{found, found_at, last_of_each, unknown_places};
+ghost use Rattle.mo_incidence.specs.steps.Gathered.{found, found_at, last_of_each, unknown_places};
 ghost use Rattle.mo_incidence.specs.Model.{row_of};
 
 use mo_flat::{FlatEquation, FlatExpr};

@@ -3,8 +3,8 @@ ghost use Rattle.std.specs.Prelude.{◌≡◌, ◌+◌, None, Some, IfOk, OnOk, 
 ghost use Rattle.mo_syntax.specs.declared.place.Broken.{Broken as Refusal};
 ghost use Rattle.mo_flat.specs.Roles.{unknown_numbers};
 ghost use Rattle.mo_flat.specs.Sound.{IsSoundModel};
-ghost use Rattle.mo_incidence.specs.Gathered.{unknown_places};
-ghost use Rattle.mo_incidence.specs.Given.{given};
+ghost use Rattle.mo_incidence.specs.steps.Gathered.{unknown_places};
+ghost use Rattle.mo_incidence.specs.steps.Given.{given};
 ghost use Rattle.mo_incidence.specs.Model.{first_uncarried, incidence_of, refusal_of};
 
 use crate::builder::RowsError;

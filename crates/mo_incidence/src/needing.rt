@@ -5,7 +5,7 @@ ghost use Rattle.mo_incidence.specs.Signature.{equations, row_len, IsSound};
 ghost use Rattle.mo_incidence.specs.Offsets.{IsTight, by_place, by_number};
 ghost use Rattle.mo_incidence.specs.Assignment.{Assigns, CoversAll};
 ghost use Rattle.mo_incidence.specs.Blocks.{Needs};
-ghost use Rattle.mo_incidence.specs.Needing.{IsNeed, AreOwners, HasNeeds};
+ghost use Rattle.mo_incidence.specs.steps.Needing.{IsNeed, AreOwners, HasNeeds};
 ghost use Rattle.mo_graph.specs.Edges.{Edge, IsGraph};
 
 use crate::findings::Offsets;

@@ -22,8 +22,8 @@ use Rattle.mo_typing.specs.Dims.{Dims}
 use Rattle.mo_typing.specs.Indices.{Index}
 use Rattle.mo_instance.specs.Elements.{Around}
 use Rattle.mo_instance.specs.Instances.{component_entered, deeper, element_entered, member_entered, parts_entered}
-use Rattle.mo_instance.specs.Sights.{IsEntered}
-use Rattle.mo_instance.specs.Steps.{component_asked, element_made, elements_to, elements_under, is_entered, members_added}
+use Rattle.mo_instance.specs.steps.Sights.{IsEntered}
+use Rattle.mo_instance.specs.steps.Instances.{component_asked, element_made, elements_to, elements_under, is_entered, members_added}
 use Rattle.mo_instance.proofs.Later.{instances_later}
 use Rattle.mo_instance.proofs.Lists.{broken_on, length_mapped}
 use Rattle.mo_instance.proofs.Walking.{component_before, element_is, elements_next, member_is, none_added, some_depth, under_all, under_before}

@@ -20,7 +20,7 @@ use Rattle.mo_eval.specs.Values.{most_references, there_of, component_dims}
 use Rattle.mo_instance.specs.Elements.{Around, around_parts}
 use Rattle.mo_instance.specs.Outer.{outer_checked}
 use Rattle.mo_instance.specs.Prefixes.{prefix_in_profile}
-use Rattle.mo_instance.specs.Steps.{component_asked, component_class, is_entered}
+use Rattle.mo_instance.specs.steps.Instances.{component_asked, component_class, is_entered}
 
 -- ---- answers of a reader
 

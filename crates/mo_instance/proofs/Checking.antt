@@ -17,10 +17,10 @@ use Rattle.mo_names.specs.Sights.{AreThrough, frames_through}
 use Rattle.mo_names.proofs.Ends.{final_is}
 use Rattle.mo_names.proofs.Later.{frame_later, table_later, through_later}
 use Rattle.mo_instance.specs.Checks.{added_to, base_passed, before_last, frame_checked, frame_passed, in_profile, replaces_inherited, whole_class}
-use Rattle.mo_instance.specs.CheckSteps.{frame_passes, through_passed}
-use Rattle.mo_instance.specs.FirstSteps.{is_replaced_by}
+use Rattle.mo_instance.specs.steps.Checks.{frame_passes, through_passed}
+use Rattle.mo_instance.specs.steps.FirstPass.{is_replaced_by}
 use Rattle.mo_instance.specs.Passes.{first_pass, inherits}
-use Rattle.mo_instance.specs.Walks.{IsWalkOrNone, walk_or_none}
+use Rattle.mo_instance.specs.steps.Walks.{IsWalkOrNone, walk_or_none}
 use Rattle.mo_instance.proofs.Later.{walk_or_none_later}
 
 -- one check after another, then what was found

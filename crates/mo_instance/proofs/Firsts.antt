@@ -9,7 +9,7 @@ use Rattle.mo_scope.specs.Parts.{declared_in}
 use Rattle.mo_scope.specs.Redeclarations.{Checked, fine}
 use Rattle.mo_scope.specs.Rows.{Table, Row, Declares, Part, Element_of, Base_of, Clause, is_class, clauses_in, elements_in}
 use Rattle.mo_instance.specs.Checks.{earlier_of, first_in_text, is_inner_or_outer, unless_any, unless_bases, wrongly_inner}
-use Rattle.mo_instance.specs.Firsts.{earlier_place, first_replaced, first_wrong, part_is_base, place_in_part, wrong_parts, wrong_place}
+use Rattle.mo_instance.specs.steps.Firsts.{earlier_place, first_replaced, first_wrong, part_is_base, place_in_part, wrong_parts, wrong_place}
 use Rattle.mo_syntax.specs.declared.rules.TheConstants.{OUTSIDE_PROFILE, MODIFIED_ELEMENT_NOT_FOUND}
 
 place_of_earlier : (declares : Declares) (o : Option Declares) → option_map (λ one. one.place) (earlier_of declares o) ≡ earlier_place (Some declares.place) (option_map (λ one. one.place) o)

@@ -16,7 +16,7 @@ use Rattle.mo_typing.specs.Dims.{Dims}
 use Rattle.mo_typing.specs.Indices.{Index}
 use Rattle.mo_instance.specs.Checks.{frame_checked}
 use Rattle.mo_instance.specs.Elements.{Around, class_place}
-use Rattle.mo_instance.specs.Steps.{element_frame, element_in_frame, element_made, instance_at, room_among}
+use Rattle.mo_instance.specs.steps.Instances.{element_frame, element_in_frame, element_made, instance_at, room_among}
 
 -- ---- the frame
 

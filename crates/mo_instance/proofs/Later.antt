@@ -21,8 +21,8 @@ use Rattle.mo_scope.specs.declared.instance.Chosen.{Chosen as ChosenAt}
 use Rattle.mo_scope.specs.declared.instance.Instance.{Instance as InstanceAt}
 use Rattle.mo_scope.specs.declared.instance.Leaf.{Leaf as LeafAt}
 use Rattle.mo_scope.specs.Trees.{IsChosen, IsInstance, IsLeaf, attribute_in, chosen_in, instance_in, instances_in, leaf_in}
-use Rattle.mo_instance.specs.Sights.{IsEntered}
-use Rattle.mo_instance.specs.Walks.{IsWalkOrNone, walk_or_none}
+use Rattle.mo_instance.specs.steps.Sights.{IsEntered}
+use Rattle.mo_instance.specs.steps.Walks.{IsWalkOrNone, walk_or_none}
 
 -- ---- chosen expressions
 

@@ -15,7 +15,7 @@ use Rattle.mo_names.specs.declared.walk.Inherited.{Inherited as InheritedAt}
 use Rattle.mo_names.specs.declared.walk.Walk.{Walk}
 use Rattle.mo_names.specs.Sights.{frames_through, inherited_seen, member_of, walk_seen}
 use Rattle.mo_instance.specs.Passes.{is_inherited}
-use Rattle.mo_instance.specs.Walks.{inherits_name, members_held}
+use Rattle.mo_instance.specs.steps.Walks.{inherits_name, members_held}
 
 -- ---- elements with base frames on the way to them
 

@@ -15,7 +15,7 @@ use Rattle.mo_names.specs.Sights.{IsMember, member_of}
 use Rattle.mo_names.specs.declared.found.Child.{Child as ChildAt}
 use Rattle.mo_names.proofs.Later.{grows_trans, member_later, table_later}
 use Rattle.mo_instance.specs.Outer.{as_differing, has_condition, is_alike, is_matched, is_wrongly_outer, outer_checked}
-use Rattle.mo_instance.specs.OuterSteps.{compared_frames, inner_asked, matched_children}
+use Rattle.mo_instance.specs.steps.Outer.{compared_frames, inner_asked, matched_children}
 use Rattle.mo_instance.proofs.Later.{child_later}
 use Rattle.mo_syntax.specs.declared.rules.TheConstants.{INNER_DIFFERS, OUTSIDE_PROFILE, NOT_COMPATIBLE}
 

@@ -6,7 +6,7 @@ use Rattle.mo_scope.specs.Frames.{Source}
 use Rattle.mo_scope.specs.Rows.{Table}
 use Rattle.mo_scope.specs.Spoken.{spoken_of}
 use Rattle.mo_instance.specs.Passes.{is_own_of, source_claims}
-use Rattle.mo_instance.specs.Speeches.{Speech, speech_of, speeches_of}
+use Rattle.mo_instance.specs.steps.Speeches.{Speech, speech_of, speeches_of}
 
 module _ (table : Table) (place : Place) (source : Source) where
   pub own_source : is_own_of place source.piece.origin ≡ true → source_claims table place source ≡ flat_map (λ (one : Speech). one.claims) (speeches_of table source)

@@ -14,8 +14,8 @@ use Rattle.mo_scope.specs.Lookup.{Walked, members_in, named}
 use Rattle.mo_scope.specs.Places.{Every}
 use Rattle.mo_scope.specs.Spoken.{Spoken, spoken_in, spoken_of}
 use Rattle.mo_instance.specs.Passes.{breach_if, broken_against, broken_constraint, broken_found, broken_name, broken_spoken, first_of_all, is_known}
-use Rattle.mo_instance.specs.FirstSteps.{against, broken_source, broken_speech, first_repeated, is_in, least_found, least_of_member, least_of_none}
-use Rattle.mo_instance.specs.Speeches.{speech_of, speeches_of}
+use Rattle.mo_instance.specs.steps.FirstPass.{against, broken_source, broken_speech, first_repeated, is_in, least_found, least_of_member, least_of_none}
+use Rattle.mo_instance.specs.steps.Speeches.{speech_of, speeches_of}
 use Rattle.mo_instance.proofs.Speaking.{from_source}
 use Rattle.mo_syntax.specs.declared.rules.TheConstants.{MODIFIED_TWICE, PROTECTED_ELEMENT, FINAL_MODIFIED, MODIFIED_ELEMENT_NOT_FOUND}
 

@@ -11,8 +11,8 @@ use Rattle.mo_scope.specs.Rows.{Table, Row, row_at, table_of}
 use Rattle.mo_scope.proofs.RowsFound.{row_numbered}
 use Rattle.mo_scope.proofs.laws.Numbers.{table_numbered}
 use Rattle.mo_instance.specs.Instances.{enclosing, enclosing_of, inside, instances_by, instances_of, is_placed, root_frame}
-use Rattle.mo_instance.specs.Roots.{path_of_home, row_if}
-use Rattle.mo_instance.specs.Steps.{instances_made}
+use Rattle.mo_instance.specs.steps.Roots.{path_of_home, row_if}
+use Rattle.mo_instance.specs.steps.Instances.{instances_made}
 
 -- ---- the row of the asked class
 

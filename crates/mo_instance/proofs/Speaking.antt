@@ -13,9 +13,9 @@ use Rattle.mo_scope.specs.Places.{Every}
 use Rattle.mo_scope.proofs.laws.Standing.{every_append}
 use Rattle.mo_scope.specs.Spoken.{Spoken, spoken_argument, spoken_element, spoken_in, spoken_of, spoken_rest}
 use Rattle.mo_instance.specs.Outer.{speaks_of}
-use Rattle.mo_instance.specs.OuterSteps.{speaks_for}
+use Rattle.mo_instance.specs.steps.Outer.{speaks_for}
 use Rattle.mo_scope.specs.Worlds.{SourceEntry, source_in}
-use Rattle.mo_instance.specs.Speeches.{Speech, speech_of, speeches_in, speeches_of, spoken_with}
+use Rattle.mo_instance.specs.steps.Speeches.{Speech, speech_of, speeches_in, speeches_of, spoken_with}
 use Rattle.std.proofs.lemmas.List.{map-append}
 
 any_mapped : {A B : Type 0} (p : B → Bool) (f : A → B) (xs : List A) → list_any p (map f xs) ≡ list_any (λ x. p (f x)) xs

@@ -27,7 +27,7 @@ use Rattle.mo_instance.specs.Elements.{Around, class_place, instance_of, leaf_of
 use Rattle.mo_instance.specs.Instances.{Adding, Parts, Deeper, adding_each, around_root, component_entered, deeper, element_entered, entered_by, instances_by, instances_in, instances_of, member_entered, most_names, parts_entered, root_frame, root_instance}
 use Rattle.mo_instance.specs.Outer.{outer_checked}
 use Rattle.mo_instance.specs.Passes.{first_pass}
-use Rattle.mo_instance.specs.Steps.{component_asked, is_entered}
+use Rattle.mo_instance.specs.steps.Instances.{component_asked, is_entered}
 use Rattle.mo_instance.proofs.Members.{Different, IsWalkedOf, RowNamed, all_named, walk_has}
 use Rattle.mo_instance.proofs.Walking.{component_is, elements_of}
 

@@ -28,7 +28,7 @@ use Rattle.mo_instance.specs.Prefixes.{prefix_in_profile}
 use Rattle.mo_instance.specs.Outer.{outer_checked}
 use Rattle.mo_instance.specs.Elements.{Around, around_parts, class_place, leaf_of, instance_of, room_for_one}
 use Rattle.mo_instance.specs.Instances.{Adding, Parts, Deeper, adding_each, component_entered, deeper, element_entered, entered_by, member_entered, parts_entered}
-use Rattle.mo_instance.specs.Steps.{component_asked, element_frame, element_in_frame, element_made, elements_to, elements_under, instance_at, is_entered, members_added, room_among}
+use Rattle.mo_instance.specs.steps.Instances.{component_asked, element_frame, element_in_frame, element_made, elements_to, elements_under, instance_at, is_entered, members_added, room_among}
 
 -- ---- adding one after another
 

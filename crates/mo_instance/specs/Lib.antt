@@ -5,13 +5,4 @@ pub mod Prefixes
 pub mod Outer
 pub mod Elements
 pub mod Instances
-pub mod Sights
-pub mod Steps
-pub mod Ways
-pub mod Walks
-pub mod Speeches
-pub mod OuterSteps
-pub mod FirstSteps
-pub mod Firsts
-pub mod CheckSteps
-pub mod Roots
+pub mod steps

@@ -9,9 +9,9 @@ ghost use Rattle.mo_scope.specs.Places.{Every};
 ghost use Rattle.mo_scope.specs.Rows.{Row, number_of_classes, row_at, table_of};
 ghost use Rattle.mo_scope.specs.Worlds.{Grows, IsFrame, frame_at, table_in};
 ghost use Rattle.mo_instance.specs.Instances.{instances_of as instances_of_class};
-ghost use Rattle.mo_instance.specs.Steps.{instances_made, root_alone};
+ghost use Rattle.mo_instance.specs.steps.Instances.{instances_made, root_alone};
 ghost use Rattle.mo_scope.specs.Trees.{IsInstance, instances_in as instances_seen, tree_seen};
-ghost use Rattle.mo_instance.specs.Sights.{IsEntered};
+ghost use Rattle.mo_instance.specs.steps.Sights.{IsEntered};
 
 use crate::checks::frame_checked;
 use crate::prefixes::Around;

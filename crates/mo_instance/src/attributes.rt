@@ -6,7 +6,7 @@ ghost use Rattle.mo_scope.specs.Worlds.{IsFrame, frame_at, frame_in, frames_of};
 ghost use Rattle.mo_names.specs.Sights.{IsLeaf};
 ghost use Rattle.mo_eval.specs.References.{kind_of_class as class_kind};
 ghost use Rattle.mo_instance.specs.Attributes.{attributes_of as numbers_of_attributes, is_attribute as is_attribute_name, kind_of_leaf as leaf_kind};
-ghost use Rattle.mo_instance.specs.Steps.{is_attribute_of as names_attribute};
+ghost use Rattle.mo_instance.specs.steps.Instances.{is_attribute_of as names_attribute};
 
 use mo_scope::Scopes;
 use mo_syntax::{ClassId, FrameId, Kind, Text};

@@ -11,9 +11,9 @@ ghost use Rattle.mo_scope.specs.Redeclarations.{each_checked};
 ghost use Rattle.mo_scope.specs.Worlds.{Grows, IsFrame, frame_at, frames_of, table_in};
 ghost use Rattle.mo_names.specs.Sights.{IsBase, IsWalk, frames_through, walk_seen};
 ghost use Rattle.mo_instance.specs.Checks.{base_passed as base_has_passed, frame_checked as frame_is_checked, frame_passed as frame_has_passed};
-ghost use Rattle.mo_instance.specs.CheckSteps.{frame_passes, through_passed as through_has_passed};
-ghost use Rattle.mo_instance.specs.FirstSteps.{is_replaced_by};
-ghost use Rattle.mo_instance.specs.Walks.{IsWalkOrNone, walk_or_none};
+ghost use Rattle.mo_instance.specs.steps.Checks.{frame_passes, through_passed as through_has_passed};
+ghost use Rattle.mo_instance.specs.steps.FirstPass.{is_replaced_by};
+ghost use Rattle.mo_instance.specs.steps.Walks.{IsWalkOrNone, walk_or_none};
 
 use crate::first_pass::first_pass;
 use crate::profile::{in_profile, replaces_inherited, whole_class};

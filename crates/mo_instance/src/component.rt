@@ -9,8 +9,8 @@ ghost use Rattle.mo_names.specs.Sights.{IsMember, member_of};
 ghost use Rattle.mo_eval.specs.Keeping.{IsKept};
 ghost use Rattle.mo_instance.specs.Elements.{around_parts as around_below};
 ghost use Rattle.mo_instance.specs.Prefixes.{input_from, is_input as causal_is_input};
-ghost use Rattle.mo_instance.specs.Sights.{around_seen};
-ghost use Rattle.mo_instance.specs.Steps.{component_asked as asked_of_component, component_class as class_of_component, is_entered as enters};
+ghost use Rattle.mo_instance.specs.steps.Sights.{around_seen};
+ghost use Rattle.mo_instance.specs.steps.Instances.{component_asked as asked_of_component, component_class as class_of_component, is_entered as enters};
 
 use crate::given::is_given;
 use crate::outer::outer_checked;

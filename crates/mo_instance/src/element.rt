@@ -11,8 +11,8 @@ ghost use Rattle.mo_scope.specs.Worlds.{Grows, IsFrame, frame_at, frames_of, tab
 ghost use Rattle.mo_names.specs.Sights.{IsMember, IsWalk, member_of, walk_seen};
 ghost use Rattle.mo_instance.specs.Elements.{class_place as place_of_class, instance_of as instance_for, place_of_type as type_place};
 ghost use Rattle.mo_scope.specs.Trees.{IsLeaf, instance_in, leaf_in};
-ghost use Rattle.mo_instance.specs.Sights.{IsEntered, around_seen};
-ghost use Rattle.mo_instance.specs.Steps.{element_frame as frame_of_element, element_in_frame as made_in_frame, element_made as made_of_element, instance_at as instance_made, room_among};
+ghost use Rattle.mo_instance.specs.steps.Sights.{IsEntered, around_seen};
+ghost use Rattle.mo_instance.specs.steps.Instances.{element_frame as frame_of_element, element_in_frame as made_in_frame, element_made as made_of_element, instance_at as instance_made, room_among};
 ghost use Rattle.std.specs.Prelude.{IfSome};
 
 use crate::checks::frame_checked;

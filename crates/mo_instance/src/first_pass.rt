@@ -9,10 +9,10 @@ ghost use Rattle.mo_scope.specs.Sights.{source_seen};
 ghost use Rattle.mo_scope.specs.Worlds.{IsFrame, frame_at, frames_of, source_in, sources_in, table_in};
 ghost use Rattle.mo_names.specs.Sights.{IsWalk, walk_seen};
 ghost use Rattle.mo_mods.specs.PathSights.{claim_seen};
-ghost use Rattle.mo_instance.specs.FirstSteps.{broken_source as source_breaks, broken_speech as speech_breaks, first_repeated as repeated_first, is_in as is_among, is_known_speech, is_replaced_by, least_of_member, least_of_none};
+ghost use Rattle.mo_instance.specs.steps.FirstPass.{broken_source as source_breaks, broken_speech as speech_breaks, first_repeated as repeated_first, is_in as is_among, is_known_speech, is_replaced_by, least_of_member, least_of_none};
 ghost use Rattle.mo_instance.specs.Passes.{first_of_all, first_pass as pass_first, inherits as walk_inherits};
-ghost use Rattle.mo_instance.specs.Speeches.{speech_seen};
-ghost use Rattle.mo_instance.specs.Walks.{IsWalkOrNone, inherits_name, members_held, walk_or_none};
+ghost use Rattle.mo_instance.specs.steps.Speeches.{speech_seen};
+ghost use Rattle.mo_instance.specs.steps.Walks.{IsWalkOrNone, inherits_name, members_held, walk_or_none};
 
 use crate::attributes::is_attribute;
 use crate::own::claims_against;

@@ -10,7 +10,7 @@ ghost use Rattle.mo_scope.specs.Rows.{form_in, number_of_classes, row_at};
 ghost use Rattle.mo_scope.specs.Sizes.{is_leaf as is_leaf_walk};
 ghost use Rattle.mo_scope.specs.Worlds.{Grows, IsFrame, frame_at, frames_of, table_in};
 ghost use Rattle.mo_instance.specs.Prefixes.{input_from, is_input as causal_is_input};
-ghost use Rattle.mo_instance.specs.Ways.{IsStep, input_way, long_way, short_way, step_seen, way_of_form, way_of_row};
+ghost use Rattle.mo_instance.specs.steps.Ways.{IsStep, input_way, long_way, short_way, step_seen, way_of_form, way_of_row};
 
 use crate::prefixes::is_input;
 use mo_names::walk_of;

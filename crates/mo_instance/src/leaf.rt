@@ -14,7 +14,7 @@ ghost use Rattle.mo_mods.specs.Sights.{merged_in, value_in};
 ghost use Rattle.mo_instance.specs.Attributes.{attribute_as, chosen_attributes as attributes_chosen};
 ghost use Rattle.mo_instance.specs.Elements.{is_free as vary_is_free, is_real as kind_is_real, leaf_by as leaf_decided, leaf_made as leaf_for, leaf_of as leaf_of_frame, no_leaf as leaf_of_none};
 ghost use Rattle.mo_scope.specs.Trees.{IsChosen, IsLeaf, attribute_in, chosen_in, leaf_in};
-ghost use Rattle.mo_instance.specs.Sights.{around_seen};
+ghost use Rattle.mo_instance.specs.steps.Sights.{around_seen};
 
 use crate::attributes::{attributes_of, kind_of_leaf, name_of_attribute};
 use crate::prefixes::{Around, is_free, role_of};

@@ -15,8 +15,8 @@ ghost use Rattle.mo_scope.specs.Worlds.{Grows, IsFrame, frames_of, table_in};
 ghost use Rattle.mo_names.specs.Children.{IsChild, child_seen};
 ghost use Rattle.mo_names.specs.Sights.{IsMember, member_of};
 ghost use Rattle.mo_instance.specs.Outer.{as_differing as taken_for_differing, condition_in, is_alike as has_alike, is_matched as matches, is_wrongly_outer as is_outer_wrongly, outer_checked as checked_outer};
-ghost use Rattle.mo_instance.specs.Speeches.{speech_seen};
-ghost use Rattle.mo_instance.specs.OuterSteps.{compared_frames as frames_compared, declared_wrongly, inner_asked, is_spoken_of, matched_children, speaks_for};
+ghost use Rattle.mo_instance.specs.steps.Speeches.{speech_seen};
+ghost use Rattle.mo_instance.specs.steps.Outer.{compared_frames as frames_compared, declared_wrongly, inner_asked, is_spoken_of, matched_children, speaks_for};
 
 use crate::prefixes::is_left_out;
 use crate::spoken::{Spoken, all_spoken};

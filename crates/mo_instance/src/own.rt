@@ -5,9 +5,9 @@ ghost use Rattle.mo_scope.specs.Rows.{place_eq, row_at, short_modifiers};
 ghost use Rattle.mo_scope.specs.Sights.{origin_seen, row_seen, source_seen};
 ghost use Rattle.mo_scope.specs.Worlds.{IsFrame, frame_at, source_in, table_in};
 ghost use Rattle.mo_mods.specs.PathSights.{claim_seen};
-ghost use Rattle.mo_instance.specs.FirstSteps.{against};
+ghost use Rattle.mo_instance.specs.steps.FirstPass.{against};
 ghost use Rattle.mo_instance.specs.Passes.{argument_claims, is_own_of as origin_is_own, own_claims as claims_of_own, short_claims, source_claims};
-ghost use Rattle.mo_instance.specs.Speeches.{Speech, speech_seen, speeches_of};
+ghost use Rattle.mo_instance.specs.steps.Speeches.{Speech, speech_seen, speeches_of};
 
 use crate::spoken::{Spoken, spoken_of};
 use mo_mods::{Claim, claims_by};

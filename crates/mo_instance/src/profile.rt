@@ -9,7 +9,7 @@ ghost use Rattle.mo_scope.specs.Rows.{Element_of, Table, clauses_in, replacing_i
 ghost use Rattle.mo_scope.specs.Sights.{declares_seen, part_seen, row_seen};
 ghost use Rattle.mo_scope.specs.Worlds.{IsFrame, frame_at, table_in};
 ghost use Rattle.mo_instance.specs.Checks.{first_in_text, in_profile as frame_in_profile, is_function as kind_is_function, replaces_inherited as frame_replaces, row_in_profile as profile_of_row, unless_any, unless_bases, whole_class as class_is_whole, wrongly_inner};
-ghost use Rattle.mo_instance.specs.Firsts.{earlier_place, first_replaced, first_wrong, part_is_base, place_in_part, wrong_at, wrong_items, wrong_parts, wrong_place as place_if_wrong};
+ghost use Rattle.mo_instance.specs.steps.Firsts.{earlier_place, first_replaced, first_wrong, part_is_base, place_in_part, wrong_at, wrong_items, wrong_parts, wrong_place as place_if_wrong};
 
 use mo_scope::{Declares, Part, Row, Scopes, is_class, replacing};
 use mo_syntax::{ClassKind, Element, ElementFlags, FrameId, Item, Place, Stop, What, rules, stop};

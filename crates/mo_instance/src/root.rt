@@ -8,7 +8,7 @@ ghost use Rattle.mo_scope.specs.Rows.{Row as RowOf, number_of_classes, row_at};
 ghost use Rattle.mo_scope.specs.Sights.{row_seen};
 ghost use Rattle.mo_scope.specs.Worlds.{Grows, IsFrame, IsFrameOrNone, frame_at, frame_or_top, frames_of, table_in};
 ghost use Rattle.mo_instance.specs.Instances.{enclosing, inside, is_placed as places, root_frame as frame_of_root};
-ghost use Rattle.mo_instance.specs.Roots.{names_seen, path_of_home, row_if};
+ghost use Rattle.mo_instance.specs.steps.Roots.{names_seen, path_of_home, row_if};
 
 use mo_mods::is_path;
 use mo_scope::{Home, Row, Scopes, copied};

@@ -6,7 +6,7 @@ ghost use Rattle.mo_scope.specs.Rows.{replacing_in};
 ghost use Rattle.mo_scope.specs.Sights.{declares_seen, source_seen};
 ghost use Rattle.mo_scope.specs.Spoken.{spoken_argument as argument_spoken, spoken_element as element_spoken, spoken_rest as rest_spoken};
 ghost use Rattle.mo_scope.specs.Worlds.{source_in, sources_in, table_in};
-ghost use Rattle.mo_instance.specs.Speeches.{element_with, speech_of, speech_seen, speeches_in, speeches_of, spoken_with};
+ghost use Rattle.mo_instance.specs.steps.Speeches.{element_with, speech_of, speech_seen, speeches_in, speeches_of, spoken_with};
 
 use mo_mods::{Claim, claims_by};
 use mo_scope::{Declares, Given, Origin, Scopes, Source, nested_list, replacing};

@@ -10,8 +10,8 @@ ghost use Rattle.mo_names.specs.Sights.{IsInherited, IsMember, inherited_seen, m
 ghost use Rattle.mo_eval.specs.Keeping.{IsKept};
 ghost use Rattle.mo_instance.specs.Instances.{component_entered as component_added, deeper, element_entered as element_added, member_entered as member_added, parts_entered as parts_added};
 ghost use Rattle.mo_scope.specs.Trees.{instances_in};
-ghost use Rattle.mo_instance.specs.Sights.{IsEntered, around_seen};
-ghost use Rattle.mo_instance.specs.Steps.{elements_under as elements_added, members_added};
+ghost use Rattle.mo_instance.specs.steps.Sights.{IsEntered, around_seen};
+ghost use Rattle.mo_instance.specs.steps.Instances.{elements_under as elements_added, members_added};
 
 use crate::component::{component_asked, is_entered};
 use crate::element::element_made;

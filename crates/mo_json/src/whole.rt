@@ -1,7 +1,7 @@
 //! The value of a whole report, by its kind.
 ghost use Rattle.std.specs.Prelude.{◌≡◌, IfOk, OnOk};
 ghost use Rattle.serde_json.specs.View.{view, members_view};
-ghost use Rattle.mo_json.specs.Building.{with_counts, with_offsets, with_square};
+ghost use Rattle.mo_json.specs.steps.Building.{with_counts, with_offsets, with_square};
 ghost use Rattle.mo_json.specs.Values.{deficit_data, singular_data, found_data, undetermined_data, square_data, report_data, json_line};
 
 use crate::lists::{

@@ -10,7 +10,7 @@ use Rattle.std.proofs.lemmas.Str.{IsCharBoundary-end, IsCharBoundary-before_asci
 use Rattle.mo_lexer.specs.Bytes.{is_line_byte}
 use Rattle.mo_lexer.specs.Spelling.{IsComment, line, block, IsSeparator, comment, NeverCloses}
 use Rattle.mo_lexer.specs.Lexing.{Fits, opens_block, IsStuck, Breaks, cut_by_end, IsTooWide, comment as cut_comment}
-use Rattle.mo_lexer.specs.Finding.{opens_line, IsFirstClose, ClosesAt}
+use Rattle.mo_lexer.specs.steps.Finding.{opens_line, IsFirstClose, ClosesAt}
 use Rattle.mo_lexer.proofs.Fronts.{first_is, run_passes, run_longest, tail_is}
 use Rattle.mo_lexer.proofs.Endings.{same_body}
 use Rattle.mo_lexer.proofs.Shapes.{some_of_separator, some_of_spelling, Marks, class, operator_is_mark, IsMarked, operator, number, remark}

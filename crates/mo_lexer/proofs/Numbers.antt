@@ -12,7 +12,7 @@ use Rattle.mo_syntax.specs.declared.token.TokenKind.TheVariants.{Whole, Decimal}
 use Rattle.mo_lexer.specs.Bytes.{is_digit, is_exponent_mark, is_sign}
 use Rattle.mo_lexer.specs.Spelling.{are_digits, IsExponent, IsWhole, IsDecimal, pointed, unpointed, Spells, line, block}
 use Rattle.mo_lexer.specs.Lexing.{IsPiece, opens_block, Fits, IsStuck, Breaks}
-use Rattle.mo_lexer.specs.Finding.{point_len, mark_len, exponent_len, begins_number, is_mark, number_kind, IsCut, IsNumberFront}
+use Rattle.mo_lexer.specs.steps.Finding.{point_len, mark_len, exponent_len, begins_number, is_mark, number_kind, IsCut, IsNumberFront}
 use Rattle.mo_lexer.proofs.Fronts.{first_is, both_hold, both, first_passes, later_pass, all_joined, run_passes, run_longest, run_ends, tail_is}
 use Rattle.mo_lexer.proofs.Shapes.{operator_is_mark, mark_second, digit_is_no_mark, IsNumber, whole, decimal, Digits, Marks, class, class_digit, IsMarked, operator, number, remark, some_of_spelling}
 use Rattle.mo_lexer.proofs.Stuck.{fits_from, bounded, cut_after, opens_with_slash, wide_front}

@@ -6,7 +6,7 @@ use Rattle.mo_syntax.specs.declared.token.TokenKind.{TokenKind}
 use Rattle.mo_syntax.specs.declared.token.TokenKind.TheVariants.{Ident, Keyword, Operator, Whole, Decimal, Str, End}
 use Rattle.mo_tables.specs.Words.{code_in, keywords, operators}
 use Rattle.mo_lexer.specs.Bytes.{is_blank, is_letter, is_digit, is_word_byte}
-use Rattle.mo_lexer.specs.Finding.{is_mark}
+use Rattle.mo_lexer.specs.steps.Finding.{is_mark}
 use Rattle.mo_lexer.specs.Spelling.{is_word, are_digits, IsDecimal, pointed, unpointed, Spells, IsComment, line, block, IsSeparator, blank, comment}
 use Rattle.mo_lexer.proofs.Fronts.{first_is, both_hold, first_passes, all_back}
 use Rattle.mo_lexer.proofs.Shapes.{Class, Blanks, Letters, Digits, SingleQuotes, DoubleQuotes, Marks, class, is_mark_text, operator_is_mark, mark_first, mark_second, digit_is_no_mark, class_letter, class_digit, class_mark, some_of_spelling, some_of_separator}

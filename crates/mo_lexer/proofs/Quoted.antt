@@ -7,7 +7,7 @@ use Rattle.mo_syntax.specs.declared.token.TokenKind.TheVariants.{Ident}
 use Rattle.mo_lexer.specs.Bytes.{is_quotable, is_string_byte}
 use Rattle.mo_lexer.specs.Spelling.{AreContents, IsQuoted, IsString}
 use Rattle.mo_lexer.specs.Lexing.{IsStuck, Breaks, cut_by_end, bad_byte, IsCutByEnd, comment, string, quoted, in_string, in_quoted}
-use Rattle.mo_lexer.specs.Finding.{IsContentsEnd}
+use Rattle.mo_lexer.specs.steps.Finding.{IsContentsEnd}
 use Rattle.mo_lexer.proofs.Fronts.{first_is, tail_is}
 use Rattle.mo_lexer.proofs.Endings.{Stops, same_contents, stop_at_single, stop_at_double}
 use Rattle.mo_lexer.proofs.Shapes.{SingleQuotes, DoubleQuotes, class}

@@ -10,7 +10,7 @@ use Rattle.mo_syntax.specs.declared.token.TokenKind.TheVariants.{Ident, Keyword,
 use Rattle.mo_tables.specs.Words.{code_in, operators}
 use Rattle.mo_lexer.specs.Bytes.{is_blank, is_letter, is_digit, is_word_byte}
 use Rattle.mo_lexer.specs.Spelling.{is_word, IsQuoted, IsString, IsWhole, IsDecimal, pointed, unpointed, Spells, IsComment, line, block, IsSeparator, blank, comment}
-use Rattle.mo_lexer.specs.Finding.{is_mark}
+use Rattle.mo_lexer.specs.steps.Finding.{is_mark}
 use Rattle.mo_lexer.specs.Lexing.{IsPiece}
 use Rattle.mo_lexer.proofs.Fronts.{both_hold, first_is, tail_is, first_passes}
 

@@ -6,7 +6,7 @@ use Rattle.mo_syntax.specs.declared.rules.TheConstants.{LITERAL_TOO_WIDE}
 use Rattle.mo_syntax.specs.declared.token.TokenKind.{TokenKind}
 use Rattle.mo_lexer.specs.Spelling.{Spells, IsWithinLimit, IsComment, IsSeparator}
 use Rattle.mo_lexer.specs.Lexing.{IsPiece, opens_block, Fits, IsStuck, IsTooWide, Breaks, too_wide}
-use Rattle.mo_lexer.specs.Finding.{IsCut}
+use Rattle.mo_lexer.specs.steps.Finding.{IsCut}
 use Rattle.std.proofs.lemmas.Bool.Decides.{nat_tests}
 use Rattle.mo_lexer.proofs.Shapes.{Class, class, ShapeAt, shape_as, some_of_piece}
 use Rattle.mo_lexer.proofs.OneKind.{same_kind, separator_is_no_token}

@@ -9,7 +9,7 @@ use Rattle.mo_tables.specs.Words.{code_in, keywords}
 use Rattle.mo_lexer.specs.Bytes.{is_blank, is_letter, is_word_byte}
 use Rattle.mo_lexer.specs.Spelling.{is_word, IsSeparator, blank}
 use Rattle.mo_lexer.specs.Lexing.{Fits, IsStuck, Breaks}
-use Rattle.mo_lexer.specs.Finding.{IsCut}
+use Rattle.mo_lexer.specs.steps.Finding.{IsCut}
 use Rattle.mo_lexer.proofs.Fronts.{both, run_passes, run_longest}
 use Rattle.mo_lexer.proofs.Shapes.{Blanks, Letters, class, class_letter}
 use Rattle.mo_lexer.proofs.Stuck.{fits_from, bounded, cut_after, opens_with_slash, wide_front}

@@ -1,4 +1,4 @@
 pub mod Bytes
-pub mod Finding
 pub mod Lexing
 pub mod Spelling
+pub mod steps

@@ -1,7 +1,7 @@
 //! What stands between quotes, and where a comment closes.
 
 ghost use Rattle.std.specs.Prelude.{◌≡◌};
-ghost use Rattle.mo_lexer.specs.Finding.{is_plain, IsContentsEnd, IsFirstClose};
+ghost use Rattle.mo_lexer.specs.steps.Finding.{is_plain, IsContentsEnd, IsFirstClose};
 
 use crate::bytes::{is_escaped, is_quotable, is_string_byte};
 

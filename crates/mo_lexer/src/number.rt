@@ -3,7 +3,7 @@
 ghost use Rattle.std.specs.Prelude.{◌≡◌, ◌≤◌, ◌^◌, ◌<◌, ◌↔◌, IsTrue, length, slice_index};
 ghost use Rattle.std.specs.Str.Parse.{digits_value};
 ghost use Rattle.mo_lexer.specs.Spelling.{are_digits};
-ghost use Rattle.mo_lexer.specs.Finding.{Finds, IsNumberFront, point_len, mark_len, exponent_len, begins_number};
+ghost use Rattle.mo_lexer.specs.steps.Finding.{Finds, IsNumberFront, point_len, mark_len, exponent_len, begins_number};
 
 use crate::bytes::{digits_len, is_exponent_mark, is_sign};
 use crate::piece::Found;

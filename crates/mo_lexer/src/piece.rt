@@ -4,7 +4,7 @@ ghost use Rattle.std.specs.Prelude.{◌≡◌, ◌<◌, ◌≤◌, IsTrue, IfSom
 ghost use Rattle.mo_tables.specs.Words.{code_in, operators};
 ghost use Rattle.mo_lexer.specs.Bytes.{is_blank, is_letter};
 ghost use Rattle.mo_lexer.specs.Lexing.{opens_block};
-ghost use Rattle.mo_lexer.specs.Finding.{Finds, is_mark, begins_number, opens_line};
+ghost use Rattle.mo_lexer.specs.steps.Finding.{Finds, is_mark, begins_number, opens_line};
 
 use crate::bytes::{is_blank, is_digit, is_letter, line_len, word_len};
 use crate::contents::{Quotes, close_at, contents_len};

@@ -7,7 +7,7 @@ use Rattle.mo_incidence.specs.Assignment.{Mentions, IsLargest, IsDeficit}
 use Rattle.mo_incidence.specs.Offsets.{by_place}
 use Rattle.mo_incidence.proofs.Counting.{sign-some, sum-same, sum-add, count-ones, count-injection}
 use Rattle.mo_match.specs.Searching.{Bipartite, Uses, IsMatching, IsAssignedTo}
-use Rattle.mo_match.specs.Lists.{numbers_where, reached}
+use Rattle.mo_match.specs.steps.Lists.{numbers_where, reached}
 use Rattle.mo_match.proofs.Covering.{matching-apart}
 use Rattle.mo_match.proofs.Deficit.{largest, in-deficit, deficit-only, marks-closed, uses-mentions, mentions-uses}
 use Rattle.mo_match.proofs.ListLemmas.{lists-where, length-numbers}

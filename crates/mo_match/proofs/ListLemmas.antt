@@ -7,7 +7,7 @@ use Rattle.std.proofs.lemmas.Bool.Decides.{eqb_tells}
 use Rattle.mo_incidence.specs.Counting.{sign, count_below}
 use Rattle.mo_incidence.proofs.Counting.{sign-zero, sign-some}
 use Rattle.mo_incidence.specs.Assignment.{ListsWhere}
-use Rattle.mo_match.specs.Lists.{numbers_where}
+use Rattle.mo_match.specs.steps.Lists.{numbers_where}
 
 pub numbers-none : (f : ℕ → ℕ) (n : ℕ) → f n ≡ 0 → numbers_where f (suc n) ≡ numbers_where f n
 numbers-none f n e = rw e refl

@@ -5,7 +5,7 @@ use Rattle.mo_incidence.specs.Signature.{Signature, equations, IsSound}
 use Rattle.mo_incidence.specs.Assignment.{Mentions, Assigns, IsAssignment, CoversAll, IsUndetermined}
 use Rattle.mo_incidence.proofs.Counting.{changed, changed-same, changed-other, onto}
 use Rattle.mo_match.specs.Searching.{IsMatching}
-use Rattle.mo_match.specs.Spreading.{IsSpread, AreFreeMarked, IsSpreadTo}
+use Rattle.mo_match.specs.steps.Spreading.{IsSpread, AreFreeMarked, IsSpreadTo}
 use Rattle.mo_match.proofs.Covering.{matching-assigns}
 
 abbrev unset : ℕ → ℕ

@@ -6,8 +6,8 @@ use Rattle.mo_incidence.specs.Assignment.{Mentions, IsAssignment, CoversAll}
 use Rattle.mo_incidence.specs.Offsets.{by_place}
 use Rattle.mo_incidence.proofs.Counting.{changed, changed-same, changed-other, distinct-room}
 use Rattle.mo_match.specs.Searching.{IsMatching}
-use Rattle.mo_match.specs.Threads.{IsThreadedTo}
-use Rattle.mo_match.specs.Spreading.{IsSpread, Spreads, AreFreeMarked, IsSpreadFrom, IsSpreadTo, Marks}
+use Rattle.mo_match.specs.steps.Threads.{IsThreadedTo}
+use Rattle.mo_match.specs.steps.Spreading.{IsSpread, Spreads, AreFreeMarked, IsSpreadFrom, IsSpreadTo, Marks}
 
 below-next : (s t : ℕ) → s < t + 1 → (s < t) ⊎ (s ≡ t)
 below-next s t l = elim (eqb_tells s t) [ inl e ↦ inr e.1 | inr e ↦ inl (omega (arith, e.1)) ]

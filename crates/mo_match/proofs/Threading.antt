@@ -5,7 +5,7 @@ use Rattle.std.proofs.lemmas.Bool.Decides.{eqb_tells}
 use Rattle.mo_incidence.specs.Counting.{sum_below}
 use Rattle.mo_incidence.specs.Signature.{Signature, equations, row_len, unknown_at, entries, IsSound}
 use Rattle.mo_incidence.proofs.Counting.{sum-more}
-use Rattle.mo_match.specs.Threads.{IsThreadedTo, IsThreaded, AreThreaded}
+use Rattle.mo_match.specs.steps.Threads.{IsThreadedTo, IsThreaded, AreThreaded}
 
 below-next : (s t : ℕ) → s < t + 1 → (s < t) ⊎ (s ≡ t)
 below-next s t l = elim (eqb_tells s t) [ inl e ↦ inr e.1 | inr e ↦ inl (omega (arith, e.1)) ]

@@ -8,7 +8,7 @@ use Rattle.mo_incidence.specs.Assignment.{CoversAll, IsLargest, IsDeficit, IsUnd
 use Rattle.mo_incidence.proofs.Counting.{count-full}
 use Rattle.mo_incidence.specs.Offsets.{by_place}
 use Rattle.mo_match.specs.Searching.{Bipartite, IsMatching, IsAssignedTo}
-use Rattle.mo_match.specs.Lists.{numbers_where, reached}
+use Rattle.mo_match.specs.steps.Lists.{numbers_where, reached}
 use Rattle.mo_match.proofs.Excess.{assigned-largest, assigned-deficit}
 use Rattle.mo_match.proofs.ListLemmas.{lists-where}
 

@@ -1,7 +1,5 @@
 pub mod Searching
-pub mod Lists
 pub mod Results
 pub mod Room
 pub mod Answer
-pub mod Threads
-pub mod Spreading
+pub mod steps

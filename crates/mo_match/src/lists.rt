@@ -4,7 +4,7 @@ ghost use Rattle.std.specs.Vec.{vec_capacity};
 ghost use Rattle.std.proofs.Common.{suc};
 ghost use Rattle.mo_incidence.specs.Counting.{count_below};
 ghost use Rattle.mo_incidence.specs.Offsets.{by_place};
-ghost use Rattle.mo_match.specs.Lists.{numbers_where, reached};
+ghost use Rattle.mo_match.specs.steps.Lists.{numbers_where, reached};
 
 /// Puts a number at the end of a list that has room for it.
 pub fn put(list: &mut Vec<u32>, number: u32)

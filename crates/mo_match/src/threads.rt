@@ -2,7 +2,7 @@
 ghost use Rattle.std.specs.Prelude.{◌≡◌, ◌≢◌, ℕ, ◌+◌, ◌-◌, ◌<◌, ◌≤◌, length, slice_index};
 ghost use Rattle.std.proofs.Common.{suc};
 ghost use Rattle.mo_incidence.specs.Signature.{equations, row_len, entries, IsSound};
-ghost use Rattle.mo_match.specs.Threads.{IsThreaded, AreThreaded};
+ghost use Rattle.mo_match.specs.steps.Threads.{IsThreaded, AreThreaded};
 
 use crate::largest::clear;
 use mo_incidence::Incidence;

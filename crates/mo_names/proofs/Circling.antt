@@ -19,9 +19,9 @@ use Rattle.mo_scope.specs.Lookup.{Found, Met, Classed, Walked, Asking, behind_cl
 use Rattle.mo_scope.specs.Worlds.{World, Grows, table_in}
 use Rattle.mo_names.specs.Sights.{asking_at}
 use Rattle.mo_names.specs.Past.{Past, Found_past, Around, found_past, past, past_outer}
-use Rattle.mo_names.specs.Bases.{base_with_elements, parts_walked}
-use Rattle.mo_names.specs.Steps.{started, own_inherited, before_dot, package_at_top, import_step, package_step, package_behind, found_by_all, found_by_names_or_stars, found_or, imported_met, imports_met, met_or, class_step}
-use Rattle.mo_names.specs.Parts.{imports_of, parts_of}
+use Rattle.mo_names.specs.steps.Bases.{base_with_elements, parts_walked}
+use Rattle.mo_names.specs.steps.Lookup.{started, own_inherited, before_dot, package_at_top, import_step, package_step, package_behind, found_by_all, found_by_names_or_stars, found_or, imported_met, imports_met, met_or, class_step}
+use Rattle.mo_names.specs.steps.Parts.{imports_of, parts_of}
 use Rattle.mo_names.proofs.Later.{table_later}
 use Rattle.mo_names.proofs.Reading.{at_element}
 

@@ -19,8 +19,8 @@ use Rattle.mo_scope.specs.Frames.{Frame}
 use Rattle.mo_scope.specs.Lookup.{Inherited, Walked, final_frame, imported_as, last_name, last_place, leaf_checked}
 use Rattle.mo_scope.specs.Worlds.{PartsExist, frame_in}
 use Rattle.mo_names.specs.Sights.{frames_through}
-use Rattle.mo_names.specs.Bases.{PartExists}
-use Rattle.mo_names.specs.Steps.{before_dot}
+use Rattle.mo_names.specs.steps.Bases.{PartExists}
+use Rattle.mo_names.specs.steps.Lookup.{before_dot}
 use Rattle.mo_names.proofs.Reading.{at_element}
 
 -- a name that is not the last stands before a dot

@@ -17,7 +17,7 @@ use Rattle.mo_names.specs.declared.found.Met.{Met as MetAt}
 use Rattle.mo_names.specs.Sights.{IsFound, asks, found_in as found_seen, met_seen}
 use Rattle.mo_names.specs.Past.{Past, Found_past, Around, Next, Ends, Goes_on, GivesNext, next_of, or_past, past}
 use Rattle.mo_names.specs.declared.past.Next.TheVariants.{Ends as ends_at}
-use Rattle.mo_names.specs.Steps.{all_met, counted_reached, element_behind, element_met, imported_met, open_element, reached_behind, reached_by_star, shown}
+use Rattle.mo_names.specs.steps.Lookup.{all_met, counted_reached, element_behind, element_met, imported_met, open_element, reached_behind, reached_by_star, shown}
 use Rattle.mo_names.proofs.Circling.{go_on, or_on, outwards_step, then_same, then_then}
 use Rattle.mo_names.proofs.Outwards.{here_told, past_told}
 use Rattle.mo_names.proofs.Later.{found_later, frame_later, is_frame_later, table_later}

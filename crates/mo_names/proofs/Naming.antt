@@ -7,7 +7,7 @@ use Rattle.mo_syntax.specs.declared.expr.ReferenceOf.{ReferenceOf}
 use Rattle.mo_scope.specs.Rows.{Table}
 use Rattle.mo_scope.specs.Frames.{Scope}
 use Rattle.mo_scope.specs.Lookup.{Met, Classed, Asking, class_behind, class_named, classed, found_first}
-use Rattle.mo_names.specs.Bases.{first_of_parts}
+use Rattle.mo_names.specs.steps.Bases.{first_of_parts}
 use Rattle.mo_names.proofs.Circling.{then_then}
 use Rattle.mo_syntax.specs.declared.rules.TheConstants.{NAME_NOT_FOUND}
 

@@ -6,10 +6,10 @@ use Rattle.mo_scope.specs.Lookup.{found_in}
 use Rattle.mo_scope.specs.Rows.{row_at}
 use Rattle.mo_scope.specs.Worlds.{World, Grows, IsFrame, frame_at, table_in}
 use Rattle.mo_names.specs.declared.found.Ask.{Ask}
-use Rattle.mo_names.specs.Parts.{imports_of}
+use Rattle.mo_names.specs.steps.Parts.{imports_of}
 use Rattle.mo_names.specs.Past.{past}
 use Rattle.mo_names.specs.Sights.{asks}
-use Rattle.mo_names.specs.Steps.{imports_met}
+use Rattle.mo_names.specs.steps.Lookup.{imports_met}
 use Rattle.mo_names.proofs.Later.{frame_later, table_later}
 
 pub past_told : (u v w : World) (place : Place) (n : ℕ) (name : List ℕ) → Grows u v → Grows v w → IsFrame v n →

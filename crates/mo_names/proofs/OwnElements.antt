@@ -10,9 +10,9 @@ use Rattle.mo_scope.specs.Own.{IsOwnElement, own_declared}
 use Rattle.mo_scope.specs.Rows.{Table, Row, Part, Element_of, Base_of, Declares, elements_in, row_at}
 use Rattle.mo_scope.specs.Sights.{part_seen, row_seen}
 use Rattle.mo_scope.specs.Worlds.{World, Grows, IsFrame, frame_at, table_in}
-use Rattle.mo_names.specs.Bases.{IsOwnPart}
-use Rattle.mo_names.specs.Parts.{parts_of}
-use Rattle.mo_names.specs.Steps.{next_item}
+use Rattle.mo_names.specs.steps.Bases.{IsOwnPart}
+use Rattle.mo_names.specs.steps.Parts.{parts_of}
+use Rattle.mo_names.specs.steps.Lookup.{next_item}
 use Rattle.mo_names.proofs.Later.{frame_later, table_later}
 
 -- ---- an element that is found by its name

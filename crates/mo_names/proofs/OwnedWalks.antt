@@ -17,9 +17,9 @@ use Rattle.mo_scope.proofs.Numbered.{is_no_top}
 use Rattle.mo_scope.proofs.laws.Standing.{every_append, every_weaker}
 use Rattle.mo_names.specs.declared.owning.Owned.{Owned}
 use Rattle.mo_names.specs.declared.walk.Inherited.{Inherited as InheritedAt}
-use Rattle.mo_names.specs.Settled.{AreOwned, IsOwned}
+use Rattle.mo_names.specs.steps.Settled.{AreOwned, IsOwned}
 use Rattle.mo_names.specs.Sights.{AreNames, AreThrough, IsBase, IsMember, frames_through, inherited_seen}
-use Rattle.mo_names.specs.Twins.{owned_by, owned_home, owned_inherited, owned_through, unowned}
+use Rattle.mo_names.specs.steps.Twins.{owned_by, owned_home, owned_inherited, owned_through, unowned}
 use Rattle.mo_names.proofs.Later.{all_bases_later, all_inherited_later, are_bases_later, are_inherited_later, frame_later, grows_refl, grows_trans, is_frame_later}
 use Rattle.mo_names.proofs.Reading.{at_element}
 

@@ -15,12 +15,12 @@ use Rattle.mo_names.specs.declared.join.Added.{Added}
 use Rattle.mo_names.specs.declared.settled.Settled.{Settled}
 use Rattle.mo_names.specs.declared.settled.Settling.{Settling}
 use Rattle.mo_names.specs.declared.walk.Walk.{Walk}
-use Rattle.mo_names.specs.Bases.{base_walked, part_walked, parts_walked}
-use Rattle.mo_names.specs.Parts.{parts_of}
-use Rattle.mo_names.specs.Settled.{AreFree, AreMore, AreSettled, ClassOwned, IsFurther, IsJoined, IsSettled, OwnedFree, ToldFree, ToldOwned, WalkedFree}
+use Rattle.mo_names.specs.steps.Bases.{base_walked, part_walked, parts_walked}
+use Rattle.mo_names.specs.steps.Parts.{parts_of}
+use Rattle.mo_names.specs.steps.Settled.{AreFree, AreMore, AreSettled, ClassOwned, IsFurther, IsJoined, IsSettled, OwnedFree, ToldFree, ToldOwned, WalkedFree}
 use Rattle.mo_names.specs.Sights.{IsAdded, IsWalk, added_seen, asking_at, walk_seen}
-use Rattle.mo_names.specs.Steps.{base_at, next_item, own_inherited, started}
-use Rattle.mo_names.specs.Twins.{BeginsElsewhere, owned_by, owned_walk, unowned}
+use Rattle.mo_names.specs.steps.Lookup.{base_at, next_item, own_inherited, started}
+use Rattle.mo_names.specs.steps.Twins.{BeginsElsewhere, owned_by, owned_walk, unowned}
 use Rattle.mo_names.proofs.Asked.{Above, Also, also_never, also_same, base_of_also}
 use Rattle.mo_names.proofs.Circling.{class_is, left_read, then_ok, walked_further}
 use Rattle.mo_names.proofs.Later.{added_later, frame_later, grows_trans, is_added_later, is_frame_later, table_later, walk_later}

@@ -14,9 +14,9 @@ use Rattle.mo_scope.specs.Frames.{Frame, Top, In, Member, Source, at_of, class_o
 use Rattle.mo_scope.specs.Parts.{added_sources, base_sources, clause_source, is_nothing, place_of_list, replacing_source, written}
 use Rattle.mo_scope.specs.Lookup.{Asking, Inherited, Walked, base_class, base_frame, base_of, final_frame, found_from, leaf_of, hidden_if, is_counted, last_place, leaf_checked, members_from, named, not_counted, nothing_walked, or_leaf, own_members, through_base, with_base, with_member, with_members}
 use Rattle.mo_scope.proofs.Numbered.{listed-gathered}
-use Rattle.mo_names.specs.Bases.{base_walked}
-use Rattle.mo_names.specs.Steps.{own_inherited, started}
-use Rattle.mo_names.specs.Twins.{BeginsElsewhere, owned_by, owned_inherited, owned_outcome, owned_through, owned_walk, unowned}
+use Rattle.mo_names.specs.steps.Bases.{base_walked}
+use Rattle.mo_names.specs.steps.Lookup.{own_inherited, started}
+use Rattle.mo_names.specs.steps.Twins.{BeginsElsewhere, owned_by, owned_inherited, owned_outcome, owned_through, owned_walk, unowned}
 use Rattle.mo_syntax.specs.declared.rules.TheConstants.{INHERITED_ELEMENTS_CLASH, OUTSIDE_PROFILE}
 
 -- ---- what counts already

@@ -6,8 +6,8 @@ use Rattle.mo_scope.specs.Frames.{Frame, class_of}
 use Rattle.mo_scope.specs.Lookup.{Walked}
 use Rattle.mo_scope.specs.Worlds.{World, Grows, IsFrame, frame_at, table_in}
 use Rattle.mo_names.specs.declared.found.Ask.{Ask}
-use Rattle.mo_names.specs.Bases.{part_walked}
-use Rattle.mo_names.specs.Parts.{parts_of}
+use Rattle.mo_names.specs.steps.Bases.{part_walked}
+use Rattle.mo_names.specs.steps.Parts.{parts_of}
 use Rattle.mo_names.specs.Sights.{asks}
 use Rattle.mo_names.proofs.Later.{frame_later, table_later}
 

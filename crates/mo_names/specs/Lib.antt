@@ -1,9 +1,4 @@
-pub mod Bases
 pub mod Children
-pub mod Joins
-pub mod Parts
 pub mod Past
-pub mod Settled
 pub mod Sights
-pub mod Steps
-pub mod Twins
+pub mod steps

@@ -9,10 +9,10 @@ ghost use Rattle.mo_scope.specs.Rows.{number_of_classes, row_at};
 ghost use Rattle.mo_scope.specs.Sights.{clause_seen, part_seen};
 ghost use Rattle.mo_scope.specs.Worlds.{Grows, IsFrame, frame_at, frames_of, scope_in, table_in};
 ghost use Rattle.mo_names.specs.Sights.{IsFound, IsWalk, asks, classed_seen, met_seen, walk_seen};
-ghost use Rattle.mo_names.specs.Parts.{parts_of};
+ghost use Rattle.mo_names.specs.steps.Parts.{parts_of};
 ghost use Rattle.mo_names.specs.Past.{first_met};
-ghost use Rattle.mo_names.specs.Bases.{IsOwnPart, PartExists, base_walked as walked_base, base_with_elements, first_of_parts, part_walked as walked_part, parts_walked as walked_parts_from};
-ghost use Rattle.mo_names.specs.Steps.{base_at, class_step as classed_step, first_class as classed_first, next_item};
+ghost use Rattle.mo_names.specs.steps.Bases.{IsOwnPart, PartExists, base_walked as walked_base, base_with_elements, first_of_parts, part_walked as walked_part, parts_walked as walked_parts_from};
+ghost use Rattle.mo_names.specs.steps.Lookup.{base_at, class_step as classed_step, first_class as classed_first, next_item};
 
 use crate::circle::{behind_class, found_in, walked};
 use crate::depth::depth_of_lookup;

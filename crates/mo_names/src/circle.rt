@@ -8,8 +8,8 @@ ghost use Rattle.mo_scope.specs.Outcome.{Gives};
 ghost use Rattle.mo_scope.specs.Rows.{row_at};
 ghost use Rattle.mo_scope.specs.Worlds.{Grows, IsFrame, frame_at, frames_of, table_in};
 ghost use Rattle.mo_names.specs.Sights.{IsFound, IsMember, IsReached, IsWalk, asks, found_in as found_seen, member_of, met_seen, reached_seen, walk_seen};
-ghost use Rattle.mo_names.specs.Parts.{imports_of};
-ghost use Rattle.mo_names.specs.Steps.{also_found, counted_reached as reached_counted, before_dot as place_before, found_by as found_by_kind, found_by_all, found_by_names_or_stars, imports_met, import_step as found_step, package_at_top as top_package, package_behind as packages_behind, package_step as stepped_package};
+ghost use Rattle.mo_names.specs.steps.Parts.{imports_of};
+ghost use Rattle.mo_names.specs.steps.Lookup.{also_found, counted_reached as reached_counted, before_dot as place_before, found_by as found_by_kind, found_by_all, found_by_names_or_stars, imports_met, import_step as found_step, package_at_top as top_package, package_behind as packages_behind, package_step as stepped_package};
 ghost use Rattle.mo_syntax.specs.Outcome.{Outcome, and_then};
 
 use crate::bases::walked_class;

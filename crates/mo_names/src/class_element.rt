@@ -8,7 +8,7 @@ ghost use Rattle.mo_scope.specs.Rows.{class_number as number_of_class, number_of
 ghost use Rattle.mo_scope.specs.Sights.{declares_seen, redeclaration_in};
 ghost use Rattle.mo_scope.specs.Worlds.{Grows, IsFrame, frame_at, frames_of, table_in};
 ghost use Rattle.mo_names.specs.Sights.{IsFound, IsMember, found_in, member_of};
-ghost use Rattle.mo_names.specs.Parts.{entered_by_redeclaration};
+ghost use Rattle.mo_names.specs.steps.Parts.{entered_by_redeclaration};
 
 use crate::found::Found;
 use crate::top::looked_up_class;

@@ -5,7 +5,7 @@ ghost use Rattle.mo_scope.specs.Lookup.{Found as FoundSeen, Met as MetSeen, Reac
 ghost use Rattle.mo_scope.specs.Outcome.{Gives};
 ghost use Rattle.mo_scope.specs.Worlds.{Grows, IsFrame, frame_at, frames_of, table_in};
 ghost use Rattle.mo_names.specs.Sights.{IsFound, IsReached, IsWalk, classed_seen, found_in, met_seen, reached_seen, walk_seen};
-ghost use Rattle.mo_names.specs.Steps.{all_met, element_met as element_found, reached_behind, reached_by_star};
+ghost use Rattle.mo_names.specs.steps.Lookup.{all_met, element_met as element_found, reached_behind, reached_by_star};
 ghost use Rattle.mo_syntax.specs.Outcome.{Outcome, and_then};
 
 use crate::found::{Classed, Found, Met, Reached};

@@ -5,7 +5,7 @@ ghost use Rattle.std.specs.Str.{bytes_eq};
 ghost use Rattle.mo_scope.specs.Lookup.{imported_as, last_name};
 ghost use Rattle.mo_scope.specs.Rows.{row_at};
 ghost use Rattle.mo_scope.specs.Worlds.{table_in};
-ghost use Rattle.mo_names.specs.Parts.{imports_of};
+ghost use Rattle.mo_names.specs.steps.Parts.{imports_of};
 
 use mo_scope::Scopes;
 use mo_syntax::{ClassId, Import, List, NoMemory, Place, Text};

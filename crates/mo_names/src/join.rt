@@ -8,7 +8,7 @@ ghost use Rattle.mo_scope.specs.Outcome.{Gives};
 ghost use Rattle.mo_scope.specs.Places.{Every};
 ghost use Rattle.mo_scope.specs.Worlds.{IsFrame, World, frame_at, frame_in, frames_of};
 ghost use Rattle.mo_names.specs.Sights.{AreThrough, IsAdded, IsBase, IsInherited, IsLeaf, IsMember, IsWalk, added_seen, frames_through, inherited_seen, member_of, walk_seen};
-ghost use Rattle.mo_names.specs.Joins.{all_added as added_all, base_added as added_by_base, base_behind, bases_added as added_bases, counts_through, inherited_behind, is_among, member_hidden};
+ghost use Rattle.mo_names.specs.steps.Joins.{all_added as added_all, base_added as added_by_base, base_behind, bases_added as added_bases, counts_through, inherited_behind, is_among, member_hidden};
 
 use crate::same::are_one_base;
 use crate::walk::{Inherited, Walk};

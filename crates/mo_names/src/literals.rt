@@ -6,7 +6,7 @@ ghost use Rattle.mo_scope.specs.Rows.{form_in, literals_in};
 ghost use Rattle.mo_scope.specs.Worlds.{frames_of, frame_in, table_in};
 ghost use Rattle.mo_syntax.specs.declared.class.Body.{out-Body};
 ghost use Rattle.mo_names.specs.Sights.{IsFound, IsLeaf, found_in};
-ghost use Rattle.mo_names.specs.Parts.{none_listed};
+ghost use Rattle.mo_names.specs.steps.Parts.{none_listed};
 
 use crate::found::Found;
 use mo_scope::Scopes;

@@ -7,7 +7,7 @@ ghost use Rattle.mo_scope.specs.Rows.{class_number, number_of_classes};
 ghost use Rattle.mo_scope.specs.Sights.{declares_seen};
 ghost use Rattle.mo_scope.specs.Worlds.{IsFrame, frame_at, frames_of, table_in};
 ghost use Rattle.mo_names.specs.Sights.{IsWalk, walk_seen};
-ghost use Rattle.mo_names.specs.Steps.{own_inherited};
+ghost use Rattle.mo_names.specs.steps.Lookup.{own_inherited};
 
 use crate::join::with_member;
 use crate::walk::{Inherited, Walk};

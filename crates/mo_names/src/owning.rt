@@ -4,9 +4,9 @@
 ghost use Rattle.std.specs.Prelude.{◌≡◌, None, map, IfOk, IfSome};
 ghost use Rattle.mo_scope.specs.Places.{Every};
 ghost use Rattle.mo_scope.specs.Worlds.{Grows, IsFrame, frame_at, frames_of, table_in};
-ghost use Rattle.mo_names.specs.Settled.{AreOwned, IsOwned};
+ghost use Rattle.mo_names.specs.steps.Settled.{AreOwned, IsOwned};
 ghost use Rattle.mo_names.specs.Sights.{AreThrough, IsBase, IsInherited, IsMember, IsWalk, frames_through, inherited_seen, member_of, walk_seen};
-ghost use Rattle.mo_names.specs.Twins.{owned_by, owned_home, owned_inherited, owned_through, owned_walk};
+ghost use Rattle.mo_names.specs.steps.Twins.{owned_by, owned_home, owned_inherited, owned_through, owned_walk};
 
 use crate::copying::frames_copied;
 use crate::join::turned;

@@ -3,8 +3,8 @@ ghost use Rattle.std.specs.Prelude.{◌≡◌, ◌<◌, Some, length, slice_get}
 ghost use Rattle.mo_scope.specs.Rows.{number_of_classes, row_at};
 ghost use Rattle.mo_scope.specs.Sights.{part_seen};
 ghost use Rattle.mo_scope.specs.Worlds.{table_in};
-ghost use Rattle.mo_names.specs.Bases.{PartExists};
-ghost use Rattle.mo_names.specs.Parts.{parts_of};
+ghost use Rattle.mo_names.specs.steps.Bases.{PartExists};
+ghost use Rattle.mo_names.specs.steps.Parts.{parts_of};
 
 use mo_scope::{Part, Scopes};
 use mo_syntax::ClassId;

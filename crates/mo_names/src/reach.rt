@@ -7,7 +7,7 @@ ghost use Rattle.mo_scope.specs.Outcome.{Gives};
 ghost use Rattle.mo_scope.specs.Places.{Every};
 ghost use Rattle.mo_scope.specs.Worlds.{Grows, IsFrame, frame_at, frames_of, table_in};
 ghost use Rattle.mo_names.specs.Sights.{IsFound, IsInherited, IsMember, IsReached, IsWalk, classed_seen, found_in, inherited_seen, member_of, reached_seen, walk_seen};
-ghost use Rattle.mo_names.specs.Steps.{element_behind, element_met as element_found, open_element as open_found, reached_behind as found_behind, reached_by_star as found_by_star, shown as shown_reached};
+ghost use Rattle.mo_names.specs.steps.Lookup.{element_behind, element_met as element_found, open_element as open_found, reached_behind as found_behind, reached_by_star as found_by_star, shown as shown_reached};
 ghost use Rattle.mo_syntax.specs.Outcome.{Outcome, and_then};
 
 use crate::class_element::met;

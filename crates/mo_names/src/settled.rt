@@ -10,12 +10,12 @@ ghost use Rattle.mo_scope.specs.Own.{own_declared};
 ghost use Rattle.mo_scope.specs.Rows.{class_number, number_of_classes, row_at};
 ghost use Rattle.mo_scope.specs.Sights.{clause_seen, declares_seen, part_seen};
 ghost use Rattle.mo_scope.specs.Worlds.{Grows, IsFrame, frame_at, frames_of, table_in};
-ghost use Rattle.mo_names.specs.Bases.{IsOwnPart, PartExists, base_walked as walked_base, part_walked as walked_part, parts_walked as walked_parts_from};
-ghost use Rattle.mo_names.specs.Parts.{parts_of};
-ghost use Rattle.mo_names.specs.Settled.{AreSettled, ClassOwned, IsFurther, IsJoined, IsSettled, ToldFree, ToldOwned};
+ghost use Rattle.mo_names.specs.steps.Bases.{IsOwnPart, PartExists, base_walked as walked_base, part_walked as walked_part, parts_walked as walked_parts_from};
+ghost use Rattle.mo_names.specs.steps.Parts.{parts_of};
+ghost use Rattle.mo_names.specs.steps.Settled.{AreSettled, ClassOwned, IsFurther, IsJoined, IsSettled, ToldFree, ToldOwned};
 ghost use Rattle.mo_names.specs.Sights.{IsWalk, asking_at, walk_seen};
-ghost use Rattle.mo_names.specs.Twins.{BeginsElsewhere, owned_walk, unowned};
-ghost use Rattle.mo_names.specs.Steps.{base_at, next_item, own_inherited, started as walk_started};
+ghost use Rattle.mo_names.specs.steps.Twins.{BeginsElsewhere, owned_walk, unowned};
+ghost use Rattle.mo_names.specs.steps.Lookup.{base_at, next_item, own_inherited, started as walk_started};
 
 use crate::bases::base_found;
 use crate::copying::elements_copied;

@@ -10,8 +10,8 @@ ghost use Rattle.mo_scope.specs.Worlds.{AreFrames, Grows, IsFrame, IsFrameOrNone
 ghost use Rattle.mo_syntax.specs.Outcome.{Outcome, and_then};
 ghost use Rattle.mo_syntax.specs.declared.class.Body.{out-Body};
 ghost use Rattle.mo_names.specs.Sights.{IsLeaf, IsWalk, walk_seen};
-ghost use Rattle.mo_names.specs.Parts.{is_enumeration_form};
-ghost use Rattle.mo_names.specs.Steps.{entered_base, started as walk_started};
+ghost use Rattle.mo_names.specs.steps.Parts.{is_enumeration_form};
+ghost use Rattle.mo_names.specs.steps.Lookup.{entered_base, started as walk_started};
 
 use crate::top::looked_up_class;
 use crate::walk::Walk;

@@ -6,7 +6,7 @@ use Rattle.mo_incidence.specs.Signature.{Signature, equations, order_at, IsSound
 use Rattle.mo_incidence.specs.Offsets.{Fits, IsAdmissible, AreBelow, by_place, by_number}
 use Rattle.mo_incidence.proofs.Counting.{sign-zero, sign-some, onto}
 use Rattle.mo_match.specs.Searching.{tight_of, Uses, IsMatching, IsTree, ClosedTo}
-use Rattle.mo_match.specs.Lists.{reached}
+use Rattle.mo_match.specs.steps.Lists.{reached}
 use Rattle.mo_match.proofs.Deficit.{closed-marks}
 use Rattle.mo_match.proofs.Excess.{reached-some}
 use Rattle.mo_pantelides.proofs.Tight.{entry-used, used-entry, tight-entry-of}

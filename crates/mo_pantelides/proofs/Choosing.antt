@@ -6,7 +6,7 @@ use Rattle.mo_incidence.specs.Signature.{Signature, equations, row_len}
 use Rattle.mo_incidence.specs.Assignment.{Assigns, IsAssignment, Mentions}
 use Rattle.mo_incidence.specs.Offsets.{after_reasons, IsTight}
 use Rattle.mo_incidence.specs.Reasons.{IsCandidate, LeadsTo, IsWithin, IsRank, IsReason, listed_reasons, AreReasonsOf}
-use Rattle.mo_pantelides.specs.Ranks.{IsBetter, IsChosenTo, Considers}
+use Rattle.mo_pantelides.specs.steps.Ranks.{IsBetter, IsChosenTo, Considers}
 use Rattle.mo_pantelides.proofs.Ranking.{leads-candidate, candidate-leads}
 
 below-next : (s t : ℕ) → s < t + 1 → (s < t) ⊎ (s ≡ t)

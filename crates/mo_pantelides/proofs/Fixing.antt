@@ -8,7 +8,7 @@ use Rattle.mo_incidence.specs.Transversal.{IsLeastSequence}
 use Rattle.mo_incidence.proofs.Owning.{tight-known}
 use Rattle.mo_match.specs.Searching.{Uses, tight_of, IsMatching, IsTree, IsFree}
 use Rattle.mo_match.proofs.Covering.{matching-apart}
-use Rattle.mo_pantelides.specs.Fixing.{AreOpen, IsRival, IsFixedTo}
+use Rattle.mo_pantelides.specs.steps.Fixing.{AreOpen, IsRival, IsFixedTo}
 use Rattle.mo_pantelides.proofs.Tight.{used-entry, entry-used, uses-tight, tight-uses}
 
 -- ---- an equation without its unknown

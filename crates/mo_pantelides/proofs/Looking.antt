@@ -4,7 +4,7 @@ use Rattle.std.proofs.lemmas.Bool.Decides.{eqb_tells}
 use Rattle.mo_incidence.specs.Counting.{sum_below}
 use Rattle.mo_incidence.specs.Signature.{Signature, equations, row_len, entries, IsSound}
 use Rattle.mo_incidence.proofs.Counting.{without, without-same, without-other, sum-without, sum-same, sum-le}
-use Rattle.mo_pantelides.specs.Seeking.{looked_at, looked}
+use Rattle.mo_pantelides.specs.steps.Seeking.{looked_at, looked}
 
 -- the two sums differ by the values at k
 sum-change : (f g : ℕ → ℕ) (k n : ℕ) → k < n → ((i : ℕ) → i < n → i ≢ k → f i ≡ g i) → sum_below f n + g k ≡ sum_below g n + f k

@@ -8,10 +8,10 @@ use Rattle.mo_incidence.specs.Assignment.{Mentions, CanCoverAll}
 use Rattle.mo_incidence.specs.Offsets.{Fits, IsBelowAll, by_place, by_number}
 use Rattle.mo_incidence.proofs.Counting.{sign-zero, sign-some, sum-same, sum-add, sum-injection, without, without-other, count-without}
 use Rattle.mo_match.specs.Searching.{tight_of, Uses, IsMatching, IsTree, ClosedTo}
-use Rattle.mo_match.specs.Lists.{reached}
+use Rattle.mo_match.specs.steps.Lists.{reached}
 use Rattle.mo_match.proofs.Deficit.{closed-marks}
 use Rattle.mo_match.proofs.Excess.{reached-some, reached-by}
-use Rattle.mo_pantelides.specs.Raising.{AreRaised, gap, AreSmall, AreRising}
+use Rattle.mo_pantelides.specs.steps.Raising.{AreRaised, gap, AreSmall, AreRising}
 use Rattle.mo_pantelides.proofs.Tight.{entry-used, used-entry}
 use Rattle.mo_pantelides.proofs.Above.{sign-low, reached-low, equation-above, unknown-above}
 

@@ -7,7 +7,7 @@ use Rattle.mo_incidence.specs.Assignment.{Assigns, CoversAll, Mentions}
 use Rattle.mo_incidence.specs.Offsets.{IsTight, IsLeast, by_place, by_number}
 use Rattle.mo_match.specs.Searching.{IsMatching}
 use Rattle.mo_incidence.specs.Reasons.{IsCandidate, LeadsTo, IsWithin, IsRank}
-use Rattle.mo_pantelides.specs.Ranks.{IsRanking, RanksOn, IsNear, IsClosedTo, AreZerosMarked, IsStarting, IsRankingTo}
+use Rattle.mo_pantelides.specs.steps.Ranks.{IsRanking, RanksOn, IsNear, IsClosedTo, AreZerosMarked, IsStarting, IsRankingTo}
 use Rattle.mo_pantelides.proofs.Lowered.{none-closed}
 
 below-next : (s t : ℕ) → s < t + 1 → (s < t) ⊎ (s ≡ t)

@@ -6,8 +6,8 @@ use Rattle.mo_incidence.specs.Signature.{Signature, equations, row_len, unknown_
 use Rattle.mo_match.specs.Searching.{UsesEntry, Uses, tight_of, IsTree, IsPassed, IsSearched, IsFree, IsClosedBehind, Reaches}
 use Rattle.mo_match.proofs.Trees.{below-next, tree-room, tree-push, root-cleared, passed-unused, passed-by, searched-none, searched-next, searched-kept}
 use Rattle.mo_match.proofs.Bounding.{uses-entry, not-lower}
-use Rattle.mo_pantelides.specs.Fixing.{AreOpen, IsRival, IsFixedTo}
-use Rattle.mo_pantelides.specs.Seeking.{IsTurn, IsSeeking, IsFound, looked}
+use Rattle.mo_pantelides.specs.steps.Fixing.{AreOpen, IsRival, IsFixedTo}
+use Rattle.mo_pantelides.specs.steps.Seeking.{IsTurn, IsSeeking, IsFound, looked}
 use Rattle.mo_pantelides.proofs.Looking.{looked-more, looked-root}
 use Rattle.mo_pantelides.proofs.Tight.{entry-tight, tight-entry, entry-used}
 use Rattle.mo_pantelides.proofs.Fixing.{while_none, while-none, uses-left, left-tight, rival-open, rival-part, rival-given, rival-covers, fixed-more}

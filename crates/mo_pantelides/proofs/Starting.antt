@@ -7,8 +7,8 @@ use Rattle.mo_incidence.specs.Assignment.{CoversAll}
 use Rattle.mo_incidence.specs.Offsets.{IsLeast, BoundsOrders, sum_unknowns, by_place, by_number}
 use Rattle.mo_incidence.proofs.Counting.{sum-le}
 use Rattle.mo_match.specs.Searching.{tight_of, Uses, IsMatching}
-use Rattle.mo_pantelides.specs.Fixing.{AreOpen}
-use Rattle.mo_pantelides.specs.Raising.{gap, AreSmall, AreRising}
+use Rattle.mo_pantelides.specs.steps.Fixing.{AreOpen}
+use Rattle.mo_pantelides.specs.steps.Raising.{gap, AreSmall, AreRising}
 use Rattle.mo_pantelides.proofs.Tight.{pairs-tight}
 
 pub sum-const : (k n : ℕ) → sum_below (λ _. k) n ≡ n * k

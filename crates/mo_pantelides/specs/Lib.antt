@@ -1,4 +1,1 @@
-pub mod Raising
-pub mod Ranks
-pub mod Fixing
-pub mod Seeking
+pub mod steps

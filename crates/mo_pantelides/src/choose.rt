@@ -8,7 +8,7 @@ ghost use Rattle.mo_incidence.specs.Offsets.{IsTight, IsLeast, by_place, by_numb
 ghost use Rattle.mo_match.specs.Searching.{IsMatching};
 ghost use Rattle.mo_match.specs.Results.{IsMadeFor};
 ghost use Rattle.mo_incidence.specs.Reasons.{listed_reasons, AreReasonsOf};
-ghost use Rattle.mo_pantelides.specs.Ranks.{IsChosenTo, Considers};
+ghost use Rattle.mo_pantelides.specs.steps.Ranks.{IsChosenTo, Considers};
 
 use crate::ranks::{find_ranks, led_by};
 use mo_incidence::{Incidence, Reason};

@@ -8,8 +8,8 @@ ghost use Rattle.mo_incidence.specs.Offsets.{IsTight, IsLeast, BoundsOrders, sum
 ghost use Rattle.mo_incidence.specs.Transversal.{IsLeastSequence};
 ghost use Rattle.mo_match.specs.Searching.{Uses, tight_of, IsMatching, IsTree, ClosedTo};
 ghost use Rattle.mo_match.specs.Results.{IsMadeFor};
-ghost use Rattle.mo_pantelides.specs.Fixing.{AreOpen};
-ghost use Rattle.mo_pantelides.specs.Raising.{AreRising, gap};
+ghost use Rattle.mo_pantelides.specs.steps.Fixing.{AreOpen};
+ghost use Rattle.mo_pantelides.specs.steps.Raising.{AreRising, gap};
 
 use crate::raise::raise;
 use crate::start::greatest_orders;

@@ -3,7 +3,7 @@ ghost use Rattle.std.specs.Prelude.{◌≡◌, ◌≢◌, ℕ, ◌+◌, ◌-◌,
 ghost use Rattle.std.proofs.Common.{suc};
 ghost use Rattle.mo_incidence.specs.Signature.{equations, IsSound};
 ghost use Rattle.mo_match.specs.Searching.{Uses, tight_of, IsMatching, IsTree};
-ghost use Rattle.mo_pantelides.specs.Raising.{AreRaised};
+ghost use Rattle.mo_pantelides.specs.steps.Raising.{AreRaised};
 
 use mo_incidence::Counted;
 

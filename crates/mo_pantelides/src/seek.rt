@@ -4,8 +4,8 @@ ghost use Rattle.std.specs.Prelude.{◌≡◌, ◌≢◌, ℕ, ◌+◌, ◌-◌,
 ghost use Rattle.std.proofs.Common.{suc};
 ghost use Rattle.mo_incidence.specs.Signature.{equations, row_len, entries};
 ghost use Rattle.mo_match.specs.Searching.{Uses, tight_of, IsTree, IsFree, Reaches};
-ghost use Rattle.mo_pantelides.specs.Fixing.{AreOpen, IsFixedTo};
-ghost use Rattle.mo_pantelides.specs.Seeking.{IsTurn, IsSeeking, IsFound, looked};
+ghost use Rattle.mo_pantelides.specs.steps.Fixing.{AreOpen, IsFixedTo};
+ghost use Rattle.mo_pantelides.specs.steps.Seeking.{IsTurn, IsSeeking, IsFound, looked};
 
 use mo_incidence::Counted;
 use mo_match::Graph;

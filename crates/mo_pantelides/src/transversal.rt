@@ -5,7 +5,7 @@ ghost use Rattle.mo_incidence.specs.Assignment.{Assigns, CoversAll};
 ghost use Rattle.mo_incidence.specs.Offsets.{IsTight, by_place, by_number};
 ghost use Rattle.mo_incidence.specs.Transversal.{IsLeastSequence};
 ghost use Rattle.mo_match.specs.Searching.{Uses, tight_of, IsMatching, IsTree};
-ghost use Rattle.mo_pantelides.specs.Fixing.{AreOpen, IsFixedTo};
+ghost use Rattle.mo_pantelides.specs.steps.Fixing.{AreOpen, IsFixedTo};
 
 use crate::seek::{release, seek, take};
 use mo_incidence::Counted;

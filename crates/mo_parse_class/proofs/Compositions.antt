@@ -12,7 +12,7 @@ use Rattle.mo_grammar.specs.Reading.{Outcome, read, stuck, unfinished, ◌>>=◌
 use Rattle.mo_grammar.specs.Tables.{tables}
 use Rattle.mo_grammar.specs.Language.{reads, reads_form}
 use Rattle.mo_grammar.proofs.Loops.{with_front, many_done}
-use Rattle.mo_parse_class.specs.Parts.{element_list, flattened, with_items, closing}
+use Rattle.mo_parse_class.specs.steps.Parts.{element_list, flattened, with_items, closing}
 use Rattle.mo_class_parts.specs.Starts.{section_codes}
 use Rattle.mo_parse_class.proofs.ElementLists.{composition_is}
 use Rattle.mo_parse_class.proofs.SectionLists.{closing_is}

@@ -20,7 +20,7 @@ use Rattle.mo_grammar.specs.Answers.{Gives, with_rest}
 use Rattle.mo_grammar.proofs.Decided.{decided}
 use Rattle.mo_grammar.proofs.Loops.{with_front, many_turn, many_stuck}
 use Rattle.mo_grammar.proofs.Readers.{compositions_are}
-use Rattle.mo_parse_class.specs.Parts.{element_list, flattened, with_items}
+use Rattle.mo_parse_class.specs.steps.Parts.{element_list, flattened, with_items}
 
 abbrev flat : Outcome (List (List Item)) → Outcome (List Item)
 flat o = o >>= λ x. read (flattened x.0) x.1

@@ -19,7 +19,7 @@ use Rattle.mo_grammar.specs.Tables.{tables}
 use Rattle.mo_grammar.specs.Language.{reads, reads_form}
 use Rattle.mo_grammar.proofs.Codes.{both, never}
 use Rattle.mo_grammar.proofs.Readers.{files_are}
-use Rattle.mo_parse_class.specs.Parts.{definition}
+use Rattle.mo_parse_class.specs.steps.Parts.{definition}
 use Rattle.mo_class_heads.specs.Within.{within_clause}
 use Rattle.mo_class_heads.proofs.ImportNames.{one_code}
 

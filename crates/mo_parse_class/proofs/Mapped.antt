@@ -14,7 +14,7 @@ use Rattle.mo_grammar.specs.Symbols.{Form}
 use Rattle.mo_grammar.specs.Tables.{tables}
 use Rattle.mo_grammar.specs.Language.{reads, reads_form}
 use Rattle.mo_grammar.proofs.Loops.{with_front, many_done, many_stuck}
-use Rattle.mo_parse_class.specs.Parts.{Head, head, what_of}
+use Rattle.mo_parse_class.specs.steps.Parts.{Head, head, what_of}
 use Rattle.mo_grammar.proofs.Classless.{each_alike}
 
 abbrev mapped : {A B : Type 0} → (A → B) → Outcome A → Outcome B

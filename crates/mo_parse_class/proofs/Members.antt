@@ -12,7 +12,7 @@ use Rattle.mo_grammar.specs.Symbols.{Form}
 use Rattle.mo_grammar.specs.Classes.{declares, commented, constraint}
 use Rattle.mo_grammar.specs.Reading.{Outcome, read, ◌>>=◌, next_in, reads_token}
 use Rattle.mo_grammar.specs.Language.{whole_limits, reads_form}
-use Rattle.mo_parse_class.specs.Parts.{limit, members, members_of}
+use Rattle.mo_parse_class.specs.steps.Parts.{limit, members, members_of}
 use Rattle.mo_class_heads.specs.Prefixes.{words, words_of}
 use Rattle.mo_parse_class.proofs.SectionLists.{was_token, kept_behind}
 

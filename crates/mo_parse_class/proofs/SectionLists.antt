@@ -16,7 +16,7 @@ use Rattle.mo_grammar.specs.Tables.{tables}
 use Rattle.mo_grammar.specs.Language.{reads, reads_form}
 use Rattle.mo_grammar.proofs.Codes.{both, told, never, false_from, not_true, choose_true}
 use Rattle.mo_grammar.proofs.Readers.{sections_are, section_equations_are}
-use Rattle.mo_parse_class.specs.Parts.{element_list, flattened, with_items, with_equations, before_sections, closing}
+use Rattle.mo_parse_class.specs.steps.Parts.{element_list, flattened, with_items, with_equations, before_sections, closing}
 use Rattle.mo_class_parts.specs.Starts.{equation_follows, section_codes}
 use Rattle.mo_parse_class.proofs.ElementLists.{items_follow}
 use Rattle.mo_class_heads.proofs.ImportNames.{one_code, rest_of}

@@ -7,7 +7,7 @@ ghost use Rattle.mo_grammar.specs.Reading.{read};
 ghost use Rattle.mo_grammar.specs.Language.{reads, reads_form};
 ghost use Rattle.mo_grammar.specs.Answers.{Gives, with_rest};
 ghost use Rattle.mo_class_heads.specs.Left.{limits};
-ghost use Rattle.mo_parse_class.specs.Parts.{derived as derived_form};
+ghost use Rattle.mo_parse_class.specs.steps.Parts.{derived as derived_form};
 
 use crate::parts::optional_modifiers;
 use crate::plain::{comment, short_body, type_specifier};

@@ -11,7 +11,7 @@ ghost use Rattle.mo_grammar.specs.Reading.{read};
 ghost use Rattle.mo_grammar.specs.Language.{reads_form};
 ghost use Rattle.mo_grammar.specs.Answers.{Gives, with_rest};
 ghost use Rattle.mo_class_heads.specs.Left.{limits};
-ghost use Rattle.mo_parse_class.specs.Parts.{Head as HeadTree, head as head_form, what_of};
+ghost use Rattle.mo_parse_class.specs.steps.Parts.{Head as HeadTree, head as head_form, what_of};
 
 use crate::copies::is_copied_too_often;
 use crate::parts::optional_subscripts;

@@ -11,7 +11,7 @@ ghost use Rattle.mo_grammar.specs.Reading.{read};
 ghost use Rattle.mo_grammar.specs.Language.{reads, reads_form};
 ghost use Rattle.mo_grammar.specs.Answers.{Gives, with_rest};
 ghost use Rattle.mo_class_heads.specs.Left.{limits};
-ghost use Rattle.mo_parse_class.specs.Parts.{limit as limit_form, members as members_form, members_of, element_list, extension as extension_form};
+ghost use Rattle.mo_parse_class.specs.steps.Parts.{limit as limit_form, members as members_form, members_of, element_list, extension as extension_form};
 
 use crate::classes::class_definition;
 use crate::components::components;

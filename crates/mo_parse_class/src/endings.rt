@@ -11,7 +11,7 @@ ghost use Rattle.mo_grammar.specs.Language.{reads_form};
 ghost use Rattle.mo_grammar.specs.Answers.{Gives, with_rest};
 ghost use Rattle.mo_class_parts.specs.Seen.{no_trace, ends};
 ghost use Rattle.mo_class_heads.specs.Left.{limits};
-ghost use Rattle.mo_parse_class.specs.Parts.{closing as closing_form};
+ghost use Rattle.mo_parse_class.specs.steps.Parts.{closing as closing_form};
 
 use crate::parts::optional_annotation;
 use crate::plain::{class_modification, expression, reference};

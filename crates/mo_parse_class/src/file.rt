@@ -6,7 +6,7 @@ ghost use Rattle.mo_grammar.specs.Symbols.{Files};
 ghost use Rattle.mo_grammar.specs.Language.{reads, reads_form};
 ghost use Rattle.mo_grammar.specs.Answers.{Gives, with_rest};
 ghost use Rattle.mo_class_heads.specs.Left.{limits};
-ghost use Rattle.mo_parse_class.specs.Parts.{definition as definition_form};
+ghost use Rattle.mo_parse_class.specs.steps.Parts.{definition as definition_form};
 
 use crate::classes::class_definition;
 use mo_class_heads::{Left, within_clause, within_tree};

@@ -11,7 +11,7 @@ ghost use Rattle.mo_grammar.specs.Language.{reads, reads_form};
 ghost use Rattle.mo_grammar.specs.Answers.{Gives, with_rest};
 ghost use Rattle.mo_class_heads.specs.Left.{limits};
 ghost use Rattle.mo_class_parts.specs.Starts.{section_codes};
-ghost use Rattle.mo_parse_class.specs.Parts.{with_items, before_sections};
+ghost use Rattle.mo_parse_class.specs.steps.Parts.{with_items, before_sections};
 
 use crate::elements::elements;
 use crate::endings::closing;

@@ -16,7 +16,7 @@ use Rattle.mo_grammar.proofs.Codes.{neither, choose_true, choose_false}
 use Rattle.mo_grammar.proofs.Entering.{two_first}
 use Rattle.mo_grammar.proofs.Loops.{with_front}
 use Rattle.mo_grammar.proofs.Readers.{for_equations_are, when_equations_are, if_equations_are, else_equations_are}
-use Rattle.mo_read_body.specs.EquationParts.{Tail, Branch, equation_line, behind_equations, when_branch, when_end, elsewhen_tail, first_branch, no_branch, reads_when_tail, if_branch, elseif_tail, first_branch_else, no_branch_else, if_end, reads_if_tail, joined_branch, joined_branch_else}
+use Rattle.mo_read_body.specs.steps.EquationParts.{Tail, Branch, equation_line, behind_equations, when_branch, when_end, elsewhen_tail, first_branch, no_branch, reads_when_tail, if_branch, elseif_tail, first_branch_else, no_branch_else, if_end, reads_if_tail, joined_branch, joined_branch_else}
 
 -- ---- what comes next
 

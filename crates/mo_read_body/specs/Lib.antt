@@ -1,3 +1,1 @@
-pub mod EquationParts
-pub mod Parts
-pub mod StatementParts
+pub mod steps

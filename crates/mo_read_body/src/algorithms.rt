@@ -5,7 +5,7 @@ ghost use Rattle.mo_grammar.specs.Symbols.{StatementItems};
 ghost use Rattle.mo_grammar.specs.Classes.{statements as statements_form, statement_kind as statement_kind_form};
 ghost use Rattle.mo_grammar.specs.Language.{limits_inside, reads, reads_form};
 ghost use Rattle.mo_grammar.specs.Answers.{Gives, with_rest};
-ghost use Rattle.mo_read_body.specs.StatementParts.{statement_line as statement_line_form, from_outputs, enclosed_outputs as enclosed_outputs_form, from_reference};
+ghost use Rattle.mo_read_body.specs.steps.StatementParts.{statement_line as statement_line_form, from_outputs, enclosed_outputs as enclosed_outputs_form, from_reference};
 
 use crate::declarations::comment;
 use crate::nested_statements::{for_statement, if_statement, when_statement, while_statement};

@@ -5,7 +5,7 @@ ghost use Rattle.mo_grammar.specs.Symbols.{EquationItems, ForEquations};
 ghost use Rattle.mo_grammar.specs.Classes.{for_eq, connect_eq, equality_or_call as equality_or_call_form};
 ghost use Rattle.mo_grammar.specs.Language.{limits_inside, reads, reads_form};
 ghost use Rattle.mo_grammar.specs.Answers.{Gives, with_rest};
-ghost use Rattle.mo_read_body.specs.EquationParts.{equation_kind as equation_kind_form, equation_line as equation_line_form, connected};
+ghost use Rattle.mo_read_body.specs.steps.EquationParts.{equation_kind as equation_kind_form, equation_line as equation_line_form, connected};
 
 use crate::declarations::comment;
 use crate::if_equations::if_equation;

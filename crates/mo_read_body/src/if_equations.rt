@@ -5,7 +5,7 @@ ghost use Rattle.mo_grammar.specs.Symbols.{IfEquations, ElseEquations};
 ghost use Rattle.mo_grammar.specs.Classes.{if_eq};
 ghost use Rattle.mo_grammar.specs.Language.{limits_inside, reads, reads_form};
 ghost use Rattle.mo_grammar.specs.Answers.{Gives, with_rest};
-ghost use Rattle.mo_read_body.specs.EquationParts.{in_if, if_branch as if_branch_form, if_end as if_end_form, elseif_tail, reads_if_tail, behind_equations, behind_branch, joined_branch_else};
+ghost use Rattle.mo_read_body.specs.steps.EquationParts.{in_if, if_branch as if_branch_form, if_end as if_end_form, elseif_tail, reads_if_tail, behind_equations, behind_branch, joined_branch_else};
 
 use crate::equations::equation_line;
 use mo_class_parts::ends_if_branch;

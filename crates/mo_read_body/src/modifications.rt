@@ -9,7 +9,7 @@ ghost use Rattle.mo_grammar.specs.Symbols.{ClassMods, ModArguments};
 ghost use Rattle.mo_grammar.specs.Classes.{modification as modification_form, replaceable_arg};
 ghost use Rattle.mo_grammar.specs.Language.{limits_inside, reads, reads_form};
 ghost use Rattle.mo_grammar.specs.Answers.{Gives, with_rest};
-ghost use Rattle.mo_read_body.specs.Parts.{redeclared as redeclared_form, given as given_form, modifying as modifying_form};
+ghost use Rattle.mo_read_body.specs.steps.Parts.{redeclared as redeclared_form, given as given_form, modifying as modifying_form};
 ghost use Rattle.mo_class_parts.specs.Seen.{declares_limited, argued};
 
 use crate::declarations::{constraint, declares};

@@ -5,7 +5,7 @@ ghost use Rattle.mo_grammar.specs.Grammar.{many};
 ghost use Rattle.mo_grammar.specs.Classes.{statement_branch, if_st, for_st, while_st, when_st};
 ghost use Rattle.mo_grammar.specs.Language.{limits_inside, reads_form};
 ghost use Rattle.mo_grammar.specs.Answers.{Gives, with_rest};
-ghost use Rattle.mo_read_body.specs.StatementParts.{elseif_branch as elseif_branch_form, elsewhen_branch as elsewhen_branch_form, otherwise as otherwise_form};
+ghost use Rattle.mo_read_body.specs.steps.StatementParts.{elseif_branch as elseif_branch_form, elsewhen_branch as elsewhen_branch_form, otherwise as otherwise_form};
 
 use crate::algorithms::statements;
 use mo_class_parts::list_or_nothing;

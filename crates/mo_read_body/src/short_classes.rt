@@ -8,7 +8,7 @@ ghost use Rattle.mo_grammar.specs.Reading.{read};
 ghost use Rattle.mo_grammar.specs.Classes.{enumeration as enumeration_form, literals as literals_form, short_class as short_class_form};
 ghost use Rattle.mo_grammar.specs.Language.{limits_inside, reads_form};
 ghost use Rattle.mo_grammar.specs.Answers.{Gives, with_rest};
-ghost use Rattle.mo_read_body.specs.Parts.{short_definition, literal as literal_form, in_enumeration, between_parens};
+ghost use Rattle.mo_read_body.specs.steps.Parts.{short_definition, literal as literal_form, in_enumeration, between_parens};
 ghost use Rattle.mo_class_parts.specs.Seen.{declares};
 
 use crate::declarations::comment;

@@ -5,7 +5,7 @@ ghost use Rattle.mo_grammar.specs.Symbols.{WhenEquations};
 ghost use Rattle.mo_grammar.specs.Classes.{when_eq};
 ghost use Rattle.mo_grammar.specs.Language.{limits_inside, reads, reads_form};
 ghost use Rattle.mo_grammar.specs.Answers.{Gives, with_rest};
-ghost use Rattle.mo_read_body.specs.EquationParts.{in_when, when_branch as when_branch_form, elsewhen_tail, reads_when_tail, behind_equations, behind_branch, joined_branch};
+ghost use Rattle.mo_read_body.specs.steps.EquationParts.{in_when, when_branch as when_branch_form, elsewhen_tail, reads_when_tail, behind_equations, behind_branch, joined_branch};
 
 use crate::equations::equation_line;
 use mo_class_parts::ends_when_branch;

@@ -13,9 +13,9 @@ use Rattle.mo_scope.specs.Worlds.{MemberEntry, World, frame_at, frame_in, frames
 use Rattle.mo_names.specs.declared.walk.Walk.{Walk}
 use Rattle.mo_names.specs.Sights.{walk_seen}
 use Rattle.mo_redeclare.specs.declared.spoken.Named.{Named}
-use Rattle.mo_redeclare.specs.Sights.{entry_of, named_seen}
+use Rattle.mo_redeclare.specs.steps.Sights.{entry_of, named_seen}
 use Rattle.mo_redeclare.proofs.Tables.{members_are}
-use Rattle.mo_redeclare.specs.Steps.{found_checked, redeclares_in, redeclares_of}
+use Rattle.mo_redeclare.specs.steps.Comparing.{found_checked, redeclares_in, redeclares_of}
 
 each_append : {A : Type 0} (check : A → Checked) (xs ys : List A) → each_checked check (xs ++ ys) ≡ and_then (each_checked check xs) (λ _. each_checked check ys)
 each_append check [] ys = refl

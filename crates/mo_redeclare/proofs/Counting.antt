@@ -17,7 +17,7 @@ use Rattle.mo_scope.specs.Names.{base_frame_of, clauses_of, walk_of}
 use Rattle.mo_scope.specs.Sizes.{Sizes, count_sizes, first_base, is_leaf, leaf_base, or_original, sizes_by, sizes_from, sizes_if, sizes_in, sizes_of_base, sizes_of_form, sizes_of_short}
 use Rattle.mo_names.proofs.Later.{frame_later, table_later}
 use Rattle.mo_redeclare.proofs.Speaking.{read_drop}
-use Rattle.mo_redeclare.specs.Ways.{Step, base_if_leaf, count_declared, step_of, step_of_short, step_on, step_to, way_of_form, way_of_row}
+use Rattle.mo_redeclare.specs.steps.Ways.{Step, base_if_leaf, count_declared, step_of, step_of_short, step_on, step_to, way_of_form, way_of_row}
 
 -- ---- declared dimensions
 

@@ -8,7 +8,7 @@ use Rattle.mo_scope.specs.Parts.{Redeclaration}
 use Rattle.mo_scope.specs.Rows.{place_eq}
 use Rattle.mo_scope.specs.Sights.{redeclaration_in}
 use Rattle.mo_scope.proofs.Sayings.{front_is}
-use Rattle.mo_redeclare.specs.Steps.{kept_behind}
+use Rattle.mo_redeclare.specs.steps.Comparing.{kept_behind}
 
 pub ended : (behind keeps : Bool) (place : Place) (r : Redeclaration) (rs : List Redeclaration) → r.keeps ≡ keeps → (behind && not keeps) ≡ true → false ≡ kept_behind behind place (r ∷ rs)
 ended true false place r rs is test = rw is refl

@@ -22,8 +22,8 @@ use Rattle.mo_names.specs.Sights.{IsMember, member_of}
 use Rattle.mo_names.specs.Children.{IsChild, child_seen}
 use Rattle.mo_names.proofs.Later.{grows_refl, grows_trans, table_later, frame_later, is_frame_later, member_later, is_member_later, is_walk_later, walk_later}
 use Rattle.mo_redeclare.specs.declared.spoken.Named.{Named}
-use Rattle.mo_redeclare.specs.Sights.{IsKept, IsNamed, IsRedeclaration, named_seen}
-use Rattle.mo_redeclare.specs.Steps.{element_matched, entered_if_alike, found_checked, frames_entered}
+use Rattle.mo_redeclare.specs.steps.Sights.{IsKept, IsNamed, IsRedeclaration, named_seen}
+use Rattle.mo_redeclare.specs.steps.Comparing.{element_matched, entered_if_alike, found_checked, frames_entered}
 use Rattle.mo_syntax.specs.declared.rules.TheConstants.{NOT_COMPATIBLE}
 
 -- ---- elements that are kept by name

@@ -9,8 +9,8 @@ use Rattle.mo_scope.specs.Lookup.{Walked, asking_of, members_in, named, walked}
 use Rattle.mo_scope.specs.Names.{Child, child_of_member, component_frame, walk_of}
 use Rattle.mo_scope.specs.Compatible.{Compare, Pairs, are_matched, compared, compatible_from, counterpart, dimensions_of, is_matched, is_pair, prefix_of, same_prefixes, same_types, with_pair}
 use Rattle.mo_scope.specs.Worlds.{MemberEntry, member_in}
-use Rattle.mo_redeclare.specs.Sights.{is_open}
-use Rattle.mo_redeclare.specs.Steps.{both_walked, children_of, components_compared, counterpart_matched, entered_alike, entered_matching, leaves_compared, pair_compared}
+use Rattle.mo_redeclare.specs.steps.Sights.{is_open}
+use Rattle.mo_redeclare.specs.steps.Comparing.{both_walked, children_of, components_compared, counterpart_matched, entered_alike, entered_matching, leaves_compared, pair_compared}
 use Rattle.mo_redeclare.proofs.Tables.{named_open}
 use Rattle.mo_syntax.specs.declared.rules.TheConstants.{NOT_COMPATIBLE}
 

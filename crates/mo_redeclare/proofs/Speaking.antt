@@ -24,7 +24,7 @@ use Rattle.mo_scope.specs.Sights.{source_seen}
 use Rattle.mo_scope.specs.Worlds.{AreFrames, IsFrame, World}
 use Rattle.mo_scope.specs.Places.{Every}
 use Rattle.mo_scope.proofs.laws.Standing.{every_append}
-use Rattle.mo_redeclare.specs.Steps.{redeclares_of, redeclares_in, element_by, element_given}
+use Rattle.mo_redeclare.specs.steps.Comparing.{redeclares_of, redeclares_in, element_by, element_given}
 
 abbrev pub with_name : List ℕ → List Redeclaration → List (List ℕ × Redeclaration)
 with_name name redeclarations = map (λ redeclaration. (name, redeclaration)) redeclarations

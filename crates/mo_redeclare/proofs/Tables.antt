@@ -14,8 +14,8 @@ use Rattle.mo_scope.specs.Sights.{member_seen}
 use Rattle.mo_scope.specs.Worlds.{MemberEntry, World, member_in}
 use Rattle.mo_names.specs.declared.walk.Inherited.{Inherited}
 use Rattle.mo_names.specs.Sights.{IsInherited, IsMember, inherited_seen, member_of}
-use Rattle.mo_redeclare.specs.Sights.{IsKept, entry_of, is_open}
-use Rattle.mo_redeclare.specs.Steps.{counterpart_matched}
+use Rattle.mo_redeclare.specs.steps.Sights.{IsKept, entry_of, is_open}
+use Rattle.mo_redeclare.specs.steps.Comparing.{counterpart_matched}
 
 -- ---- public components
 

@@ -1,3 +1,1 @@
-pub mod Sights
-pub mod Steps
-pub mod Ways
+pub mod steps

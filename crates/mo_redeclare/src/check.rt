@@ -8,8 +8,8 @@ ghost use Rattle.mo_scope.specs.Redeclarations.{each_checked, redeclaration_chec
 ghost use Rattle.mo_scope.specs.Sights.{redeclaration_in};
 ghost use Rattle.mo_scope.specs.Worlds.{Grows, IsFrame, frame_at, frames_of, member_in, table_in};
 ghost use Rattle.mo_names.specs.Sights.{IsMember, IsWalk, member_of, walk_seen};
-ghost use Rattle.mo_redeclare.specs.Sights.{IsKept, IsNamed, IsRedeclaration, named_seen};
-ghost use Rattle.mo_redeclare.specs.Steps.{classes_checked as classes_are_checked, found_checked};
+ghost use Rattle.mo_redeclare.specs.steps.Sights.{IsKept, IsNamed, IsRedeclaration, named_seen};
+ghost use Rattle.mo_redeclare.specs.steps.Comparing.{classes_checked as classes_are_checked, found_checked};
 
 use crate::classes::{constraining_class, new_class};
 use crate::comparing::compatible;

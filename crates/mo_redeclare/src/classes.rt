@@ -12,7 +12,7 @@ ghost use Rattle.mo_scope.specs.Rows.{number_of_classes};
 ghost use Rattle.mo_scope.specs.Sights.{modifiers_seen, redeclaration_in, source_seen};
 ghost use Rattle.mo_scope.specs.Worlds.{Grows, IsFrame, frame_at, frames_of, source_in, sources_in, table_in};
 ghost use Rattle.mo_names.specs.Sights.{IsMember, member_of};
-ghost use Rattle.mo_redeclare.specs.Sights.{IsRedeclaration};
+ghost use Rattle.mo_redeclare.specs.steps.Sights.{IsRedeclaration};
 
 use crate::names::{class_at, class_at_home};
 use mo_scope::{

@@ -7,8 +7,8 @@ ghost use Rattle.mo_scope.specs.Outcome.{Gives};
 ghost use Rattle.mo_scope.specs.Places.{Every};
 ghost use Rattle.mo_scope.specs.Worlds.{Grows, IsFrame, frame_at, frames_of, member_in, table_in};
 ghost use Rattle.mo_names.specs.Sights.{IsInherited, IsLeaf, IsMember, IsWalk, inherited_seen, member_of, walk_seen};
-ghost use Rattle.mo_redeclare.specs.Sights.{IsKept, is_open};
-ghost use Rattle.mo_redeclare.specs.Steps.{both_walked as both_are_walked, components_compared as components_are_compared, element_matched as element_is_matched, leaves_compared as leaves_are_compared, pair_compared as pair_is_compared};
+ghost use Rattle.mo_redeclare.specs.steps.Sights.{IsKept, is_open};
+ghost use Rattle.mo_redeclare.specs.steps.Comparing.{both_walked as both_are_walked, components_compared as components_are_compared, element_matched as element_is_matched, leaves_compared as leaves_are_compared, pair_compared as pair_is_compared};
 
 use crate::entering::entered_matching;
 use crate::known::{is_open_component, named, open_components};

@@ -13,7 +13,7 @@ ghost use Rattle.mo_scope.specs.Worlds.{Grows, IsFrame, frame_at, frames_of, tab
 ghost use Rattle.mo_syntax.specs.declared.class.Body.{out-Body};
 ghost use Rattle.mo_names.specs.Children.{IsChild, child_seen};
 ghost use Rattle.mo_names.specs.Sights.{IsMember, member_of};
-ghost use Rattle.mo_redeclare.specs.Ways.{base_if_leaf as leaf_if_leaf, count_declared, count_redeclared, step_of, step_of_long, step_of_short, step_seen, way_of_form, way_of_row};
+ghost use Rattle.mo_redeclare.specs.steps.Ways.{base_if_leaf as leaf_if_leaf, count_declared, count_redeclared, step_of, step_of_long, step_of_short, step_seen, way_of_form, way_of_row};
 
 use mo_names::{Child, base_of, walk_of};
 use mo_scope::{Declares, Member, Part, Redeclaration, Scopes, component_of};

@@ -7,7 +7,7 @@ ghost use Rattle.mo_scope.specs.Outcome.{Gives};
 ghost use Rattle.mo_scope.specs.Worlds.{Grows, IsFrame, frame_at, frames_of, table_in};
 ghost use Rattle.mo_names.specs.Children.{IsChild, child_seen};
 ghost use Rattle.mo_names.specs.Sights.{IsMember, member_of};
-ghost use Rattle.mo_redeclare.specs.Steps.{children_of as both_children, entered_alike as both_alike, entered_if_alike as both_if_alike, entered_matching as both_matching, frames_entered};
+ghost use Rattle.mo_redeclare.specs.steps.Comparing.{children_of as both_children, entered_alike as both_alike, entered_if_alike as both_if_alike, entered_matching as both_matching, frames_entered};
 
 use crate::dims::same_counts;
 use crate::prefix::{prefix_of, same_prefixes};

@@ -6,7 +6,7 @@ ghost use Rattle.mo_scope.specs.Rows.{is_class as declares_class};
 ghost use Rattle.mo_scope.specs.Sights.{declares_seen, member_seen};
 ghost use Rattle.mo_scope.specs.Worlds.{frames_of, member_in};
 ghost use Rattle.mo_names.specs.Sights.{IsMember, member_of};
-ghost use Rattle.mo_redeclare.specs.Sights.{IsKept, entry_of, is_open};
+ghost use Rattle.mo_redeclare.specs.steps.Sights.{IsKept, entry_of, is_open};
 
 use mo_names::Inherited;
 use mo_scope::{Member, MemberTable, Scopes, is_class};

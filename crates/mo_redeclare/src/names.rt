@@ -6,7 +6,7 @@ ghost use Rattle.mo_scope.specs.Names.{scope_of_home};
 ghost use Rattle.mo_scope.specs.Outcome.{Gives};
 ghost use Rattle.mo_scope.specs.Sights.{member_seen};
 ghost use Rattle.mo_scope.specs.Worlds.{Grows, IsFrame, frame_at, frames_of, member_in, scope_in, table_in};
-ghost use Rattle.mo_redeclare.specs.Steps.{class_at as class_found};
+ghost use Rattle.mo_redeclare.specs.steps.Comparing.{class_at as class_found};
 
 use mo_names::{Found, find_path};
 use mo_scope::{Member, ScopeAt, Scopes};

@@ -5,7 +5,7 @@ ghost use Rattle.mo_scope.specs.Redeclarations.{is_replaceable_for as replaceabl
 ghost use Rattle.mo_scope.specs.Rows.{place_eq};
 ghost use Rattle.mo_scope.specs.Sights.{member_seen, redeclaration_in};
 ghost use Rattle.mo_scope.specs.Worlds.{IsFrame, frames_of, member_in, table_in};
-ghost use Rattle.mo_redeclare.specs.Steps.{kept_behind};
+ghost use Rattle.mo_redeclare.specs.steps.Comparing.{kept_behind};
 
 use mo_scope::{Member, Redeclaration, Scopes};
 use mo_syntax::{NoMemory, Place};

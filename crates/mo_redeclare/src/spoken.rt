@@ -8,8 +8,8 @@ ghost use Rattle.mo_scope.specs.Rows.{replacing_in};
 ghost use Rattle.mo_scope.specs.Sights.{given_seen, source_seen};
 ghost use Rattle.mo_scope.specs.Spoken.{spoken_argument as argument_spoken, spoken_element as element_spoken, spoken_in, spoken_of, spoken_rest as rest_spoken};
 ghost use Rattle.mo_scope.specs.Worlds.{IsFrame, frame_at, frames_of, source_in, table_in};
-ghost use Rattle.mo_redeclare.specs.Sights.{IsNamed, named_seen};
-ghost use Rattle.mo_redeclare.specs.Steps.{element_given as given_element, redeclares_in};
+ghost use Rattle.mo_redeclare.specs.steps.Sights.{IsNamed, named_seen};
+ghost use Rattle.mo_redeclare.specs.steps.Comparing.{element_given as given_element, redeclares_in};
 
 use mo_scope::{
     Given, Listing, Origin, Redeclaration, Scopes, Source, copied, copied_scope, nested_list,

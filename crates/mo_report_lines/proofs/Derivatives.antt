@@ -9,7 +9,7 @@ use Rattle.mo_lexer.specs.Bytes.{is_word_byte}
 use Rattle.mo_lexer.specs.Spelling.{Spells}
 use Rattle.mo_lexer.proofs.Fronts.{tail_is}
 use Rattle.mo_report_lines.specs.Grammar.{one, more, IsPart, plain, indexed, IsName, IsDerivative}
-use Rattle.mo_report_lines.specs.Reading.{stops, in_name, closed, OpensTo, Begins, BeginsOnly, BeginsNever}
+use Rattle.mo_report_lines.specs.steps.Reading.{stops, in_name, closed, OpensTo, Begins, BeginsOnly, BeginsNever}
 use Rattle.mo_report_lines.proofs.Words.{front_word}
 use Rattle.mo_report_lines.proofs.Parts.{name_stops}
 

@@ -8,7 +8,7 @@ use Rattle.mo_report_lines.specs.declared.form.Kind.{Kind}
 use Rattle.mo_report_lines.proofs.Numbers.{zero_of}
 use Rattle.mo_report_lines.specs.declared.form.Field.{Field}
 use Rattle.mo_report_lines.specs.Grammar.{AreNumbers, IsValue, Spells, done, next, HasForm, head_forms, offset_forms, square_forms, IsLine, head, offsets, square, block}
-use Rattle.mo_report_lines.specs.Reading.{stops, is_no_blank, in_name, in_numbers, begins_blank, are_apart, is_form, fields_in, IsFieldAt, IsNoFieldAt, IsBlockLine, BeginsOnly, BeginsNever}
+use Rattle.mo_report_lines.specs.steps.Reading.{stops, is_no_blank, in_name, in_numbers, begins_blank, are_apart, is_form, fields_in, IsFieldAt, IsNoFieldAt, IsBlockLine, BeginsOnly, BeginsNever}
 
 pub strip : (w a b : List ℕ) → w ++ a ≡ w ++ b → a ≡ b
 strip [] a b e = e

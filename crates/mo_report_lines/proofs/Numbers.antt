@@ -11,7 +11,7 @@ use Rattle.std.proofs.lemmas.Str.Parse.{IsNumeralModel, numerals_by_value}
 use Rattle.mo_lexer.specs.Bytes.{is_digit}
 use Rattle.mo_lexer.specs.Spelling.{are_digits}
 use Rattle.mo_report_lines.specs.Grammar.{IsNumber, AreNumbers}
-use Rattle.mo_report_lines.specs.Reading.{in_numbers, BeginsOnly, BeginsNever}
+use Rattle.mo_report_lines.specs.steps.Reading.{in_numbers, BeginsOnly, BeginsNever}
 use Rattle.mo_report_lines.proofs.Separated.{GoesOn, first_goes, never_first, next_goes, next_never, all_gone}
 use Rattle.mo_lexer.proofs.Fronts.{run_passes}
 use Rattle.mo_report_lines.proofs.Runs.{front_is, passes_at}

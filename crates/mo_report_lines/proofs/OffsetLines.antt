@@ -4,7 +4,7 @@ use Rattle.std.specs.Fmt.{decimal}
 use Rattle.std.proofs.lemmas.Fmt.{decimal_injective}
 use Rattle.mo_lexer.specs.Bytes.{is_digit}
 use Rattle.mo_report_lines.specs.Grammar.{IsNumber, IsName, IsEquationLine, IsUnknownLine}
-use Rattle.mo_report_lines.specs.Reading.{stops, is_no_blank, in_name, BeginsOnly, BeginsNever, IsNumberedAt, IsNoNumberAt, IsNamedAt, IsNoNameAt}
+use Rattle.mo_report_lines.specs.steps.Reading.{stops, is_no_blank, in_name, BeginsOnly, BeginsNever, IsNumberedAt, IsNoNumberAt, IsNamedAt, IsNoNameAt}
 use Rattle.mo_report_lines.proofs.Runs.{take_front, front_is}
 use Rattle.mo_report_lines.proofs.Numbers.{digits_of, zero_of}
 use Rattle.mo_report_lines.proofs.Forms.{strip, number_then_blank, name_then_blank}

@@ -1,7 +1,7 @@
 -- What holds of a text that a call may give.
 use Rattle.std.proofs.Common.{◌≡◌, ℕ, Bool, true, List, Option, None, Some, IfSome, IfNone, Bor, ◌≢◌, ◌++◌, ap, sym, ◌∙◌}
 use Rattle.std.specs.Option.{MatchOption}
-use Rattle.mo_report_lines.specs.Reading.{BeginsOnly, BeginsNever}
+use Rattle.mo_report_lines.specs.steps.Reading.{BeginsOnly, BeginsNever}
 use Rattle.mo_report_lines.proofs.Parts.{stops_within}
 
 pub some_to : {P Q : List ℕ → Type 0} (r : Option (Bor (List ℕ))) → ((x : List ℕ) → P x → Q x) → IfSome r (λ x. P x.now) → IfSome r (λ x. Q x.now)

@@ -5,7 +5,7 @@ use Rattle.mo_lexer.specs.Bytes.{is_word_byte}
 use Rattle.mo_lexer.specs.Spelling.{Spells}
 use Rattle.mo_lexer.proofs.Fronts.{tail_is}
 use Rattle.mo_report_lines.specs.Grammar.{AreNumbers, IsPart, plain, indexed, IsName}
-use Rattle.mo_report_lines.specs.Reading.{stops, in_part, in_name, in_numbers, AreIndices, Begins, BeginsOnly, BeginsNever}
+use Rattle.mo_report_lines.specs.steps.Reading.{stops, in_part, in_name, in_numbers, AreIndices, Begins, BeginsOnly, BeginsNever}
 use Rattle.mo_report_lines.proofs.Separated.{GoesOn, first_goes, never_first, next_goes, next_never, all_gone}
 
 -- ---- what may stop what

@@ -8,7 +8,7 @@ use Rattle.mo_syntax.specs.declared.token.TokenKind.TheVariants.{Ident}
 use Rattle.mo_lexer.specs.Bytes.{is_letter, is_escaped, is_quotable, is_word_byte}
 use Rattle.mo_lexer.specs.Spelling.{AreContents, nothing, plain, escape, is_word, Spells}
 use Rattle.mo_lexer.proofs.Fronts.{both_hold, first_is, tail_is}
-use Rattle.mo_report_lines.specs.Reading.{begins_quoted, begins_escape, IsContentsEnd, Begins, BeginsOnly, BeginsNever}
+use Rattle.mo_report_lines.specs.steps.Reading.{begins_quoted, begins_escape, IsContentsEnd, Begins, BeginsOnly, BeginsNever}
 
 -- what stands before the first stop is one text
 pub same_contents : (s t a b : List ℕ) → AreContents is_quotable s → AreContents is_quotable t → s ++ a ≡ t ++ b → begins_quoted a ≡ false → begins_quoted b ≡ false → (s ≡ t) × (a ≡ b)

@@ -3,7 +3,7 @@ use Rattle.std.proofs.Common.{◌≡◌, ℕ, zero, suc, ◌<◌, Bool, true, fa
 use Rattle.std.specs.List.{list_all, prefix_len}
 use Rattle.std.proofs.lemmas.List.Prefix.{front_rest}
 use Rattle.mo_lexer.proofs.Fronts.{both_hold}
-use Rattle.mo_report_lines.specs.Reading.{stops}
+use Rattle.mo_report_lines.specs.steps.Reading.{stops}
 
 pub off : (b : Bool) → not b ≡ true → b ≡ false
 off true e = cc

@@ -2,7 +2,7 @@
 use Rattle.std.proofs.Common.{◌≡◌, ℕ, Bool, true, false, not, List, [], ◌∷◌, ◌++◌, refl, sym, ap, ◌∙◌, append_assoc}
 use Rattle.mo_lexer.proofs.Fronts.{tail_is}
 use Rattle.mo_report_lines.specs.Grammar.{AreSeparated, one, more}
-use Rattle.mo_report_lines.specs.Reading.{stops, Begins, BeginsOnly, BeginsNever}
+use Rattle.mo_report_lines.specs.steps.Reading.{stops, Begins, BeginsOnly, BeginsNever}
 
 -- `other` stands there, or behind a separator and more texts
 pub data Goes (separator : ℕ) (P : List ℕ → Type 0) (rest other : List ℕ) : Type 0 where

@@ -8,7 +8,7 @@ use Rattle.mo_tables.specs.Words.{code_in, keywords}
 use Rattle.mo_lexer.specs.Bytes.{is_letter, is_word_byte}
 use Rattle.mo_lexer.specs.Spelling.{is_word, IsQuoted, Spells}
 use Rattle.mo_lexer.proofs.Fronts.{both, both_hold, run_passes}
-use Rattle.mo_report_lines.specs.Reading.{stops, BeginsOnly, BeginsNever}
+use Rattle.mo_report_lines.specs.steps.Reading.{stops, BeginsOnly, BeginsNever}
 use Rattle.mo_report_lines.proofs.Runs.{front_is}
 
 letter_goes_on : (b : ℕ) → is_letter b ≡ true → is_word_byte b ≡ true

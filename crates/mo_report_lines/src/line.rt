@@ -1,7 +1,7 @@
 //! Whether a line has a form of a report's line.
 ghost use Rattle.std.specs.Prelude.{◌≡◌, true, false, IsTrue, IfSome, IfNone};
 ghost use Rattle.mo_report_lines.specs.Grammar.{IsValue, IsLine, IsReadable, Spells, HasForm, head_forms, offset_forms, square_forms};
-ghost use Rattle.mo_report_lines.specs.Reading.{is_no_blank, is_form, fields_in, BeginsOnly, BeginsNever, IsFieldAt, IsNoFieldAt, IsBlockLine};
+ghost use Rattle.mo_report_lines.specs.steps.Reading.{is_no_blank, is_form, fields_in, BeginsOnly, BeginsNever, IsFieldAt, IsNoFieldAt, IsBlockLine};
 
 use crate::bytes::after_word;
 use crate::form::{

@@ -4,7 +4,7 @@ ghost use Rattle.mo_syntax.specs.declared.token.TokenKind.TheVariants.{Ident};
 ghost use Rattle.mo_lexer.specs.Bytes.{is_word_byte, is_letter};
 ghost use Rattle.mo_lexer.specs.Spelling.{Spells};
 ghost use Rattle.mo_report_lines.specs.Grammar.{IsPart, IsName, IsDerivative};
-ghost use Rattle.mo_report_lines.specs.Reading.{stops, in_part, in_name, closed, OpensTo, AreIndices, IsContentsEnd, BeginsOnly, BeginsNever};
+ghost use Rattle.mo_report_lines.specs.steps.Reading.{stops, in_part, in_name, closed, OpensTo, AreIndices, IsContentsEnd, BeginsOnly, BeginsNever};
 
 use crate::bytes::{after_word, begins_with, is_escaped, is_letter, is_quotable, word_len};
 use crate::number::after_numbers;

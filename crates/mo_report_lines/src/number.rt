@@ -4,7 +4,7 @@ ghost use Rattle.std.specs.Str.Parse.{digits_value};
 ghost use Rattle.mo_lexer.specs.Bytes.{is_digit};
 ghost use Rattle.mo_lexer.specs.Spelling.{are_digits};
 ghost use Rattle.mo_report_lines.specs.Grammar.{IsNumber, AreNumbers};
-ghost use Rattle.mo_report_lines.specs.Reading.{in_numbers, BeginsOnly, BeginsNever};
+ghost use Rattle.mo_report_lines.specs.steps.Reading.{in_numbers, BeginsOnly, BeginsNever};
 
 use crate::bytes::{begins_with, digits_len};
 

@@ -1,7 +1,7 @@
 //! The lines that hold the offsets of equations and unknowns.
 ghost use Rattle.std.specs.Prelude.{◌≡◌, ℕ, List as Seq, IfSome, IfNone};
 ghost use Rattle.mo_report_lines.specs.Grammar.{IsEquationLine, IsUnknownLine};
-ghost use Rattle.mo_report_lines.specs.Reading.{IsNumberedAt, IsNoNumberAt, IsNamedAt, IsNoNameAt};
+ghost use Rattle.mo_report_lines.specs.steps.Reading.{IsNumberedAt, IsNoNumberAt, IsNamedAt, IsNoNameAt};
 
 use crate::bytes::after_word;
 use crate::name::after_name;

@@ -14,7 +14,7 @@ use Rattle.mo_syntax.specs.declared.class.What.{What, What-F, out-What}
 use Rattle.mo_scope.specs.Rows.{Table, Modifiers, Declares, declared_by}
 use Rattle.mo_scope.specs.Frames.{Source, Listed, Argued}
 use Rattle.mo_scope.specs.Parts.{Picked, Saying, Modifies, Redeclares, Redeclaration, brought, declared_in, held, is_nothing, or_own, picked, picked_here, said, said_behind, said_by_all, said_further, said_in_list, sources_said, with_list}
-use Rattle.mo_scope.specs.Picks.{name_at, or_else, picked_said, picked_with}
+use Rattle.mo_scope.specs.steps.Picks.{name_at, or_else, picked_said, picked_with}
 
 -- where every redeclaration wins, this is the value that is picked
 pub all_win : {A : Type 0} (table : Table) (xs : List A) (sources : List Source) (names : List (List ℕ)) → picked_with table (map (λ x. true) xs) sources names ≡ picked table sources names

@@ -15,10 +15,10 @@ use Rattle.mo_syntax.specs.declared.class.Item.{Item}
 use Rattle.mo_syntax.specs.declared.class.ModsOf.{ModsOf}
 use Rattle.mo_syntax.specs.declared.class.What.TheVariants.{Component}
 use Rattle.mo_syntax.specs.Classes.{Home, Apart, inside, Outline, nothing, both, each, outline_of_body, outline_of_give, outline_of_item, outline_of_what, outline_of_element}
-use Rattle.mo_syntax.specs.Parts.{outline_of_mods, outline_of_extending, outline_of_limit, outline_of_class, marked}
+use Rattle.mo_syntax.specs.steps.Parts.{outline_of_mods, outline_of_extending, outline_of_limit, outline_of_class, marked}
 use Rattle.mo_syntax.proofs.Outlines.{at_Long, at_Component, at_Element}
 use Rattle.mo_scope.specs.Rows.{ClassEntry, entry_in}
-use Rattle.mo_scope.specs.Listed.{Lists}
+use Rattle.mo_scope.specs.steps.Listed.{Lists}
 
 all_ok : {A E : Type 0} (r : Result A E) (P Q : A → Type 0) → ((x : A) → P x → Q x) → IfOk r P → IfOk r Q
 all_ok (Ok x) P Q step h = step x h

@@ -8,7 +8,6 @@ pub mod Frames
 pub mod Held
 pub mod Insides
 pub mod Instances
-pub mod Listed
 pub mod Mentions
 pub mod Lookup
 pub mod Names
@@ -16,7 +15,6 @@ pub mod Open
 pub mod Outcome
 pub mod Own
 pub mod Parts
-pub mod Picks
 pub mod Places
 pub mod Redeclarations
 pub mod Rows
@@ -26,3 +24,4 @@ pub mod Spoken
 pub mod TreePlaces
 pub mod Trees
 pub mod Worlds
+pub mod steps

@@ -2,7 +2,7 @@
 ghost use Rattle.std.specs.Prelude.{◌≡◌, ◌+◌, [], ◌∷◌, ◌++◌, List as Seq, ℕ, map, IfOk, OnOk, if◌then◌else◌};
 ghost use Rattle.std.specs.Str.{bytes_eq};
 ghost use Rattle.mo_scope.specs.Held.{group_held, path_key, parts_or_none, placed_by, placed_among, placed_held};
-ghost use Rattle.mo_scope.specs.Listed.{class_seen};
+ghost use Rattle.mo_scope.specs.steps.Listed.{class_seen};
 ghost use Rattle.mo_scope.specs.Rows.{placed_part};
 ghost use Rattle.mo_scope.specs.Sights.{part_seen, home_seen};
 

@@ -3,7 +3,7 @@ ghost use Rattle.std.specs.Prelude.{◌≡◌, false, ◌++◌, [], ◌∷◌, m
 ghost use Rattle.std.specs.Option.{option_to_list};
 ghost use Rattle.mo_syntax.specs.declared.class.Body.{out-Body};
 ghost use Rattle.mo_scope.specs.Held.{number_held, group_held, row_with};
-ghost use Rattle.mo_scope.specs.Listed.{class_seen};
+ghost use Rattle.mo_scope.specs.steps.Listed.{class_seen};
 ghost use Rattle.mo_scope.specs.Rows.{Element_of, Base_of, items_in, bases_in, part_of as part_of_item, import_in, number_by, declared_by as element_declared};
 ghost use Rattle.mo_scope.specs.Sights.{part_seen, clause_seen, row_seen};
 

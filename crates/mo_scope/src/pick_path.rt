@@ -2,7 +2,7 @@
 ghost use Rattle.std.specs.Prelude.{◌≡◌, ◌+◌, ◌<◌, ◌≤◌, ◌++◌, ◌∷◌, [], List as Seq, drop, flat_map, length, map, option_map, take, true};
 ghost use Rattle.mo_scope.specs.Frames.{Argued, Frame, Source as SourceOf};
 ghost use Rattle.mo_scope.specs.Parts.{Redeclaration as RedeclarationOf, Redeclares, Saying, declared_in, pending_behind, picked, picked_here, said, said_behind, said_by_argument, said_by_element, said_by_elements, said_further, said_in_list};
-ghost use Rattle.mo_scope.specs.Picks.{name_at, or_else, picked_said, picked_with, view_in, view_of};
+ghost use Rattle.mo_scope.specs.steps.Picks.{name_at, or_else, picked_said, picked_with, view_in, view_of};
 ghost use Rattle.mo_scope.specs.Rows.{Table, replacing_in};
 ghost use Rattle.mo_scope.specs.Sights.{picked_in, source_seen};
 ghost use Rattle.mo_scope.specs.Worlds.{sources_in};

@@ -2,7 +2,7 @@
 ghost use Rattle.std.specs.Prelude.{◌≡◌, map, IfOk, OnOk, if◌then◌else◌};
 ghost use Rattle.mo_syntax.specs.declared.place.Place.{Place as PlaceAt};
 ghost use Rattle.mo_scope.specs.Held.{number_held};
-ghost use Rattle.mo_scope.specs.Listed.{class_seen};
+ghost use Rattle.mo_scope.specs.steps.Listed.{class_seen};
 ghost use Rattle.mo_scope.specs.Rows.{place_eq, number_among};
 
 use crate::walk::ClassData;

@@ -2,8 +2,8 @@
 ghost use Rattle.std.specs.Prelude.{◌≡◌, ◌∷◌, [], ◌++◌, map, true, false, IfOk};
 ghost use Rattle.mo_syntax.specs.Classes.{inside as home_inside, Under, Apart, each, outline_of_body, outline_of_give, outline_of_item, outline_of_what, outline_of_element};
 ghost use Rattle.mo_syntax.specs.ClassTable.{names_of, in_file};
-ghost use Rattle.mo_syntax.specs.Parts.{outline_of_class, outline_of_extending, marked};
-ghost use Rattle.mo_scope.specs.Listed.{Lists, class_seen};
+ghost use Rattle.mo_syntax.specs.steps.Parts.{outline_of_class, outline_of_extending, marked};
+ghost use Rattle.mo_scope.specs.steps.Listed.{Lists, class_seen};
 ghost use Rattle.mo_scope.specs.Rows.{entries_of};
 ghost use Rattle.mo_scope.specs.Sights.{home_seen};
 

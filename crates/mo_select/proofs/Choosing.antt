@@ -8,10 +8,10 @@ use Rattle.mo_graph.proofs.Counting.{count-injection, count-same, count-ones, co
 use Rattle.mo_incidence.specs.Signature.{Signature}
 use Rattle.mo_incidence.specs.Assignment.{Assigns}
 use Rattle.mo_incidence.specs.Offsets.{by_place, IsTight}
-use Rattle.mo_incidence.specs.Needing.{AreOwners}
+use Rattle.mo_incidence.specs.steps.Needing.{AreOwners}
 use Rattle.mo_match.proofs.ListLemmas.{contains-at, at-contains}
 use Rattle.mo_select.specs.Selection.{CanHave, IsPartialChoice, members, IsPreferred, IsTiedTo, IsLargestOf, IsLevel}
-use Rattle.mo_select.specs.Staging.{taken, AreApart, StandsAt, IsGreedyChoice, IsLeft}
+use Rattle.mo_select.specs.steps.Staging.{taken, AreApart, StandsAt, IsGreedyChoice, IsLeft}
 use Rattle.mo_select.proofs.Holders.{holder, holder-is, holder-some, back-assigns, back-count, forth, forth-assigns, forth-count}
 
 assigns-same : {E : ℕ → ℕ → Type 0} (m : ℕ) (f h : ℕ → ℕ) → ((t : ℕ) → t < m → h t ≡ f t) → Assigns E m f → Assigns E m h

@@ -13,8 +13,8 @@ use Rattle.mo_blocks.proofs.Counts.{count-dummies}
 use Rattle.mo_match.proofs.ListLemmas.{contains-at, at-contains}
 use Rattle.mo_select.specs.declared.selection.Stage.{Stage}
 use Rattle.mo_select.specs.Selection.{levels, no_stage, candidates_at, dummies_from}
-use Rattle.mo_select.specs.Staging.{AreUnknowns, AreWhole}
-use Rattle.mo_select.specs.Depths.{unknowns_in, AreDepths}
+use Rattle.mo_select.specs.steps.Staging.{AreUnknowns, AreWhole}
+use Rattle.mo_select.specs.steps.Depths.{unknowns_in, AreDepths}
 use Rattle.mo_select.proofs.Holders.{holder, holder-is, holder-some}
 use Rattle.mo_select.proofs.Staging.{next-unknowns}
 use Rattle.mo_select.proofs.Stages.{stage-size, chosen-known}

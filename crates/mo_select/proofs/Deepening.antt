@@ -8,7 +8,7 @@ use Rattle.mo_incidence.specs.Offsets.{by_place}
 use Rattle.mo_match.proofs.ListLemmas.{contains-at, at-contains}
 use Rattle.mo_select.specs.declared.selection.Stage.{Stage}
 use Rattle.mo_select.specs.Selection.{no_stage, AreNested}
-use Rattle.mo_select.specs.Depths.{unknowns_in, IsNoted, AreDepths}
+use Rattle.mo_select.specs.steps.Depths.{unknowns_in, IsNoted, AreDepths}
 use Rattle.mo_select.proofs.Holders.{holder, holder-is, holder-some}
 
 contains-or-not : (xs : List ℕ) (x : ℕ) → Contains xs x ⊎ (Contains xs x → ⊥)

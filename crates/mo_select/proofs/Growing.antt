@@ -10,7 +10,7 @@ use Rattle.mo_match.specs.Searching.{Bipartite, Uses, ClosedTo, Matches, HoldsTr
 use Rattle.mo_match.proofs.Covering.{matching-assigns}
 use Rattle.mo_match.proofs.Deficit.{assigns-by, uses-mentions, mentions-uses, closed-marks, matching-none, tree-none, assigned-skip, assigned-next}
 use Rattle.mo_match.proofs.Trees.{closed-none}
-use Rattle.mo_select.specs.Growing.{CoversMost, IsGreedy, IsGrownTo}
+use Rattle.mo_select.specs.steps.Growing.{CoversMost, IsGreedy, IsGrownTo}
 use Rattle.mo_select.proofs.Prefixes.{covers-prefix}
 
 -- where f is not 0, g is not 0 either

@@ -8,7 +8,7 @@ use Rattle.mo_incidence.specs.Dummies.{is_dummy, states_below, states_to}
 use Rattle.mo_blocks.specs.Stages.{derivatives_below, derivatives_to}
 use Rattle.mo_select.specs.declared.selection.Stage.{Stage}
 use Rattle.mo_select.specs.Selection.{no_stage, dummies_from}
-use Rattle.mo_select.specs.Depths.{unknowns_in, AreDepths}
+use Rattle.mo_select.specs.steps.Depths.{unknowns_in, AreDepths}
 
 is-dummy-from : (xs : List (ℕ × ℕ × ℕ × ℕ)) (j k : ℕ) (x : ℕ × ℕ × ℕ × ℕ) → Contains xs x → x.0 ≡ j → x.1 ≡ k → is_dummy xs j k ≡ true
 is-dummy-from [] j k x (n, l, e) a b = absurd (omega arith)

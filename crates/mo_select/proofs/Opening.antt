@@ -10,13 +10,13 @@ use Rattle.mo_graph.specs.Lists.{ListsWhere}
 use Rattle.mo_incidence.specs.Signature.{Signature, equations, row_len, unknown_at, order_at}
 use Rattle.mo_incidence.specs.Assignment.{Mentions, Assigns, IsLargest, IsDeficient, IsDeficit}
 use Rattle.mo_incidence.specs.Offsets.{by_place, IsTight}
-use Rattle.mo_incidence.specs.Given.{given}
-use Rattle.mo_incidence.specs.Needing.{AreOwners}
+use Rattle.mo_incidence.specs.steps.Given.{given}
+use Rattle.mo_incidence.specs.steps.Needing.{AreOwners}
 use Rattle.mo_incidence.proofs.Building.{equations-given}
 use Rattle.mo_match.proofs.ListLemmas.{contains-at, at-contains}
 use Rattle.mo_select.specs.Selection.{IsTiedTo, IsLargestOf, IsLeftOut}
-use Rattle.mo_select.specs.Ties.{entries_in, HasEntry, IsOpen, IsOpenRow, AreOpenRows}
-use Rattle.mo_select.specs.Staging.{IsLeft}
+use Rattle.mo_select.specs.steps.Ties.{entries_in, HasEntry, IsOpen, IsOpenRow, AreOpenRows}
+use Rattle.mo_select.specs.steps.Staging.{IsLeft}
 use Rattle.mo_select.proofs.Rows.{length-entries, entry-kept, entry-new}
 
 -- ---- one row

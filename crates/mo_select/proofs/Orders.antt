@@ -6,7 +6,7 @@ use Rattle.std.proofs.lemmas.List.{append-nil, append_assoc, take_at}
 use Rattle.std.proofs.lemmas.Bool.Decides.{eqb_tells}
 use Rattle.std.proofs.lemmas.Bool.{cases_lt}
 use Rattle.mo_select.specs.Selection.{numbers_to, of_level, below_level}
-use Rattle.mo_select.specs.Staging.{AreApart, StandsAt}
+use Rattle.mo_select.specs.steps.Staging.{AreApart, StandsAt}
 
 -- x stands in the list and has level n
 abbrev pub IsListed : (ℕ → ℕ) → ℕ → List ℕ → ℕ → Type 0

@@ -3,7 +3,7 @@ use Rattle.std.proofs.Common.{◌≡◌, ◌≢◌, ℕ, suc, ◌+◌, ◌-◌, 
 use Rattle.std.proofs.lemmas.List.{drop_more, append_assoc}
 use Rattle.std.proofs.lemmas.Bool.Decides.{eqb_tells}
 use Rattle.mo_select.specs.Selection.{chosen_of}
-use Rattle.mo_select.specs.Staging.{taken}
+use Rattle.mo_select.specs.steps.Staging.{taken}
 
 pub taken-low : (rank pairs : List ℕ) (m j : ℕ) → ((t : ℕ) → get_or pairs t 0 ≤ m) → taken rank pairs j ≤ m
 taken-low rank pairs m j low = elim (eqb_tells (get_or rank j 0) 0) [

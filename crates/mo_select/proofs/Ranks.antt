@@ -6,7 +6,7 @@ use Rattle.std.proofs.lemmas.Bool.Decides.{eqb_tells}
 use Rattle.mo_graph.proofs.Chains.{below-next}
 use Rattle.mo_incidence.specs.Signature.{Signature, unknown_at, order_at}
 use Rattle.mo_incidence.specs.Offsets.{by_place}
-use Rattle.mo_incidence.specs.Needing.{AreOwners}
+use Rattle.mo_incidence.specs.steps.Needing.{AreOwners}
 use Rattle.mo_select.specs.Selection.{of_level, below_level}
 
 pub order-next : (level : ℕ → ℕ) (js order order' : List ℕ) (w : ℕ) → order ≡ below_level level w js → order' ≡ order ++ of_level level w js → order' ≡ below_level level (w + 1) js

@@ -3,7 +3,7 @@ use Rattle.std.proofs.Common.{◌≡◌, ◌≢◌, ℕ, zero, suc, ◌<◌, inl
 use Rattle.std.proofs.Math.Seq.{get_or-append_seam}
 use Rattle.std.proofs.Math.ListN.{get_or-append}
 use Rattle.std.proofs.lemmas.Bool.{cases_lt}
-use Rattle.mo_select.specs.Ties.{entries_in, HasEntry}
+use Rattle.mo_select.specs.steps.Ties.{entries_in, HasEntry}
 
 entries-set : (xs : List (Vec (ℕ × ℕ) Global)) (b : ℕ) (v : Vec (ℕ × ℕ) Global) → entries_in (set xs b v) ≡ set (entries_in xs) b v.items
 entries-set [] b v = refl

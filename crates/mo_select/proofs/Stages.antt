@@ -15,7 +15,7 @@ use Rattle.mo_blocks.proofs.Dummying.{diff-only, diff-all, keep-next, stage-low,
 use Rattle.mo_match.proofs.ListLemmas.{contains-at, at-contains}
 use Rattle.mo_select.specs.declared.selection.Stage.{Stage}
 use Rattle.mo_select.specs.Selection.{numbers_to, levels, IsStage, no_stage, candidates_at, AreNested}
-use Rattle.mo_select.specs.Staging.{AreApart, StandsAt, AreUnknowns, CanAssign, AreMadeTo, AreWhole}
+use Rattle.mo_select.specs.steps.Staging.{AreApart, StandsAt, AreUnknowns, CanAssign, AreMadeTo, AreWhole}
 use Rattle.mo_select.proofs.Orders.{append-apart, numbers-length, numbers-at}
 use Rattle.mo_select.proofs.Staging.{next-unknowns, can-next, chosen-only, chosen-tight, stage-length}
 

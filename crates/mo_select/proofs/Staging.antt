@@ -9,10 +9,10 @@ use Rattle.mo_graph.proofs.Chains.{below-next}
 use Rattle.mo_incidence.specs.Signature.{Signature}
 use Rattle.mo_incidence.specs.Assignment.{Assigns}
 use Rattle.mo_incidence.specs.Offsets.{by_place, IsTight}
-use Rattle.mo_incidence.specs.Needing.{AreOwners}
+use Rattle.mo_incidence.specs.steps.Needing.{AreOwners}
 use Rattle.mo_select.specs.declared.selection.Stage.{Stage}
 use Rattle.mo_select.specs.Selection.{IsChoice, below_level, levels, chosen_of, IsStage}
-use Rattle.mo_select.specs.Staging.{taken, AreApart, StandsAt, AreUnknowns, CanAssign, IsGreedyChoice, IsLeft, AreEvidence, IsMade}
+use Rattle.mo_select.specs.steps.Staging.{taken, AreApart, StandsAt, AreUnknowns, CanAssign, IsGreedyChoice, IsLeft, AreEvidence, IsMade}
 use Rattle.mo_select.proofs.Holders.{holder, holder-is, holder-some, name_before, name-some}
 use Rattle.mo_select.proofs.Orders.{below-level-at, below-level-apart, below-level-all, below-level-take, below-level-length, apart-cons, apart-rest, stands-later}
 use Rattle.mo_select.proofs.Choosing.{by-preferred, by-level}

@@ -7,14 +7,14 @@ use Rattle.mo_graph.proofs.Chains.{below-next}
 use Rattle.mo_incidence.specs.Signature.{Signature, equations, row_len, unknown_at, order_at, IsSound}
 use Rattle.mo_incidence.specs.Assignment.{Mentions, Assigns}
 use Rattle.mo_incidence.specs.Offsets.{by_place, IsTight}
-use Rattle.mo_incidence.specs.Given.{given}
-use Rattle.mo_incidence.specs.Needing.{IsNeed, AreOwners}
+use Rattle.mo_incidence.specs.steps.Given.{given}
+use Rattle.mo_incidence.specs.steps.Needing.{IsNeed, AreOwners}
 use Rattle.mo_incidence.proofs.Building.{equations-given}
 use Rattle.mo_match.proofs.Deficit.{assigns-by}
 use Rattle.mo_select.specs.Selection.{CanHave}
-use Rattle.mo_select.specs.Ties.{entries_in, HasEntry, HasTies}
-use Rattle.mo_select.specs.Growing.{IsGreedy}
-use Rattle.mo_select.specs.Staging.{IsGreedyChoice}
+use Rattle.mo_select.specs.steps.Ties.{entries_in, HasEntry, HasTies}
+use Rattle.mo_select.specs.steps.Growing.{IsGreedy}
+use Rattle.mo_select.specs.steps.Staging.{IsGreedyChoice}
 use Rattle.mo_select.proofs.Rows.{length-entries, entry-kept, entry-new, entries-next}
 
 -- ---- an entry and the ranks

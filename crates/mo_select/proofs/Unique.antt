@@ -11,7 +11,7 @@ use Rattle.mo_incidence.specs.Dummies.{differentiated, is_dummy, states_below, s
 use Rattle.mo_select.specs.declared.selection.Stage.{Stage}
 use Rattle.mo_select.specs.declared.selection.Selection.{Selection}
 use Rattle.mo_select.specs.Selection.{below_level, levels, members, chosen_of, IsStage, no_stage, candidates_at, AreStages, dummies_from, IsSelection, SelectSame}
-use Rattle.mo_select.specs.Staging.{StandsAt}
+use Rattle.mo_select.specs.steps.Staging.{StandsAt}
 use Rattle.mo_select.proofs.Orders.{below-level-at, below-level-all, stands-later}
 
 -- ---- lists

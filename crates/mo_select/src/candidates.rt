@@ -3,7 +3,7 @@ ghost use Rattle.std.specs.Prelude.{◌≡◌, ◌≢◌, ℕ, ◌+◌, ◌-◌,
 ghost use Rattle.std.proofs.Common.{get_or, suc};
 ghost use Rattle.mo_incidence.specs.Offsets.{by_place, by_number};
 ghost use Rattle.mo_incidence.specs.Dummies.{differentiated};
-ghost use Rattle.mo_incidence.specs.Needing.{AreOwners};
+ghost use Rattle.mo_incidence.specs.steps.Needing.{AreOwners};
 ghost use Rattle.mo_blocks.specs.Stages.{kept};
 ghost use Rattle.mo_select.specs.Selection.{numbers_to, of_level, below_level, levels};
 

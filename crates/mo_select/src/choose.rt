@@ -8,7 +8,7 @@ ghost use Rattle.mo_incidence.specs.Offsets.{IsTight, by_place, by_number, sum_u
 ghost use Rattle.mo_incidence.specs.Dummies.{states_to};
 ghost use Rattle.mo_select.specs.Levels.{levels_of};
 ghost use Rattle.mo_select.specs.Selection.{levels, IsStage, AreStages, AreNested, dummies_from};
-ghost use Rattle.mo_select.specs.Staging.{AreUnknowns, CanAssign, AreWhole};
+ghost use Rattle.mo_select.specs.steps.Staging.{AreUnknowns, CanAssign, AreWhole};
 
 use crate::candidates::{forget_ranks, in_order, keep, note_ranks, numbers, places};
 use crate::levels::levels_of;

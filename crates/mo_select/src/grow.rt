@@ -4,7 +4,7 @@ ghost use Rattle.std.proofs.Common.{suc};
 ghost use Rattle.mo_incidence.specs.Signature.{equations, IsSound};
 ghost use Rattle.mo_incidence.specs.Offsets.{by_place};
 ghost use Rattle.mo_match.specs.Searching.{ClosedTo, Matches, HoldsTree};
-ghost use Rattle.mo_select.specs.Growing.{IsGreedy, IsGrownTo};
+ghost use Rattle.mo_select.specs.steps.Growing.{IsGreedy, IsGrownTo};
 
 use crate::search::search;
 use mo_incidence::{Counted, Incidence};

@@ -4,9 +4,9 @@ ghost use Rattle.std.proofs.Common.{get_or, suc};
 ghost use Rattle.mo_incidence.specs.Counting.{count_below};
 ghost use Rattle.mo_incidence.specs.Signature.{equations};
 ghost use Rattle.mo_incidence.specs.Offsets.{by_place, by_number};
-ghost use Rattle.mo_incidence.specs.Needing.{AreOwners};
+ghost use Rattle.mo_incidence.specs.steps.Needing.{AreOwners};
 ghost use Rattle.mo_select.specs.Selection.{below_level, chosen_of, levels};
-ghost use Rattle.mo_select.specs.Staging.{taken, IsGreedyChoice, IsLeft, AreEvidence, IsMade};
+ghost use Rattle.mo_select.specs.steps.Staging.{taken, IsGreedyChoice, IsLeft, AreEvidence, IsMade};
 
 use crate::grow::greedy;
 use crate::selection::Stage;

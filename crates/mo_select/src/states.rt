@@ -5,7 +5,7 @@ ghost use Rattle.mo_blocks.specs.Stages.{derivatives_below, derivatives_to};
 ghost use Rattle.mo_incidence.specs.Offsets.{by_number};
 ghost use Rattle.mo_incidence.specs.Dummies.{states_to};
 ghost use Rattle.mo_select.specs.Selection.{no_stage, AreNested, dummies_from};
-ghost use Rattle.mo_select.specs.Depths.{unknowns_in, IsNoted, AreDepths, HasDepths};
+ghost use Rattle.mo_select.specs.steps.Depths.{unknowns_in, IsNoted, AreDepths, HasDepths};
 
 use crate::selection::Stage;
 use mo_syntax::{List, NoMemory};

@@ -3,8 +3,8 @@ ghost use Rattle.std.specs.Prelude.{◌≡◌, ◌≢◌, ℕ, ◌+◌, ◌-◌,
 ghost use Rattle.std.proofs.Common.{get_or, suc};
 ghost use Rattle.mo_incidence.specs.Signature.{equations, row_len, unknown_at, order_at, IsSound};
 ghost use Rattle.mo_incidence.specs.Offsets.{by_place, by_number};
-ghost use Rattle.mo_incidence.specs.Needing.{IsNeed, AreOwners};
-ghost use Rattle.mo_select.specs.Ties.{entries_in, HasTies, IsOpen, IsOpenRow, AreOpenRows};
+ghost use Rattle.mo_incidence.specs.steps.Needing.{IsNeed, AreOwners};
+ghost use Rattle.mo_select.specs.steps.Ties.{entries_in, HasTies, IsOpen, IsOpenRow, AreOpenRows};
 
 use mo_incidence::Incidence;
 use mo_syntax::NoMemory;

@@ -13,7 +13,7 @@ use Rattle.mo_symdiff.specs.declared.weights.Measure.TheVariants.{Nodes, Names}
 use Rattle.mo_symdiff.specs.Carried.{carried}
 use Rattle.mo_symdiff.specs.Derivative.{derived}
 use Rattle.mo_symdiff.specs.Reduced.{bytes_at, carried_equation, derived_equation, nodes_at}
-use Rattle.mo_symdiff.specs.Room.{IsShort}
+use Rattle.mo_symdiff.specs.steps.Room.{IsShort}
 use Rattle.mo_symdiff.specs.Weights.{capped, weigh, weigh_node}
 use Rattle.mo_symdiff.proofs.SigmaGather.{Related, folds_related}
 

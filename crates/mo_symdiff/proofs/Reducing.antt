@@ -10,7 +10,7 @@ use Rattle.mo_flat.specs.declared.model.FlatEquation.{FlatEquation}
 use Rattle.mo_flat.specs.declared.model.FlatModel.{FlatModel}
 use Rattle.mo_flat.specs.Text.{equation_line}
 use Rattle.mo_symdiff.specs.Reduced.{bytes_at, bytes_of, carried_equation, derivatives, derived_equation, differentiates_given, first_given, nodes_at, nodes_of, IsWithin, reduced_lines, reduced_text}
-use Rattle.mo_symdiff.specs.Room.{IsPaid, IsShort}
+use Rattle.mo_symdiff.specs.steps.Room.{IsPaid, IsShort}
 
 -- one more line of an equation
 pub line_turn : (vars : List FlatVar) (count k : ℕ) (made made2 all : List FlatEquation) (line next : FlatEquation) → k < count →

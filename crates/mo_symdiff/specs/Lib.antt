@@ -4,7 +4,7 @@ pub mod Dual
 pub mod Orders
 pub mod Reduced
 pub mod Refusal
-pub mod Room
 pub mod Sigma
 pub mod Still
 pub mod Weights
+pub mod steps

@@ -4,7 +4,7 @@ ghost use Rattle.mo_symdiff.specs.Carried.{carried};
 ghost use Rattle.mo_symdiff.specs.Derivative.{derived};
 ghost use Rattle.mo_symdiff.specs.Weights.{weigh};
 ghost use Rattle.mo_symdiff.specs.Reduced.{IsWithin, bytes_at, bytes_of, carried_equation, derivatives, derived_equation, differentiates_given, first_given, nodes_at, nodes_of, reduced_lines, reduced_text, too_large};
-ghost use Rattle.mo_symdiff.specs.Room.{IsPaid, IsShort};
+ghost use Rattle.mo_symdiff.specs.steps.Room.{IsPaid, IsShort};
 ghost use Rattle.mo_symdiff.specs.Refusal.{of_given};
 ghost use Rattle.mo_syntax.specs.Outcome.{IfBroken};
 

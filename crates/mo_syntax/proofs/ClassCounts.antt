@@ -25,7 +25,7 @@ use Rattle.mo_syntax.specs.declared.class.ModsOf.{ModsOf}
 use Rattle.mo_syntax.specs.declared.class.What.TheVariants.{Class, Component}
 use Rattle.mo_syntax.specs.Classes.{Outline, each, outline_of_give, outline_of_item, outline_of_what}
 use Rattle.mo_syntax.specs.ClassTable.{class_count, in_file}
-use Rattle.mo_syntax.specs.Parts.{marked, outline_of_class, classes_in_body, classes_in_class, classes_in_give, classes_in_item, classes_in_what, classes_in_element, classes_in_extending, classes_in_limit, classes_in_file}
+use Rattle.mo_syntax.specs.steps.Parts.{marked, outline_of_class, classes_in_body, classes_in_class, classes_in_give, classes_in_item, classes_in_what, classes_in_element, classes_in_extending, classes_in_limit, classes_in_file}
 use Rattle.mo_syntax.proofs.Outlines.{at_Long, at_Short, at_Enumeration, at_Der, at_Modify, at_Redeclare, at_Replaceable, at_Import, at_Extends, at_Member, at_Equations, at_Algorithm, at_Class, at_Component, at_Element}
 
 -- a list has the sum of what its elements have

@@ -28,7 +28,7 @@ use Rattle.mo_syntax.specs.declared.class.What.{What}
 use Rattle.mo_syntax.specs.declared.class.What.TheVariants.{Class, Component}
 use Rattle.mo_syntax.specs.Classes.{Home, Under, Apart, ClassRow, Outline, both, each, outline_of_body, outline_of_give, outline_of_item, outline_of_what, outline_of_element}
 use Rattle.mo_syntax.specs.ClassTable.{path_eq, otherwise, first_row, with_outline, in_file, names_of}
-use Rattle.mo_syntax.specs.Parts.{marked, outline_of_class, outline_of_mods, outline_of_extending, outline_of_limit, classes_in_extending, classes_in_body, classes_in_item}
+use Rattle.mo_syntax.specs.steps.Parts.{marked, outline_of_class, outline_of_mods, outline_of_extending, outline_of_limit, classes_in_extending, classes_in_body, classes_in_item}
 use Rattle.mo_syntax.specs.Rows.{IsPassed}
 use Rattle.mo_syntax.proofs.ClassCounts.{of_Long}
 use Rattle.mo_syntax.proofs.Outlines.{at_Long, at_Short, at_Enumeration, at_Der, at_Import, at_Extends, at_Member, at_Equations, at_Algorithm, at_Class, at_Component, at_Element}

@@ -24,7 +24,7 @@ use Rattle.mo_syntax.specs.declared.class.ModsOf.{ModsOf}
 use Rattle.mo_syntax.specs.declared.class.What.{What, What-F, para-roll-What}
 use Rattle.mo_syntax.specs.declared.class.What.TheVariants.{Class, Component, rolls-Class, rolls-Component}
 use Rattle.mo_syntax.specs.Classes.{Outline, nothing, both, each, apart, in_body, in_give, in_item, in_what, in_element, outline_of_body, outline_of_give, outline_of_item, outline_of_what, outline_of_element}
-use Rattle.mo_syntax.specs.Parts.{outline_of_mods, outline_of_extending, outline_of_limit, outline_of_class, declares, outline_of_component, marked}
+use Rattle.mo_syntax.specs.steps.Parts.{outline_of_mods, outline_of_extending, outline_of_limit, outline_of_class, declares, outline_of_component, marked}
 
 pub each-map : {A B : Type 0} (f : B → Outline) (g : A → B) (xs : List A) → each f (map g xs) ≡ each (λ x. f (g x)) xs
 each-map f g [] = refl

@@ -6,7 +6,7 @@ ghost use Rattle.std.specs.Bool.{OnTrue, OnFalse};
 ghost use Rattle.std.specs.Option.{option_map};
 ghost use Rattle.mo_syntax.specs.Classes.{Under, Apart, each, outline_of_body, outline_of_item, outline_of_element};
 ghost use Rattle.mo_syntax.specs.ClassTable.{class_count as classes_in_files, class_of_path, first_row, names_of, in_file as outline_of_file};
-ghost use Rattle.mo_syntax.specs.Parts.{outline_of_class, classes_in_class, classes_in_file, classes_in_body, classes_in_item, classes_in_element};
+ghost use Rattle.mo_syntax.specs.steps.Parts.{outline_of_class, classes_in_class, classes_in_file, classes_in_body, classes_in_item, classes_in_element};
 ghost use Rattle.mo_syntax.specs.Rows.{row_of, IsPassed};
 
 use crate::class::{Body, ClassDef, ClassTree, Element, FileTree, Item, What};

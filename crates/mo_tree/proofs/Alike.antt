@@ -10,7 +10,7 @@ use Rattle.mo_syntax.specs.declared.class.FileTree.{FileTree}
 use Rattle.mo_syntax.specs.declared.place.Place.{Place}
 use Rattle.mo_syntax.specs.Classes.{Home, Under, Inside, Apart, ClassRow, Component, Class, Declared, Declaration, Outline, Outlined, apart, both, in_class, inside}
 use Rattle.mo_syntax.specs.ClassTable.{class_of_path, declarations, first_row, is_repeated, otherwise, path_eq, path_of, same_home}
-use Rattle.mo_syntax.specs.Parts.{declares}
+use Rattle.mo_syntax.specs.steps.Parts.{declares}
 use Rattle.mo_syntax.proofs.Searching.{first_row-append, path_eq-same, paths_same, untrue}
 use Rattle.mo_tree.proofs.Everywhere.{Closed}
 use Rattle.mo_tree.proofs.Numbering.{Stands, from_six, one_class}

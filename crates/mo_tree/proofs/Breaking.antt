@@ -11,9 +11,9 @@ use Rattle.mo_syntax.specs.declared.rules.TheConstants.{DECLARED_TWICE, WITHIN_N
 use Rattle.mo_syntax.specs.declared.text.Path.{Path}
 use Rattle.mo_syntax.specs.Classes.{Under, Inside, Apart, ClassRow, Declaration, each}
 use Rattle.mo_syntax.specs.ClassTable.{same_home, Asked, Within, Names, declarations, declared_in, asked_from, class_of_path, first_broken, broken_tree, is_long, is_repeated, names_of, otherwise, in_file}
-use Rattle.mo_tree.specs.Homes.{declared_under, number_of_within}
+use Rattle.mo_tree.specs.steps.Homes.{declared_under, number_of_within}
 use Rattle.mo_tree.specs.Keys.{key_in, name_of}
-use Rattle.mo_tree.specs.Repeats.{has_key, with_key, with_keys, repeated, within_broken, names_in, files_broken}
+use Rattle.mo_tree.specs.steps.Repeats.{has_key, with_key, with_keys, repeated, within_broken, names_in, files_broken}
 use Rattle.mo_tree.proofs.Alike.{Alike, AllBeside, Fresh, IsHome, alike, fresh_push, number_of_class, number_of_path, of_path, same_number}
 use Rattle.mo_tree.proofs.Everywhere.{in_classes}
 use Rattle.mo_tree.proofs.Repeating.{is_same, keys_of, keys_push, repeated_alike}

@@ -20,7 +20,7 @@ use Rattle.mo_syntax.specs.declared.class.What.TheVariants.{rolls-Class, rolls-C
 use Rattle.mo_syntax.specs.declared.place.Place.{Place}
 use Rattle.mo_syntax.specs.Classes.{Outline, Outlined, nothing, both, each, apart, in_class, outline_of_body, outline_of_give, outline_of_item, outline_of_what, outline_of_element}
 use Rattle.mo_syntax.specs.ClassTable.{with_outline}
-use Rattle.mo_syntax.specs.Parts.{marked, declares, outline_of_class, outline_of_mods}
+use Rattle.mo_syntax.specs.steps.Parts.{marked, declares, outline_of_class, outline_of_mods}
 use Rattle.mo_syntax.proofs.Outlines.{rolled, at_Long, at_Short, at_Enumeration, at_Der, at_Modify, at_Redeclare, at_Replaceable, at_Import, at_Extends, at_Member, at_Equations, at_Algorithm, at_Class, at_Component}
 
 -- it holds of what declares nothing, and of what is made of parts of which it holds

@@ -12,7 +12,7 @@ use Rattle.mo_syntax.specs.declared.class.Item.{Item}
 use Rattle.mo_syntax.specs.declared.class.ModsOf.{ModsOf}
 use Rattle.mo_syntax.specs.declared.class.What.TheVariants.{Component}
 use Rattle.mo_syntax.specs.Classes.{Home, Apart, Outline, nothing, both, each, outline_of_body, outline_of_give, outline_of_item, outline_of_what, outline_of_element}
-use Rattle.mo_syntax.specs.Parts.{outline_of_mods, outline_of_extending, outline_of_limit, marked}
+use Rattle.mo_syntax.specs.steps.Parts.{outline_of_mods, outline_of_extending, outline_of_limit, marked}
 use Rattle.mo_syntax.proofs.Outlines.{at_Long, at_Component, at_Element}
 use Rattle.mo_tree.specs.declared.names.Name.{Name}
 use Rattle.mo_tree.specs.Keys.{key_in, name_of, Lists}

@@ -10,7 +10,7 @@ use Rattle.std.proofs.lemmas.List.Folds.{list_any-append}
 use Rattle.mo_syntax.specs.Classes.{Home, Under, Inside, Apart, Declaration}
 use Rattle.mo_syntax.specs.ClassTable.{same_home}
 use Rattle.mo_tree.specs.Keys.{key_in}
-use Rattle.mo_tree.specs.Repeats.{has_key, with_key}
+use Rattle.mo_tree.specs.steps.Repeats.{has_key, with_key}
 
 -- ---- tests that say the same
 

@@ -5,12 +5,12 @@ use Rattle.std.proofs.Math.Path.{fun_ext}
 use Rattle.mo_syntax.specs.declared.class.FileTree.{FileTree}
 use Rattle.mo_syntax.specs.Classes.{Inside, each}
 use Rattle.mo_syntax.specs.ClassTable.{in_file, otherwise}
-use Rattle.mo_syntax.specs.Parts.{outline_of_class}
+use Rattle.mo_syntax.specs.steps.Parts.{outline_of_class}
 use Rattle.mo_syntax.specs.declared.rules.TheConstants.{DECLARED_TWICE}
 use Rattle.mo_tree.specs.declared.names.Name.{Name}
-use Rattle.mo_tree.specs.Homes.{number_of_within}
+use Rattle.mo_tree.specs.steps.Homes.{number_of_within}
 use Rattle.mo_tree.specs.Keys.{Lists}
-use Rattle.mo_tree.specs.Repeats.{has_key, with_key, with_keys, repeated, within_broken, names_in, files_broken}
+use Rattle.mo_tree.specs.steps.Repeats.{has_key, with_key, with_keys, repeated, within_broken, names_in, files_broken}
 
 -- a name whose key is new
 pub name_fits : (keys after : List ℕ → Bool) (name : Name) (xs rest : List Name) → xs ≡ name ∷ rest → has_key keys name.key ≡ false → ((key : List ℕ) → after key ≡ with_key keys name.key key) →

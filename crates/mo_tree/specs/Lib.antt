@@ -1,3 +1,2 @@
-pub mod Homes
 pub mod Keys
-pub mod Repeats
+pub mod steps

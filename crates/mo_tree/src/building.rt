@@ -5,9 +5,9 @@ ghost use Rattle.mo_syntax.specs.ClassTable.{class_count, broken_tree};
 ghost use Rattle.mo_syntax.specs.Outcome.{IfBroken};
 ghost use Rattle.mo_syntax.specs.Rows.{row_of};
 ghost use Rattle.mo_syntax.specs.declared.rules.TheConstants.{DECLARED_TWICE};
-ghost use Rattle.mo_tree.specs.Homes.{long_number, number_of_within};
+ghost use Rattle.mo_tree.specs.steps.Homes.{long_number, number_of_within};
 ghost use Rattle.mo_tree.specs.Keys.{holds};
-ghost use Rattle.mo_tree.specs.Repeats.{has_key, with_key, with_keys, repeated, within_broken};
+ghost use Rattle.mo_tree.specs.steps.Repeats.{has_key, with_key, with_keys, repeated, within_broken};
 
 use crate::keys::Keys;
 use crate::names::Name;

@@ -4,7 +4,7 @@ use Rattle.std.proofs.lemmas.Bool.{cases_lt, cases_eq}
 use Rattle.std.proofs.lemmas.List.{get_or-set_same, get_or-set_other, length-set}
 use Rattle.mo_incidence.specs.Signature.{Signature, equations, row_len, unknown_at, order_at}
 use Rattle.mo_incidence.specs.Offsets.{IsTight, by_place, by_number}
-use Rattle.mo_incidence.specs.Needing.{AreOwners}
+use Rattle.mo_incidence.specs.steps.Needing.{AreOwners}
 use Rattle.mo_incidence.specs.Reasons.{IsCandidate, LeadsTo, IsWithin}
 use Rattle.mo_verify.specs.declared.verdict.Verdict.TheVariants.{NotLeast}
 use Rattle.mo_verify.specs.Printed.{Printed}

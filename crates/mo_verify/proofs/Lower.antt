@@ -5,7 +5,7 @@ use Rattle.std.specs.Prelude.{if◌then◌else◌}
 use Rattle.std.proofs.lemmas.Bool.{cases_lt, cases_eq}
 use Rattle.mo_incidence.specs.Signature.{Signature, equations, row_len, unknown_at, order_at, IsSound}
 use Rattle.mo_incidence.specs.Offsets.{Fits, IsTight, IsAdmissible, by_place, by_number}
-use Rattle.mo_incidence.specs.Needing.{AreOwners}
+use Rattle.mo_incidence.specs.steps.Needing.{AreOwners}
 use Rattle.mo_incidence.specs.Reasons.{IsCandidate}
 use Rattle.mo_certify.proofs.Leastness.{reached, assigns-permute}
 use Rattle.mo_verify.specs.declared.verdict.Verdict.{Verdict}

@@ -3,7 +3,7 @@ ghost use Rattle.std.specs.Prelude.{◌≡◌, ℕ, ◌+◌, ◌-◌, ◌<◌, t
 ghost use Rattle.std.proofs.Common.{suc, get_or};
 ghost use Rattle.mo_incidence.specs.Signature.{equations, row_len};
 ghost use Rattle.mo_incidence.specs.Offsets.{by_place, by_number};
-ghost use Rattle.mo_incidence.specs.Needing.{AreOwners};
+ghost use Rattle.mo_incidence.specs.steps.Needing.{AreOwners};
 ghost use Rattle.mo_incidence.specs.Reasons.{LeadsTo};
 ghost use Rattle.mo_verify.specs.Faults.{IsChained, AreChainedTo};
 ghost use Rattle.mo_verify.specs.Finding.{printed_in, HaveSizes, HasNoFault, IsUnchained, IsNotLeast, IsMarkedTo, Marks, unmarked};

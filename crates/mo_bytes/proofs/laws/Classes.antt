@@ -33,7 +33,7 @@ use Rattle.mo_places.specs.Stands.{ArgumentStands, Every, IfAny}
 use Rattle.mo_places.specs.InFiles.{Descends}
 use Rattle.mo_places.proofs.laws.Standing.{every_append, every_back, every_flat_map, every_front}
 use Rattle.mo_places.proofs.laws.TreeParts.{at_body, at_give, at_what, by_body, by_give, by_what, places_in_arguments, places_in_limit, rolled}
-use Rattle.mo_bytes.specs.Spelled.{Spelled, AreBranches, AreEquations, Ascends}
+use Rattle.mo_bytes.specs.steps.Spelled.{Spelled, AreBranches, AreEquations, Ascends}
 use Rattle.mo_bytes.proofs.laws.Placing.{anything, by_before, by_behind, by_between, by_either, by_either2, by_listed, by_made, by_nested, by_optional, by_placed, by_seq, by_symbol, by_token, by_unless, by_weaker}
 use Rattle.mo_bytes.proofs.laws.Expressions.{Spells, subs_or_nothing, value_stands}
 

@@ -26,7 +26,7 @@ use Rattle.mo_places.specs.Stands.{Every, IfAny}
 use Rattle.mo_places.specs.InFiles.{Descends}
 use Rattle.mo_places.proofs.laws.Standing.{every_append, every_flat_map}
 use Rattle.mo_places.proofs.laws.TreeParts.{at_item, by_item, places_in_arguments}
-use Rattle.mo_bytes.specs.Spelled.{AreEquations, AreNames, Ascends}
+use Rattle.mo_bytes.specs.steps.Spelled.{AreEquations, AreNames, Ascends}
 use Rattle.mo_bytes.proofs.laws.Placing.{anything, by_before, by_behind, by_between, by_either, by_either2, by_many, by_made, by_nested, by_optional, by_placed, by_separated, by_seq, by_symbol, by_token, by_under, by_weaker, each_of_some}
 use Rattle.mo_bytes.proofs.laws.Expressions.{subs_or_nothing, value_stands}
 use Rattle.mo_bytes.proofs.laws.Classes.{DeclaredIn, LimitStands, NamedBody, Tells, arguments_written, body_stands, by_commented, class_what, component_stands, constraint_spells, declaration_spells, element_stands, enumeration_spells, mods_stand, short_class_spells}

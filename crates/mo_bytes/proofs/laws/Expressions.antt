@@ -26,7 +26,7 @@ use Rattle.mo_places.specs.TreeWritten.{in_subs, in_value, places_of_parts}
 use Rattle.mo_places.specs.Pieces.{in_argument, in_arguments_of_call, in_callee, in_name, in_node, in_ranges}
 use Rattle.mo_places.specs.Stands.{Every, IfAny}
 use Rattle.mo_places.proofs.laws.Standing.{every_append, every_flat_map, every_map, every_weaker}
-use Rattle.mo_bytes.specs.Spelled.{Spelled, AreArguments, AreNamed, Ascends}
+use Rattle.mo_bytes.specs.steps.Spelled.{Spelled, AreArguments, AreNamed, Ascends}
 use Rattle.mo_bytes.proofs.laws.Placing.{Makes, SomeOf, anything, by_behind, by_between, by_either, by_either2, by_listed, by_made, by_many, by_nested, by_optional, by_placed, by_separated, by_seq, by_symbol, by_token, by_weaker}
 
 module _ (P : Written → Type 0) (ascends : Ascends P) where

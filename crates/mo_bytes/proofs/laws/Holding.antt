@@ -12,7 +12,7 @@ use Rattle.mo_places.specs.TreeWritten.{places_in_files}
 use Rattle.mo_places.specs.Pieces.{in_equation, in_expression}
 use Rattle.mo_places.specs.Stands.{Every}
 use Rattle.mo_places.specs.InFiles.{IsWritten, in_class, within, among, Descends}
-use Rattle.mo_bytes.specs.Spelled.{Ascends}
+use Rattle.mo_bytes.specs.steps.Spelled.{Ascends}
 use Rattle.mo_bytes.specs.Held.{itself, by_expression, by_equation, HoldsAll}
 
 every_contained : {A : Type 0} (xs ys : List A) → ((x : A) → Contains xs x → Contains ys x) → Every (Contains ys) xs

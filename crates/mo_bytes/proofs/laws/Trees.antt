@@ -9,7 +9,7 @@ use Rattle.mo_grammar.specs.Productions.{rule}
 use Rattle.mo_grammar.specs.Symbols.{Symbol, ValueOf, Expressions, Simples, Logicals, Conjunctions, Negations, Relations, Sums, Products, Powers, Primaries, CallArguments, Arguments, MoreArguments, OneArgument, Indices, References, Subscripts, TypeSpecs, Names, ClassMods, ModArguments, EquationItems, ForEquations, WhenEquations, ElseEquations, IfEquations, StatementItems, ImportNames, ElementItems, Compositions, Sections, SectionEquations, ClassDefinitions, Files}
 use Rattle.mo_places.specs.Written.{Written, At}
 use Rattle.mo_places.specs.InFiles.{Descends}
-use Rattle.mo_bytes.specs.Spelled.{Spelled, Ascends}
+use Rattle.mo_bytes.specs.steps.Spelled.{Spelled, Ascends}
 use Rattle.mo_bytes.proofs.laws.Placing.{StandsBy, TokensStand, spelled_stands}
 use Rattle.mo_bytes.proofs.laws.Expressions as of
 use Rattle.mo_bytes.proofs.laws.Classes as part

@@ -9,7 +9,7 @@ use Rattle.mo_eval.specs.Keeping.{IsKept}
 use Rattle.mo_eval.specs.References.{read_subscripts, selections}
 use Rattle.mo_eval.specs.Resolving.{made_choice, make_parts}
 use Rattle.mo_eval.specs.Seen.{AreThere, resolved_seen, virtuals_seen}
-use Rattle.mo_eval.specs.Sites.{elements_in, part_in, plain_in, variables_in}
+use Rattle.mo_eval.specs.steps.Sites.{elements_in, part_in, plain_in, variables_in}
 use Rattle.mo_values.specs.Told.{AreRead}
 use Rattle.mo_eval.specs.Values.{reading}
 use Rattle.mo_eval.specs.Virtuals.{make_each, known_at}

@@ -7,11 +7,11 @@ use Rattle.mo_names.proofs.Outcomes.{gives_same, exit_same, then_same_ok}
 use Rattle.mo_names.proofs.OwnElements.{counted_next, own_part, own_part_later}
 use Rattle.mo_names.proofs.Outwards.{imports_told, past_told}
 use Rattle.mo_names.proofs.Walking.{part_read, part_told}
-use Rattle.mo_names.specs.Bases.{first_of_parts, part_walked, parts_walked}
-use Rattle.mo_names.specs.Parts.{imports_of, parts_of}
+use Rattle.mo_names.specs.steps.Bases.{first_of_parts, part_walked, parts_walked}
+use Rattle.mo_names.specs.steps.Parts.{imports_of, parts_of}
 use Rattle.mo_names.specs.Past.{Goes_on}
 use Rattle.mo_names.specs.Sights.{asking_at, walk_seen, asks, found_in, met_seen, classed_seen}
-use Rattle.mo_names.specs.Steps.{before_dot, import_step, package_behind, package_step, package_at_top, also_found, found_by, found_by_all, imports_met, met_or, class_step, next_item, started}
+use Rattle.mo_names.specs.steps.Lookup.{before_dot, import_step, package_behind, package_step, package_at_top, also_found, found_by, found_by_all, imports_met, met_or, class_step, next_item, started}
 use Rattle.mo_scope.proofs.Numbered.{is_no_top}
 use Rattle.mo_scope.specs.Frames.{Frame, class_of, Scope}
 use Rattle.mo_scope.specs.Lookup.{and_also, contains, walked_class, Found, import_behind, through_star, Asking, found_element, Classed, class_behind, Walked, leaf_checked}

@@ -1,10 +1,10 @@
 -- What is left to be looked up, and how deep each function goes.
 use Rattle.mo_names.proofs.Circling.{depth}
 use Rattle.mo_names.proofs.OwnElements.{elements_before}
-use Rattle.mo_names.specs.Bases.{parts_walked}
-use Rattle.mo_names.specs.Parts.{imports_of, parts_of}
+use Rattle.mo_names.specs.steps.Bases.{parts_walked}
+use Rattle.mo_names.specs.steps.Parts.{imports_of, parts_of}
 use Rattle.mo_names.specs.Sights.{IsFound, asks, found_in, classed_seen, IsWalk, walk_seen}
-use Rattle.mo_names.specs.Steps.{package_behind, found_by_all}
+use Rattle.mo_names.specs.steps.Lookup.{package_behind, found_by_all}
 use Rattle.mo_scope.specs.Frames.{class_of}
 use Rattle.mo_scope.specs.Lookup.{import_behind, found_from, class_behind}
 use Rattle.mo_scope.specs.Rows.{row_at}

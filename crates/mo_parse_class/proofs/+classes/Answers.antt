@@ -12,7 +12,7 @@ use Rattle.mo_grammar.specs.Reading.{read}
 use Rattle.mo_grammar.specs.Language.{reads, reads_form}
 use Rattle.mo_grammar.specs.Answers.{with_rest}
 use Rattle.mo_class_heads.specs.Left.{limits}
-use Rattle.mo_parse_class.specs.Parts.{element_list, closing, limit}
+use Rattle.mo_parse_class.specs.steps.Parts.{element_list, closing, limit}
 use Rattle.mo_parse_class.proofs.ElementLists.{elements_turn, elements_stuck, gives_items}
 use Rattle.mo_parse_class.proofs.Members.{members_limited, members_kept}
 use Rattle.mo_parse_class.proofs.SectionLists.{public_is, protected_is}

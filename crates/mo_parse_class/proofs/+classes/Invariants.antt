@@ -4,7 +4,7 @@ use Rattle.mo_grammar.specs.Lexeme.{lexemes}
 use Rattle.mo_grammar.specs.Language.{reads, reads_form}
 use Rattle.mo_grammar.specs.Symbols.{Compositions, Sections}
 use Rattle.mo_class_heads.specs.Left.{limits}
-use Rattle.mo_parse_class.specs.Parts.{element_list, with_items}
+use Rattle.mo_parse_class.specs.steps.Parts.{element_list, with_items}
 use Rattle.mo_grammar.proofs.Loops.{with_front}
 use Rattle.mo_parse_class.proofs.+classes.Given as goal
 

@@ -24,7 +24,7 @@ use Rattle.mo_syntax.specs.declared.place.Place.{Place}
 use Rattle.mo_syntax.specs.declared.text.Path.{Path}
 use Rattle.mo_syntax.specs.Classes.{Home, Under, Inside, Apart, Declared, Component, Class, Declaration, Outline, nothing, both, each, apart, outline_of_body, outline_of_give, outline_of_item, outline_of_what, outline_of_element}
 use Rattle.mo_syntax.specs.ClassTable.{names_of, in_file, declarations}
-use Rattle.mo_syntax.specs.Parts.{marked, declares, outline_of_class, outline_of_mods}
+use Rattle.mo_syntax.specs.steps.Parts.{marked, declares, outline_of_class, outline_of_mods}
 use Rattle.mo_syntax.specs.SoundTree.{Naming, argument_by, body_by, give_by, item_by, what_by, element_by, is_sound_body, is_sound_give, is_sound_item, is_sound_what, is_sound_element, is_sound_class, is_sound_within, is_sound_file, is_sound_mods, is_sound_path, is_sound_import, is_sound_equation, is_sound_statement, is_sound_option, is_sound_reference, are_sound_options}
 use Rattle.mo_syntax.proofs.Outlines.{rolled, at_Long, at_Short, at_Enumeration, at_Der, at_Modify, at_Redeclare, at_Replaceable, at_Import, at_Extends, at_Member, at_Equations, at_Algorithm, at_Class, at_Component}
 use Rattle.mo_syntax.proofs.SoundParts.{body_is, give_is, item_is, what_is, element_is}

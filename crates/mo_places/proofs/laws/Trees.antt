@@ -22,7 +22,7 @@ use Rattle.mo_syntax.specs.declared.class.What.{What, What-F, roll-What, map-Wha
 use Rattle.mo_syntax.specs.declared.class.What.TheVariants.{rolls-Class, rolls-Component}
 use Rattle.mo_syntax.specs.Classes.{Home, Under, Inside, Apart, Declared, Component, Class, Declaration, Outline, Outlined, nothing, both, each, apart, in_class, outline_of_body, outline_of_give, outline_of_item, outline_of_what, outline_of_element}
 use Rattle.mo_syntax.specs.ClassTable.{with_outline, in_file, declarations}
-use Rattle.mo_syntax.specs.Parts.{marked, declares, outline_of_mods}
+use Rattle.mo_syntax.specs.steps.Parts.{marked, declares, outline_of_mods}
 use Rattle.mo_syntax.proofs.Outlines.{rolled, at_Long, at_Short, at_Enumeration, at_Der, at_Modify, at_Redeclare, at_Replaceable, at_Import, at_Extends, at_Member, at_Equations, at_Algorithm, at_Class, at_Component}
 use Rattle.mo_places.specs.TreeWritten.{Places, in_component, in_subs, in_value, places_of_parts, place_of_import, places_in_body, places_in_give, places_in_item, places_in_what, places_in_element, places_in_class, places_in_files}
 use Rattle.mo_places.specs.Stands.{Every}

@@ -3,7 +3,7 @@ use Rattle.mo_grammar.specs.Lexeme.{lexemes}
 use Rattle.mo_grammar.specs.Symbols.{ForEquations, WhenEquations, IfEquations, ElseEquations}
 use Rattle.mo_grammar.specs.Language.{limits_inside, reads, reads_form}
 use Rattle.mo_grammar.proofs.Loops.{with_front}
-use Rattle.mo_read_body.specs.EquationParts.{in_when, in_if, reads_when_tail, reads_if_tail}
+use Rattle.mo_read_body.specs.steps.EquationParts.{in_when, in_if, reads_when_tail, reads_if_tail}
 use Rattle.mo_read_body.proofs.Listing.{with_first, with_when, with_if}
 use Rattle.mo_read_body.proofs.+equation.Given as goal
 

@@ -7,7 +7,7 @@ use Rattle.mo_grammar.specs.Forms.{behind}
 use Rattle.mo_grammar.specs.Symbols.{ModArguments}
 use Rattle.mo_grammar.specs.Language.{limits_inside}
 use Rattle.mo_grammar.proofs.Loops.{turn}
-use Rattle.mo_read_body.specs.Parts.{literal}
+use Rattle.mo_read_body.specs.steps.Parts.{literal}
 use Rattle.mo_read_body.proofs.+modification.Goals as goal
 
 pub modifications::listed_arguments-each-preserved : goal.modifications::listed_arguments-each-preserved

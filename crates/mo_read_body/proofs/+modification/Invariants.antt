@@ -7,7 +7,7 @@ use Rattle.mo_grammar.specs.Symbols.{ModArguments}
 use Rattle.mo_grammar.specs.Classes.{literals}
 use Rattle.mo_grammar.specs.Language.{limits_inside, reads_form}
 use Rattle.mo_grammar.proofs.Loops.{with_front}
-use Rattle.mo_read_body.specs.Parts.{literal}
+use Rattle.mo_read_body.specs.steps.Parts.{literal}
 use Rattle.mo_read_body.proofs.+modification.Given as goal
 
 abbrev pub invariant-modifications::listed_arguments-each : goal.invariant-modifications::listed_arguments-each

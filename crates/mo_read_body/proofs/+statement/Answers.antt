@@ -3,7 +3,7 @@ use Rattle.std.proofs.Common.{refl, arith}
 use Rattle.mo_grammar.specs.Lexeme.{lexemes}
 use Rattle.mo_grammar.specs.Language.{limits_inside}
 use Rattle.mo_grammar.proofs.Loops.{turn}
-use Rattle.mo_read_body.specs.StatementParts.{statement_line, elseif_branch, elsewhen_branch}
+use Rattle.mo_read_body.specs.steps.StatementParts.{statement_line, elseif_branch, elsewhen_branch}
 use Rattle.mo_read_body.proofs.+statement.Goals as goal
 
 pub algorithms::statements-each-preserved : goal.algorithms::statements-each-preserved

@@ -3,7 +3,7 @@ use Rattle.mo_grammar.specs.Lexeme.{lexemes}
 use Rattle.mo_grammar.specs.Grammar.{many}
 use Rattle.mo_grammar.specs.Language.{limits_inside, reads_form}
 use Rattle.mo_grammar.proofs.Loops.{with_front}
-use Rattle.mo_read_body.specs.StatementParts.{statement_line, elseif_branch, elsewhen_branch}
+use Rattle.mo_read_body.specs.steps.StatementParts.{statement_line, elseif_branch, elsewhen_branch}
 use Rattle.mo_read_body.proofs.+statement.Given as goal
 
 abbrev pub invariant-algorithms::statements-each : goal.invariant-algorithms::statements-each

@@ -22,7 +22,7 @@ use Rattle.mo_syntax.specs.declared.class.What.{What, What-F, roll-What, map-Wha
 use Rattle.mo_syntax.specs.declared.class.What.TheVariants.{rolls-Class, rolls-Component}
 use Rattle.mo_syntax.specs.Classes.{Home, Under, Apart, Declaration, Outline, Outlined, nothing, both, each, apart, in_class, inside, outline_of_body, outline_of_give, outline_of_item, outline_of_what, outline_of_element}
 use Rattle.mo_syntax.specs.ClassTable.{with_outline, in_file, class_count, first_number}
-use Rattle.mo_syntax.specs.Parts.{marked, declares, outline_of_mods}
+use Rattle.mo_syntax.specs.steps.Parts.{marked, declares, outline_of_mods}
 use Rattle.mo_syntax.proofs.Outlines.{rolled, at_Long, at_Short, at_Enumeration, at_Der, at_Modify, at_Redeclare, at_Replaceable, at_Import, at_Extends, at_Member, at_Equations, at_Algorithm, at_Class, at_Component}
 use Rattle.mo_scope.specs.Rows.{ClassEntry, entry_in, entries_of, table_of, row_of, number_among}
 

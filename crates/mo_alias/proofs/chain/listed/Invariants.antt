@@ -1,5 +1,5 @@
 use Rattle.std.proofs.Common.{length}
-use Rattle.mo_alias.specs.Listing.{IsListedTo}
+use Rattle.mo_alias.specs.steps.Listing.{IsListedTo}
 use Rattle.mo_alias.proofs.chain.listed.Given as goal
 
 abbrev pub invariant-loop-number : goal.invariant-loop-number

@@ -1,5 +1,5 @@
 use Rattle.std.proofs.Common.{length}
-use Rattle.mo_alias.specs.Stretches.{AreLeft, AreOpen, weight}
+use Rattle.mo_alias.specs.steps.Stretches.{AreLeft, AreOpen, weight}
 use Rattle.mo_alias.proofs.chain.put_chain.Given as goal
 
 abbrev pub invariant-loop-stretch : goal.invariant-loop-stretch

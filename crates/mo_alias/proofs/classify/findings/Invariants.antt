@@ -1,6 +1,6 @@
 use Rattle.std.proofs.Common.{◌≡◌, ◌+◌, length}
-use Rattle.mo_alias.specs.Findings.{AreFindings}
-use Rattle.mo_alias.specs.Forests.{IsForest}
+use Rattle.mo_alias.specs.steps.Findings.{AreFindings}
+use Rattle.mo_alias.specs.steps.Forests.{IsForest}
 use Rattle.mo_alias.proofs.classify.findings.Given as goal
 
 abbrev pub invariant-loop-at : goal.invariant-loop-at

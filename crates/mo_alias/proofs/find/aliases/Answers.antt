@@ -1,9 +1,9 @@
 use Rattle.std.proofs.Common.{◌+◌, ◌∙◌, ℕ, Bool, List, Option, sym, ap, length, subst}
 use Rattle.mo_alias.specs.declared.alias.Alias.{Alias}
 use Rattle.mo_alias.specs.Aliases.{AreDropped, AreLoops}
-use Rattle.mo_alias.specs.Findings.{AreFindings}
-use Rattle.mo_alias.specs.Forests.{AreWithin, IsForest}
-use Rattle.mo_alias.specs.Leasts.{AreGoneBelow, AreRoots}
+use Rattle.mo_alias.specs.steps.Findings.{AreFindings}
+use Rattle.mo_alias.specs.steps.Forests.{AreWithin, IsForest}
+use Rattle.mo_alias.specs.steps.Leasts.{AreGoneBelow, AreRoots}
 use Rattle.mo_alias.specs.Recognized.{aliases_in}
 use Rattle.mo_alias.proofs.Bounding.{aliases-within}
 use Rattle.mo_alias.proofs.Firsts.{gone-all}

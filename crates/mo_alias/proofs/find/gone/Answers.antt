@@ -1,5 +1,5 @@
 use Rattle.std.proofs.Common.{◌≡◌, ◌+◌, ◌∙◌, arith, subst}
-use Rattle.mo_alias.specs.Leasts.{AreGoneBelow}
+use Rattle.mo_alias.specs.steps.Leasts.{AreGoneBelow}
 use Rattle.mo_alias.proofs.Firsts.{firsts-none, gone-none}
 use Rattle.mo_alias.proofs.find.gone.Goals as goal
 

@@ -1,5 +1,5 @@
 use Rattle.std.proofs.Common.{◌≡◌, ℕ, ◌+◌, Bool, length}
-use Rattle.mo_alias.specs.Leasts.{AreRoots, AreSplit}
+use Rattle.mo_alias.specs.steps.Leasts.{AreRoots, AreSplit}
 use Rattle.mo_alias.proofs.find.gone.Given as goal
 
 abbrev pub invariant-loop-at : goal.invariant-loop-at

@@ -1,6 +1,6 @@
 use Rattle.std.proofs.Common.{◌≡◌, ◌∙◌, sym, arith, length, subst, get_or, None}
 use Rattle.mo_alias.specs.declared.classify.Finding.{Finding}
-use Rattle.mo_alias.specs.Findings.{AreLoopsTo}
+use Rattle.mo_alias.specs.steps.Findings.{AreLoopsTo}
 use Rattle.mo_alias.proofs.Finding.{contradicting-none, contradicting-some, loops-all, loops-none, loops-put, loops-skip}
 use Rattle.mo_alias.proofs.find.loops.Goals as goal
 use Rattle.mo_alias.proofs.find.loops.Goals.{in-Some+in_ok-loop_at+in_ok-push, in_default}

@@ -1,5 +1,5 @@
 use Rattle.std.proofs.Common.{◌≡◌, ◌<◌, ℕ, length, get_or}
-use Rattle.mo_alias.specs.Placing.{flag_at}
+use Rattle.mo_alias.specs.steps.Placing.{flag_at}
 use Rattle.mo_alias.specs.Without.{kept_to}
 use Rattle.mo_alias.proofs.places.new_numbers.Given as goal
 

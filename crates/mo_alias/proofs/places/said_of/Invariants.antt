@@ -1,5 +1,5 @@
 use Rattle.std.proofs.Common.{◌≡◌, ◌≤◌, ◌+◌, ℕ, None, length, get_or, drop}
-use Rattle.mo_alias.specs.Placing.{gone_from}
+use Rattle.mo_alias.specs.steps.Placing.{gone_from}
 use Rattle.mo_alias.specs.Without.{gone_at}
 use Rattle.mo_alias.proofs.places.said_of.Given as goal
 

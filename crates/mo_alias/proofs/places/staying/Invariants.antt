@@ -1,5 +1,5 @@
 use Rattle.std.proofs.Common.{◌≡◌, ◌<◌, ℕ, length, get_or}
-use Rattle.mo_alias.specs.Placing.{flag_at, stays_by}
+use Rattle.mo_alias.specs.steps.Placing.{flag_at, stays_by}
 use Rattle.mo_alias.proofs.places.staying.Given as goal
 
 abbrev pub invariant-loop-at : goal.invariant-loop-at

@@ -1,5 +1,5 @@
 use Rattle.std.proofs.Common.{◌≡◌, ◌<◌, ℕ, None, length, get_or}
-use Rattle.mo_alias.specs.Placing.{place_at, place_by}
+use Rattle.mo_alias.specs.steps.Placing.{place_at, place_by}
 use Rattle.mo_alias.proofs.places.table.Given as goal
 
 abbrev pub invariant-loop-at : goal.invariant-loop-at

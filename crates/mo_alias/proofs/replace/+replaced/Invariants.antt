@@ -1,7 +1,7 @@
 use Rattle.std.proofs.Common.{◌≡◌, ◌+◌, ◌*◌, max, map, take}
 use Rattle.mo_flat.specs.declared.expr.FlatExpr.{size-FlatExpr}
 use Rattle.mo_alias.specs.Without.{replaced}
-use Rattle.mo_alias.specs.Placing.{place_at}
+use Rattle.mo_alias.specs.steps.Placing.{place_at}
 use Rattle.mo_alias.proofs.replace.+replaced.Given as goal
 
 abbrev pub invariant-replaced_branches-loop-branch : goal.invariant-replaced_branches-loop-branch

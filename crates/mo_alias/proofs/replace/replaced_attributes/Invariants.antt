@@ -1,5 +1,5 @@
 use Rattle.std.proofs.Common.{◌≡◌, map, take}
-use Rattle.mo_alias.specs.Placing.{place_at}
+use Rattle.mo_alias.specs.steps.Placing.{place_at}
 use Rattle.mo_alias.specs.Without.{replaced_attribute}
 use Rattle.mo_alias.proofs.replace.replaced_attributes.Given as goal
 

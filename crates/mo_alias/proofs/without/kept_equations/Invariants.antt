@@ -1,6 +1,6 @@
 use Rattle.std.proofs.Common.{◌≡◌, ◌+◌, ◌++◌, drop, map}
 use Rattle.std.specs.Prelude.{not}
-use Rattle.mo_alias.specs.Placing.{flag_at, place_at}
+use Rattle.mo_alias.specs.steps.Placing.{flag_at, place_at}
 use Rattle.mo_alias.specs.Without.{kept_from, replaced_equation}
 use Rattle.mo_alias.proofs.without.kept_equations.Given as goal
 

@@ -1,7 +1,7 @@
 use Rattle.std.proofs.Common.{◌≡◌, ◌≤◌, ◌+◌, ℕ, length, take}
 use Rattle.std.specs.Prelude.{nat_eq}
 use Rattle.std.specs.List.{list_any}
-use Rattle.mo_alias.specs.Placing.{flag_at}
+use Rattle.mo_alias.specs.steps.Placing.{flag_at}
 use Rattle.mo_alias.proofs.without.left_out.Given as goal
 
 abbrev pub invariant-loop-number : goal.invariant-loop-number

@@ -1,5 +1,5 @@
 use Rattle.std.proofs.Common.{◌≡◌, ◌+◌, ◌++◌, drop, map}
-use Rattle.mo_alias.specs.Placing.{flag_at, place_at}
+use Rattle.mo_alias.specs.steps.Placing.{flag_at, place_at}
 use Rattle.mo_alias.specs.Without.{kept_from, replaced_variable}
 use Rattle.mo_alias.proofs.without.variables.Given as goal
 

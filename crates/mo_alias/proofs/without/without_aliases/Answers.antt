@@ -1,7 +1,7 @@
 use Rattle.std.proofs.Common.{◌≡◌, subst}
 use Rattle.std.specs.Prelude.{IfOk}
 use Rattle.mo_flat.specs.declared.model.FlatModel.{FlatModel}
-use Rattle.mo_alias.specs.Placing.{place_at}
+use Rattle.mo_alias.specs.steps.Placing.{place_at}
 use Rattle.mo_alias.proofs.Keeping.{without-made}
 use Rattle.mo_alias.proofs.without.without_aliases.Goals as goal
 

@@ -2,7 +2,7 @@
 use Rattle.mo_eval.proofs.Growing.{gives_as, same_elements}
 use Rattle.mo_eval.specs.Contexts.{place_of as place_of_of_contexts, truth_of, whole_of}
 use Rattle.mo_eval.specs.Seen.{resolved_seen}
-use Rattle.mo_eval.specs.Sites.{elements_in, part_in}
+use Rattle.mo_eval.specs.steps.Sites.{elements_in, part_in}
 use Rattle.mo_eval.specs.steps.Asking.{end_in}
 use Rattle.mo_scope.specs.Worlds.{frames_of}
 use Rattle.std.proofs.Common.{ap}

@@ -9,7 +9,7 @@ use Rattle.mo_values.specs.Asked.{argument_of_size, operand}
 use Rattle.mo_values.specs.Made.{derivative_of, takes}
 use Rattle.mo_eval.specs.Calls.{function_named, made_function, make_arguments, read_size, read_sizes}
 use Rattle.mo_eval.specs.Seen.{virtuals_seen}
-use Rattle.mo_eval.specs.Sites.{ask_of, elements_in, part_in, scope_of}
+use Rattle.mo_eval.specs.steps.Sites.{ask_of, elements_in, part_in, scope_of}
 use Rattle.mo_eval.specs.steps.Calling.{filled_with, number_of_size}
 use Rattle.mo_eval.specs.steps.Parts.{as_part, as_reference, made_arguments}
 use Rattle.mo_flat.specs.declared.array.ArrayNode.TheVariants.{Size, Sized}

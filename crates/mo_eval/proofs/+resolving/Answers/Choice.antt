@@ -7,7 +7,7 @@ use Rattle.mo_values.specs.Made.{range_of}
 use Rattle.mo_eval.specs.Resolving.{made_choice, make_part, read_end, read_step}
 use Rattle.mo_values.specs.Scalars.{Known}
 use Rattle.mo_eval.specs.Seen.{virtuals_seen}
-use Rattle.mo_eval.specs.Sites.{elements_in, part_in}
+use Rattle.mo_eval.specs.steps.Sites.{elements_in, part_in}
 use Rattle.mo_eval.specs.declared.choice.BranchMade.TheVariants.{Dropped}
 use Rattle.mo_eval.specs.steps.Choosing.{made_branch, truth_in}
 use Rattle.mo_eval.specs.steps.Parts.{as_branch, made_two}

@@ -13,7 +13,7 @@ use Rattle.mo_eval.specs.References.{there}
 use Rattle.mo_eval.specs.Keeping.{IsBinding, bound_seen}
 use Rattle.mo_values.specs.Scalars.{Known, if_it_has}
 use Rattle.mo_eval.specs.Seen.{AreThere, element_seen, resolved_seen}
-use Rattle.mo_eval.specs.Sites.{elements_in, variables_in}
+use Rattle.mo_eval.specs.steps.Sites.{elements_in, variables_in}
 use Rattle.mo_eval.specs.Values.{reading, there_of}
 use Rattle.mo_eval.specs.steps.Asking.{bound_in, unbound}
 use Rattle.mo_names.specs.Children.{child_seen}

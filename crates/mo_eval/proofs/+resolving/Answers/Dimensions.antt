@@ -9,7 +9,7 @@ use Rattle.mo_eval.proofs.Naming.{goes_halt}
 use Rattle.mo_eval.specs.Components.{binding_dims, each_dim, place_of}
 use Rattle.mo_eval.specs.Contexts.{whole_of}
 use Rattle.mo_eval.specs.Seen.{resolved_seen}
-use Rattle.mo_eval.specs.Sites.{elements_in}
+use Rattle.mo_eval.specs.steps.Sites.{elements_in}
 use Rattle.mo_eval.specs.Values.{component_dims, reading}
 use Rattle.mo_eval.specs.declared.dimensions.Measured.{Measured}
 use Rattle.mo_eval.specs.steps.Measuring.{bound_in as bound_in_of_measuring, dims_more, dims_of_binding}

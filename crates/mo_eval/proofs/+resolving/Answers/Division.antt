@@ -9,7 +9,7 @@ use Rattle.mo_values.specs.Made.{known_number}
 use Rattle.mo_eval.specs.Calls.{known_of_operands, make_arguments, value_of_division}
 use Rattle.mo_values.specs.Scalars.{Known, division}
 use Rattle.mo_eval.specs.Seen.{virtuals_seen}
-use Rattle.mo_eval.specs.Sites.{elements_in, variables_in}
+use Rattle.mo_eval.specs.steps.Sites.{elements_in, variables_in}
 use Rattle.mo_eval.specs.Virtuals.{numbered}
 use Rattle.mo_values.specs.Walk.{known_by}
 use Rattle.mo_scope.specs.Worlds.{frames_of}

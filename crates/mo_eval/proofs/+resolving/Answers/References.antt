@@ -7,7 +7,7 @@ use Rattle.mo_eval.proofs.Reference.{made_halts}
 use Rattle.mo_eval.proofs.Referring.{all_made, elements_earlier, kind_earlier, made_as_put, named_components, named_member, named_other, no_choice, no_elements, no_kind, none_left_of}
 use Rattle.mo_eval.proofs.Removing.{if_told, told_broken}
 use Rattle.mo_eval.specs.Seen.{virtuals_seen}
-use Rattle.mo_eval.specs.Sites.{part_in}
+use Rattle.mo_eval.specs.steps.Sites.{part_in}
 use Rattle.mo_eval.specs.steps.Absence.{Breaks}
 use Rattle.mo_eval.specs.steps.Selecting.{elements_seen, selections_seen}
 use Rattle.mo_names.proofs.Later.{grows_trans, is_member_later}

@@ -6,7 +6,7 @@ use Rattle.mo_syntax.specs.Outcome.{and_then}
 use Rattle.mo_values.specs.Made.{power_of}
 use Rattle.mo_eval.specs.Resolving.{made_range, make_part, make_parts}
 use Rattle.mo_eval.specs.Seen.{virtuals_seen}
-use Rattle.mo_eval.specs.Sites.{ask_of, elements_in, part_in, scope_of}
+use Rattle.mo_eval.specs.steps.Sites.{ask_of, elements_in, part_in, scope_of}
 use Rattle.mo_eval.specs.Virtuals.{Virtual, make, make_each, make_from}
 use Rattle.mo_eval.specs.steps.Parts.{as_factor, as_term, made_factor, made_term}
 use Rattle.mo_flat.specs.declared.array.ArrayExpr.{roll-ArrayExpr}

@@ -7,7 +7,7 @@ use Rattle.mo_eval.proofs.Referring.{named_member}
 use Rattle.mo_eval.proofs.Removing.{dims_for, is_there_for, removed_for, there_stops}
 use Rattle.mo_eval.proofs.Subscripting.{behind_nothing}
 use Rattle.mo_eval.specs.References.{dims_at, read_subscripts, there}
-use Rattle.mo_eval.specs.Sites.{elements_in, part_in}
+use Rattle.mo_eval.specs.steps.Sites.{elements_in, part_in}
 use Rattle.mo_eval.specs.Values.{component_dims, reading}
 use Rattle.mo_eval.specs.declared.absent.Absent.TheVariants.{Stopped}
 use Rattle.mo_eval.specs.steps.Absence.{stop_for}

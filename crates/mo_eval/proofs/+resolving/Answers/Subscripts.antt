@@ -10,7 +10,7 @@ use Rattle.mo_eval.specs.Contexts.{alone, place_of as place_of_of_contexts}
 use Rattle.mo_eval.specs.References.{numbers_of}
 use Rattle.mo_values.specs.Scalars.{Known}
 use Rattle.mo_eval.specs.Seen.{resolved_seen, virtual_seen, virtuals_seen}
-use Rattle.mo_eval.specs.Sites.{elements_in, part_in}
+use Rattle.mo_eval.specs.steps.Sites.{elements_in, part_in}
 use Rattle.mo_values.specs.Told.{AreRead}
 use Rattle.mo_eval.specs.Virtuals.{known_at, known_of_virtuals, numbered}
 use Rattle.mo_values.specs.Walk.{known_by}

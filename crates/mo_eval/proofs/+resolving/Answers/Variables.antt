@@ -6,7 +6,7 @@ use Rattle.mo_eval.proofs.Prefixes.{fewer_unread, length-known, told_at}
 use Rattle.mo_values.proofs.Splitting.{got}
 use Rattle.mo_eval.proofs.Telling.{if_ok, step_halts}
 use Rattle.mo_eval.specs.Seen.{element_seen, virtual_seen, virtuals_seen}
-use Rattle.mo_eval.specs.Sites.{elements_in, variables_in}
+use Rattle.mo_eval.specs.steps.Sites.{elements_in, variables_in}
 use Rattle.mo_values.specs.Told.{AreRead, IsUnread}
 use Rattle.mo_eval.specs.Virtuals.{known_of_virtuals}
 use Rattle.mo_values.specs.Walk.{known_by}

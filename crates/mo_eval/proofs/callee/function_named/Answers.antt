@@ -2,7 +2,7 @@ use Rattle.mo_scope.specs.Worlds.{frames_of, table_in}
 use Rattle.mo_scope.specs.Names.{found_reference}
 use Rattle.mo_names.specs.declared.found.Found.{Found as FoundAt}
 use Rattle.mo_names.specs.Sights.{found_in}
-use Rattle.mo_eval.specs.Sites.{part_in, scope_of}
+use Rattle.mo_eval.specs.steps.Sites.{part_in, scope_of}
 use Rattle.mo_eval.specs.Calls.{function_found}
 use Rattle.mo_eval.specs.steps.Parts.{as_reference}
 use Rattle.mo_eval.proofs.Calling.{bare_reference, seen_halts}

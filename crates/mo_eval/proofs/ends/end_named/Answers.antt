@@ -3,7 +3,7 @@ use Rattle.mo_scope.specs.Outcome.{Gives as GivesSeen}
 use Rattle.mo_scope.specs.Worlds.{frames_of, table_in}
 use Rattle.mo_eval.specs.Ends.{ended_in, ended_seen}
 use Rattle.mo_eval.specs.References.{Components}
-use Rattle.mo_eval.specs.Sites.{part_in}
+use Rattle.mo_eval.specs.steps.Sites.{part_in}
 use Rattle.mo_eval.specs.steps.Naming.{names_seen, referred_seen}
 use Rattle.mo_eval.proofs.Earlier.{seen_as}
 use Rattle.mo_eval.proofs.Ending.{components_end, names_end, no_names}

@@ -2,7 +2,7 @@ use Rattle.std.proofs.Common.{◌<◌, arith, length}
 use Rattle.std.proofs.lemmas.Grind.{common_steps}
 use Rattle.mo_scope.specs.Worlds.{frames_of, table_in}
 use Rattle.mo_eval.specs.Ends.{ended_seen}
-use Rattle.mo_eval.specs.Sites.{part_in}
+use Rattle.mo_eval.specs.steps.Sites.{part_in}
 use Rattle.mo_eval.specs.steps.Ending.{selection_of}
 use Rattle.mo_eval.specs.steps.Naming.{names_seen}
 use Rattle.mo_eval.proofs.Earlier.{seen_as}

@@ -5,7 +5,7 @@ use Rattle.mo_names.specs.Children.{first_found}
 use Rattle.mo_names.specs.Sights.{found_in}
 use Rattle.mo_names.proofs.Later.{grows_refl, grows_trans, is_found_later, table_later}
 use Rattle.mo_eval.specs.References.{counted_subscripts, named_from}
-use Rattle.mo_eval.specs.Sites.{part_in, scope_of}
+use Rattle.mo_eval.specs.steps.Sites.{part_in, scope_of}
 use Rattle.mo_eval.specs.steps.Naming.{named_on, names_seen, referred_seen}
 use Rattle.mo_eval.specs.steps.Parts.{as_identifier}
 use Rattle.mo_eval.proofs.Earlier.{seen_as, seen_halts_seen}

@@ -1,7 +1,7 @@
 use Rattle.std.proofs.Common.{◌≡◌, drop, map}
 use Rattle.mo_scope.specs.Worlds.{Grows, frames_of, table_in}
 use Rattle.mo_names.specs.Sights.{IsFound, found_in}
-use Rattle.mo_eval.specs.Sites.{part_in}
+use Rattle.mo_eval.specs.steps.Sites.{part_in}
 use Rattle.mo_eval.specs.steps.Naming.{AreNames, named_on, names_seen}
 use Rattle.mo_eval.specs.steps.Parts.{as_identifier}
 use Rattle.mo_eval.proofs.names.named_parts.Given as goal

@@ -3,7 +3,7 @@ use Rattle.mo_scope.specs.Worlds.{frames_of}
 use Rattle.mo_typing.specs.Kinds.{kind_of}
 use Rattle.mo_values.specs.Scalars.{Known, if_it_has, value_with}
 use Rattle.mo_eval.specs.Seen.{resolved_seen}
-use Rattle.mo_eval.specs.Sites.{elements_in}
+use Rattle.mo_eval.specs.steps.Sites.{elements_in}
 use Rattle.mo_eval.specs.Values.{most_references}
 use Rattle.mo_eval.specs.Virtuals.{known_at}
 use Rattle.mo_eval.proofs.Growing.{gives_halt}

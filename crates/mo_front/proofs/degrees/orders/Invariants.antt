@@ -1,5 +1,5 @@
 use Rattle.std.proofs.Common.{◌≡◌, ℕ, ◌<◌, length, get_or}
-use Rattle.mo_front.specs.Structure.{order_by_offsets}
+use Rattle.mo_front.specs.steps.Structure.{order_by_offsets}
 use Rattle.mo_front.proofs.degrees.orders.Given as goal
 
 abbrev pub invariant-loop-i : goal.invariant-loop-i

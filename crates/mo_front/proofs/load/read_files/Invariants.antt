@@ -1,6 +1,6 @@
 use Rattle.std.proofs.Common.{◌≡◌, ◌+◌, ◌≤◌, length, drop, IfSome, All}
 use Rattle.mo_front.specs.Limits.{file_limit}
-use Rattle.mo_front.specs.Loading.{MoreFiles}
+use Rattle.mo_front.specs.steps.Loading.{MoreFiles}
 use Rattle.mo_front.proofs.load.read_files.Given as goal
 
 abbrev pub invariant-loop-name : goal.invariant-loop-name

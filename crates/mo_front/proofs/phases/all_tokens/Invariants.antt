@@ -2,7 +2,7 @@ use Rattle.std.proofs.Common.{◌≡◌, ◌+◌, map, drop, All}
 use Rattle.mo_syntax.specs.Lexeme.{lexemes}
 use Rattle.mo_lexer.specs.Lexing.{Lexes, IsRefused}
 use Rattle.mo_parse_class.specs.WholeFiles.{EndsAtEnd}
-use Rattle.mo_front.specs.Loading.{More}
+use Rattle.mo_front.specs.steps.Loading.{More}
 use Rattle.mo_front.proofs.phases.all_tokens.Given as goal
 
 abbrev pub invariant-loop-text : goal.invariant-loop-text

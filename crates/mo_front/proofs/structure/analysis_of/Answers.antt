@@ -1,7 +1,7 @@
 use Rattle.std.proofs.Common.{◌≡◌, subst}
 use Rattle.mo_incidence.specs.Model.{incidence_of}
 use Rattle.mo_incidence.specs.Signature.{Signature}
-use Rattle.mo_front.specs.Structure.{IsFoundOf}
+use Rattle.mo_front.specs.steps.Structure.{IsFoundOf}
 use Rattle.mo_front.proofs.structure.analysis_of.Goals as goal
 
 pub returns-in_ok-found-in-Ok-clause-found : goal.returns-in_ok-found-in-Ok-clause-found

@@ -1,5 +1,5 @@
 use Rattle.std.proofs.Common.{refl}
-use Rattle.mo_front.specs.Structure.{as_many}
+use Rattle.mo_front.specs.steps.Structure.{as_many}
 use Rattle.mo_front.proofs.structure.with_equal.Goals as goal
 
 pub returns : goal.returns

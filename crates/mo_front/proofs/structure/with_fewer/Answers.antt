@@ -1,5 +1,5 @@
 use Rattle.std.proofs.Common.{refl}
-use Rattle.mo_front.specs.Structure.{fewer_equations}
+use Rattle.mo_front.specs.steps.Structure.{fewer_equations}
 use Rattle.mo_front.proofs.structure.with_fewer.Goals as goal
 
 pub returns : goal.returns

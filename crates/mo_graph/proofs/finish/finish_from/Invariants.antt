@@ -1,5 +1,5 @@
 use Rattle.std.proofs.Common.{◌≢◌, ◌+◌, ◌*◌, ℕ, length, slice_index}
-use Rattle.mo_graph.specs.Finishing.{Walks, total, unmarked}
+use Rattle.mo_graph.specs.steps.Finishing.{Walks, total, unmarked}
 use Rattle.mo_graph.proofs.finish.finish_from.Given as goal
 
 abbrev pub invariant-loop-top : goal.invariant-loop-top

@@ -1,5 +1,5 @@
 use Rattle.std.proofs.Common.{◌≢◌, ◌<◌, ℕ, length, slice_index}
-use Rattle.mo_graph.specs.Finishing.{Walks}
+use Rattle.mo_graph.specs.steps.Finishing.{Walks}
 use Rattle.mo_graph.proofs.finish.finish_order.Given as goal
 
 abbrev pub invariant-loop-root : goal.invariant-loop-root

@@ -1,5 +1,5 @@
 use Rattle.std.proofs.Common.{◌<◌, ◌-◌, length}
-use Rattle.mo_graph.specs.Gathering.{IsGathered}
+use Rattle.mo_graph.specs.steps.Gathering.{IsGathered}
 use Rattle.mo_graph.proofs.gather.gather_from.Given as goal
 
 abbrev pub invariant-loop-head : goal.invariant-loop-head

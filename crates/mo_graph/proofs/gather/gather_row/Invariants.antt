@@ -1,5 +1,5 @@
 use Rattle.std.proofs.Common.{◌≡◌, ◌≢◌, ◌<◌, ◌≤◌, ◌-◌, ℕ, length, slice_index}
-use Rattle.mo_graph.specs.Gathering.{IsGathered}
+use Rattle.mo_graph.specs.steps.Gathering.{IsGathered}
 use Rattle.mo_graph.proofs.gather.gather_row.Given as goal
 
 abbrev pub invariant-loop-cursor : goal.invariant-loop-cursor

@@ -1,6 +1,6 @@
 use Rattle.std.proofs.Common.{◌≡◌, ◌<◌, ℕ, [], suc, length, get_or, slice_index}
 use Rattle.mo_graph.specs.Order.{numbers_in}
-use Rattle.mo_graph.specs.Listing.{members}
+use Rattle.mo_graph.specs.steps.Listing.{members}
 use Rattle.mo_graph.proofs.list.list_blocks.Given as goal
 
 abbrev pub invariant-loop-i : goal.invariant-loop-i

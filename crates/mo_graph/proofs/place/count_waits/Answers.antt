@@ -1,5 +1,5 @@
 use Rattle.std.proofs.Common.{◌<◌, ◌≤◌, length, slice_index_or, arith, sym, ◌∙◌, rules}
-use Rattle.mo_graph.specs.Placing.{leads_away}
+use Rattle.mo_graph.specs.steps.Placing.{leads_away}
 use Rattle.mo_graph.proofs.Places.{waiting-none, count-pass, count-one, count-small}
 use Rattle.mo_graph.proofs.place.count_waits.Goals as goal
 

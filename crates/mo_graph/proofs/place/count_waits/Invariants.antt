@@ -1,5 +1,5 @@
 use Rattle.std.proofs.Common.{◌≡◌, ◌<◌, ℕ, length, slice_index}
-use Rattle.mo_graph.specs.Placing.{waiting, leads_away}
+use Rattle.mo_graph.specs.steps.Placing.{waiting, leads_away}
 use Rattle.mo_graph.proofs.place.count_waits.Given as goal
 
 abbrev pub invariant-loop-x : goal.invariant-loop-x

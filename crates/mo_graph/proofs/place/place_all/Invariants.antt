@@ -1,5 +1,5 @@
 use Rattle.std.proofs.Common.{◌-◌, length}
-use Rattle.mo_graph.specs.Placing.{Places, Has}
+use Rattle.mo_graph.specs.steps.Placing.{Places, Has}
 use Rattle.mo_graph.proofs.place.place_all.Given as goal
 
 abbrev pub invariant-loop-vertex : goal.invariant-loop-vertex

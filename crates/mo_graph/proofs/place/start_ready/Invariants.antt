@@ -1,4 +1,4 @@
-use Rattle.mo_graph.specs.Placing.{HasReady}
+use Rattle.mo_graph.specs.steps.Placing.{HasReady}
 use Rattle.mo_graph.proofs.place.start_ready.Given as goal
 
 abbrev pub invariant-loop-v : goal.invariant-loop-v

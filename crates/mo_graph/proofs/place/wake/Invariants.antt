@@ -1,5 +1,5 @@
 use Rattle.std.proofs.Common.{◌≡◌, ◌<◌, ◌≤◌, ◌-◌, length, slice_index}
-use Rattle.mo_graph.specs.Placing.{Places, Has}
+use Rattle.mo_graph.specs.steps.Placing.{Places, Has}
 use Rattle.mo_graph.proofs.place.wake.Given as goal
 
 abbrev pub invariant-loop-cursor : goal.invariant-loop-cursor

@@ -1,6 +1,6 @@
 use Rattle.std.proofs.Common.{◌≡◌, ◌++◌, take}
 use Rattle.std.specs.Prelude.{flat_map}
-use Rattle.mo_incidence.specs.Gathered.{found}
+use Rattle.mo_incidence.specs.steps.Gathered.{found}
 use Rattle.mo_incidence.proofs.gather.+gather.Given as goal
 
 abbrev pub invariant-gather_list-loop-part : goal.invariant-gather_list-loop-part

@@ -1,5 +1,5 @@
 use Rattle.std.proofs.Common.{◌≡◌, ◌++◌, drop}
-use Rattle.mo_incidence.specs.Gathered.{last_of_each}
+use Rattle.mo_incidence.specs.steps.Gathered.{last_of_each}
 use Rattle.mo_incidence.proofs.gather.highest.Given as goal
 
 abbrev pub invariant-loop-i : goal.invariant-loop-i

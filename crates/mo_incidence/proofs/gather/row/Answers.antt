@@ -2,7 +2,7 @@ use Rattle.std.proofs.Common.{◌≡◌, ℕ, List, ◌++◌, ap, ◌∙◌, sub
 use Rattle.std.proofs.lemmas.Result.{IfOk-weaker}
 use Rattle.mo_flat.specs.declared.model.FlatVar.{FlatVar}
 use Rattle.mo_flat.specs.Sound.{IsSoundEquation}
-use Rattle.mo_incidence.specs.Gathered.{found, last_of_each, unknown_places}
+use Rattle.mo_incidence.specs.steps.Gathered.{found, last_of_each, unknown_places}
 use Rattle.mo_incidence.specs.Model.{row_of}
 use Rattle.mo_incidence.proofs.RowLaw.{entries_of, row_law}
 use Rattle.mo_incidence.proofs.gather.row.Goals as goal

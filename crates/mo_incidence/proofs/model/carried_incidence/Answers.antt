@@ -3,7 +3,7 @@ use Rattle.mo_syntax.specs.declared.place.Stop.{Stop}
 use Rattle.mo_flat.specs.declared.model.FlatVar.{FlatVar}
 use Rattle.mo_flat.specs.Roles.{unknown_numbers}
 use Rattle.mo_incidence.specs.declared.builder.RowsError.{RowsError}
-use Rattle.mo_incidence.specs.Given.{given}
+use Rattle.mo_incidence.specs.steps.Given.{given}
 use Rattle.mo_incidence.specs.Model.{incidence_of}
 use Rattle.mo_incidence.specs.Signature.{IsSound}
 use Rattle.mo_incidence.proofs.Refusals.{accepted, refused_size}

@@ -4,7 +4,7 @@ use Rattle.std.proofs.lemmas.List.{map-append, take_all, take_more}
 use Rattle.mo_flat.specs.declared.model.FlatEquation.{FlatEquation}
 use Rattle.mo_flat.specs.Roles.{unknown_numbers}
 use Rattle.mo_flat.specs.Sound.{IsSoundEquation}
-use Rattle.mo_incidence.specs.Given.{given}
+use Rattle.mo_incidence.specs.steps.Given.{given}
 use Rattle.mo_incidence.specs.Model.{incidence_of, row_of}
 use Rattle.mo_incidence.proofs.model.rows.Goals as goal
 

@@ -1,6 +1,6 @@
 use Rattle.std.proofs.Common.{◌≡◌, ◌≤◌, ◌+◌, ◌++◌, drop, length}
 use Rattle.mo_flat.specs.Roles.{unknowns_from, unknown_numbers}
-use Rattle.mo_incidence.specs.Gathered.{places_from, unknown_places}
+use Rattle.mo_incidence.specs.steps.Gathered.{places_from, unknown_places}
 use Rattle.mo_incidence.proofs.model.unknown_places.Given as goal
 
 abbrev pub invariant-loop-v : goal.invariant-loop-v

@@ -1,5 +1,5 @@
 use Rattle.mo_incidence.specs.Offsets.{by_place, by_number}
-use Rattle.mo_incidence.specs.Needing.{HasNeeds}
+use Rattle.mo_incidence.specs.steps.Needing.{HasNeeds}
 use Rattle.mo_incidence.proofs.needing.list_row.Given as goal
 
 abbrev pub invariant-loop-k : goal.invariant-loop-k

@@ -1,5 +1,5 @@
 use Rattle.mo_incidence.specs.Offsets.{by_place}
-use Rattle.mo_incidence.specs.Needing.{AreOwners}
+use Rattle.mo_incidence.specs.steps.Needing.{AreOwners}
 use Rattle.mo_incidence.proofs.needing.note_owners.Given as goal
 
 abbrev pub invariant-loop-i : goal.invariant-loop-i

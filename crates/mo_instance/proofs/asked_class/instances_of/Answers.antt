@@ -6,7 +6,7 @@ use Rattle.mo_scope.specs.Rows.{Table}
 use Rattle.mo_scope.specs.Trees.{instances_in}
 use Rattle.mo_scope.specs.Worlds.{frame_at, table_in}
 use Rattle.mo_names.proofs.Later.{table_later}
-use Rattle.mo_instance.specs.Steps.{instances_made}
+use Rattle.mo_instance.specs.steps.Instances.{instances_made}
 use Rattle.mo_instance.proofs.Rooting.{made_of_row, none_made, row_found}
 use Rattle.mo_instance.proofs.asked_class.instances_of.Goals as goal
 

@@ -1,6 +1,6 @@
 -- What is said of those that are left is said of all.
 use Rattle.std.proofs.Common.{◌≡◌, drop}
-use Rattle.mo_instance.specs.Steps.{is_attribute_of}
+use Rattle.mo_instance.specs.steps.Instances.{is_attribute_of}
 use Rattle.mo_instance.proofs.attributes.is_among.Given as goal
 
 abbrev pub invariant-loop-attribute : goal.invariant-loop-attribute

@@ -10,7 +10,7 @@ use Rattle.mo_scope.specs.Worlds.{frame_at, frames_of, table_in}
 use Rattle.mo_names.specs.Sights.{IsBase, frames_through}
 use Rattle.mo_names.proofs.Circling.{left_from, then_ok}
 use Rattle.mo_names.proofs.Later.{grows_trans}
-use Rattle.mo_instance.specs.CheckSteps.{through_passed}
+use Rattle.mo_instance.specs.steps.Checks.{through_passed}
 use Rattle.mo_instance.proofs.Checking.{through_before}
 use Rattle.mo_instance.proofs.Lists.{broken_on, every_at}
 use Rattle.mo_instance.proofs.checks.bases_passed.Goals as goal

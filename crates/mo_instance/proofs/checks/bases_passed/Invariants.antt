@@ -3,7 +3,7 @@ use Rattle.std.proofs.Common.{◌≡◌, drop, map}
 use Rattle.mo_scope.specs.Redeclarations.{each_checked}
 use Rattle.mo_scope.specs.Worlds.{Grows, frame_at, frames_of, table_in}
 use Rattle.mo_names.specs.Sights.{frames_through}
-use Rattle.mo_instance.specs.CheckSteps.{through_passed}
+use Rattle.mo_instance.specs.steps.Checks.{through_passed}
 use Rattle.mo_instance.proofs.checks.bases_passed.Given as goal
 
 abbrev pub invariant-loop-through : goal.invariant-loop-through

@@ -10,7 +10,7 @@ use Rattle.mo_scope.specs.Worlds.{frame_at, frames_of, table_in}
 use Rattle.mo_names.specs.Sights.{frames_through, walk_seen}
 use Rattle.mo_names.proofs.Later.{is_walk_later, walk_later}
 use Rattle.mo_instance.specs.Checks.{frame_passed}
-use Rattle.mo_instance.specs.CheckSteps.{through_passed}
+use Rattle.mo_instance.specs.steps.Checks.{through_passed}
 use Rattle.mo_instance.proofs.Checking.{bases_before, bases_checked, bases_left, whole_passed}
 use Rattle.mo_instance.proofs.Lists.{broken_on, gives_as}
 use Rattle.mo_instance.proofs.checks.frame_checked.Goals as goal

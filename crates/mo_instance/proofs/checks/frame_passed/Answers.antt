@@ -9,9 +9,9 @@ use Rattle.mo_scope.specs.Redeclarations.{Checked}
 use Rattle.mo_scope.specs.Worlds.{frame_at, frames_of, table_in}
 use Rattle.mo_names.specs.Sights.{walk_seen}
 use Rattle.mo_names.proofs.Later.{is_walk_later, walk_later}
-use Rattle.mo_instance.specs.CheckSteps.{frame_passes}
-use Rattle.mo_instance.specs.FirstSteps.{is_replaced_by}
-use Rattle.mo_instance.specs.Walks.{walk_or_none}
+use Rattle.mo_instance.specs.steps.Checks.{frame_passes}
+use Rattle.mo_instance.specs.steps.FirstPass.{is_replaced_by}
+use Rattle.mo_instance.specs.steps.Walks.{walk_or_none}
 use Rattle.mo_instance.proofs.Checking.{passes_are, passes_before}
 use Rattle.mo_instance.proofs.Lists.{broken_on}
 use Rattle.mo_syntax.specs.Outcome.{and_then}

@@ -10,8 +10,8 @@ use Rattle.mo_eval.proofs.Grown.{kept_still}
 use Rattle.mo_eval.specs.Values.{most_references, component_dims}
 use Rattle.mo_instance.specs.declared.prefixes.Around.{Around as AroundAt}
 use Rattle.mo_instance.specs.Elements.{Around, around_parts}
-use Rattle.mo_instance.specs.Sights.{around_seen}
-use Rattle.mo_instance.specs.Steps.{component_class}
+use Rattle.mo_instance.specs.steps.Sights.{around_seen}
+use Rattle.mo_instance.specs.steps.Instances.{component_class}
 use Rattle.mo_instance.proofs.Asking.{answered, asked_is, behind_class, breaks_value, class_asked, dims_before}
 use Rattle.mo_instance.proofs.Lists.{broken_on}
 use Rattle.mo_instance.proofs.component.component_asked.Goals as goal

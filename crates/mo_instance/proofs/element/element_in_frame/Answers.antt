@@ -9,8 +9,8 @@ use Rattle.mo_scope.specs.Trees.{instance_in}
 use Rattle.mo_scope.specs.Worlds.{frame_at, frames_of, table_in}
 use Rattle.mo_names.specs.declared.walk.Walk.{Walk as WalkAt}
 use Rattle.mo_names.specs.Sights.{member_of, walk_seen}
-use Rattle.mo_instance.specs.Sights.{around_seen}
-use Rattle.mo_instance.specs.Steps.{instance_at}
+use Rattle.mo_instance.specs.steps.Sights.{around_seen}
+use Rattle.mo_instance.specs.steps.Instances.{instance_at}
 use Rattle.mo_instance.proofs.Framing.{in_frame, instance_before, with_walk}
 use Rattle.mo_instance.proofs.Lists.{broken_on, gives_as}
 use Rattle.mo_syntax.specs.Outcome.{Outcome, and_then}

@@ -9,8 +9,8 @@ use Rattle.mo_scope.specs.Trees.{instance_in}
 use Rattle.mo_scope.specs.Worlds.{frame_at, frames_of, table_in}
 use Rattle.mo_names.specs.declared.walk.Walk.{Walk as WalkAt}
 use Rattle.mo_names.specs.Sights.{member_of, walk_seen}
-use Rattle.mo_instance.specs.Sights.{around_seen}
-use Rattle.mo_instance.specs.Steps.{element_frame}
+use Rattle.mo_instance.specs.steps.Sights.{around_seen}
+use Rattle.mo_instance.specs.steps.Instances.{element_frame}
 use Rattle.mo_instance.proofs.Framing.{frame_made, in_its_frame, with_room}
 use Rattle.mo_instance.proofs.Lists.{broken_on}
 use Rattle.mo_instance.proofs.element.element_made.Goals as goal

@@ -6,10 +6,10 @@ use Rattle.mo_scope.specs.Sights.{source_seen}
 use Rattle.mo_scope.specs.Worlds.{frame_at, frames_of, source_in, table_in}
 use Rattle.mo_names.specs.Sights.{walk_seen}
 use Rattle.mo_mods.specs.PathSights.{claim_seen}
-use Rattle.mo_instance.specs.FirstSteps.{against, broken_speech, is_replaced_by}
+use Rattle.mo_instance.specs.steps.FirstPass.{against, broken_speech, is_replaced_by}
 use Rattle.mo_instance.specs.Passes.{first_of_all}
-use Rattle.mo_instance.specs.Speeches.{speech_seen}
-use Rattle.mo_instance.specs.Walks.{walk_or_none}
+use Rattle.mo_instance.specs.steps.Speeches.{speech_seen}
+use Rattle.mo_instance.specs.steps.Walks.{walk_or_none}
 use Rattle.mo_instance.proofs.Passing.{source_is}
 use Rattle.mo_instance.proofs.first_pass.broken_source.Goals as goal
 

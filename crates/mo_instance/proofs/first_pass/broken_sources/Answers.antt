@@ -7,9 +7,9 @@ use Rattle.mo_scope.specs.Sights.{source_seen}
 use Rattle.mo_scope.specs.Worlds.{frame_at, frames_of, sources_in, table_in}
 use Rattle.mo_names.specs.Sights.{walk_seen}
 use Rattle.mo_names.proofs.Circling.{left_from}
-use Rattle.mo_instance.specs.FirstSteps.{broken_source, is_replaced_by}
+use Rattle.mo_instance.specs.steps.FirstPass.{broken_source, is_replaced_by}
 use Rattle.mo_instance.specs.Passes.{first_of_all}
-use Rattle.mo_instance.specs.Walks.{walk_or_none}
+use Rattle.mo_instance.specs.steps.Walks.{walk_or_none}
 use Rattle.mo_instance.proofs.Lists.{later_none, later_some}
 use Rattle.mo_instance.proofs.first_pass.broken_sources.Goals as goal
 

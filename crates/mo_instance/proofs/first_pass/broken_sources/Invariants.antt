@@ -4,9 +4,9 @@ use Rattle.std.specs.Prelude.{option_copied}
 use Rattle.mo_scope.specs.Sights.{source_seen}
 use Rattle.mo_scope.specs.Worlds.{frame_at, frames_of, sources_in, table_in}
 use Rattle.mo_names.specs.Sights.{walk_seen}
-use Rattle.mo_instance.specs.FirstSteps.{broken_source, is_replaced_by}
+use Rattle.mo_instance.specs.steps.FirstPass.{broken_source, is_replaced_by}
 use Rattle.mo_instance.specs.Passes.{first_of_all}
-use Rattle.mo_instance.specs.Walks.{walk_or_none}
+use Rattle.mo_instance.specs.steps.Walks.{walk_or_none}
 use Rattle.mo_instance.proofs.first_pass.broken_sources.Given as goal
 
 abbrev pub invariant-loop-source : goal.invariant-loop-source

@@ -7,9 +7,9 @@ use Rattle.mo_scope.specs.Worlds.{frames_of}
 use Rattle.mo_names.specs.Sights.{walk_seen}
 use Rattle.mo_mods.specs.declared.asked.Claim.{Claim as ClaimAt}
 use Rattle.mo_mods.specs.PathSights.{claim_seen}
-use Rattle.mo_instance.specs.FirstSteps.{first_repeated, is_replaced_by, least_found, least_of_member, least_of_none}
-use Rattle.mo_instance.specs.Speeches.{speech_seen}
-use Rattle.mo_instance.specs.Walks.{walk_or_none}
+use Rattle.mo_instance.specs.steps.FirstPass.{first_repeated, is_replaced_by, least_found, least_of_member, least_of_none}
+use Rattle.mo_instance.specs.steps.Speeches.{speech_seen}
+use Rattle.mo_instance.specs.steps.Walks.{walk_or_none}
 use Rattle.mo_instance.proofs.Named.{found_named}
 use Rattle.mo_instance.proofs.first_pass.broken_spoken.Goals as goal
 

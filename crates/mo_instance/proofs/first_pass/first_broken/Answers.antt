@@ -7,10 +7,10 @@ use Rattle.mo_names.specs.Sights.{walk_seen}
 use Rattle.mo_names.proofs.Circling.{left_from}
 use Rattle.mo_mods.specs.PathSights.{claim_seen}
 use Rattle.mo_instance.specs.declared.spoken.Spoken.{Spoken as SpokenAt}
-use Rattle.mo_instance.specs.FirstSteps.{broken_speech, is_replaced_by}
+use Rattle.mo_instance.specs.steps.FirstPass.{broken_speech, is_replaced_by}
 use Rattle.mo_instance.specs.Passes.{first_of_all}
-use Rattle.mo_instance.specs.Speeches.{speech_seen}
-use Rattle.mo_instance.specs.Walks.{walk_or_none}
+use Rattle.mo_instance.specs.steps.Speeches.{speech_seen}
+use Rattle.mo_instance.specs.steps.Walks.{walk_or_none}
 use Rattle.mo_instance.proofs.Lists.{later_none, later_some}
 use Rattle.mo_instance.proofs.first_pass.first_broken.Goals as goal
 

@@ -4,10 +4,10 @@ use Rattle.std.specs.Prelude.{option_copied}
 use Rattle.mo_scope.specs.Worlds.{frames_of}
 use Rattle.mo_names.specs.Sights.{walk_seen}
 use Rattle.mo_mods.specs.PathSights.{claim_seen}
-use Rattle.mo_instance.specs.FirstSteps.{broken_speech, is_replaced_by}
+use Rattle.mo_instance.specs.steps.FirstPass.{broken_speech, is_replaced_by}
 use Rattle.mo_instance.specs.Passes.{first_of_all}
-use Rattle.mo_instance.specs.Speeches.{speech_seen}
-use Rattle.mo_instance.specs.Walks.{walk_or_none}
+use Rattle.mo_instance.specs.steps.Speeches.{speech_seen}
+use Rattle.mo_instance.specs.steps.Walks.{walk_or_none}
 use Rattle.mo_instance.proofs.first_pass.first_broken.Given as goal
 
 abbrev pub invariant-loop-one : goal.invariant-loop-one

@@ -9,9 +9,9 @@ use Rattle.mo_scope.specs.Outcome.{unless_broken}
 use Rattle.mo_scope.specs.Sights.{source_seen}
 use Rattle.mo_scope.specs.Worlds.{frame_at, frames_of, source_in, sources_in, table_in}
 use Rattle.mo_names.specs.Sights.{walk_seen}
-use Rattle.mo_instance.specs.FirstSteps.{broken_source, is_replaced_by}
+use Rattle.mo_instance.specs.steps.FirstPass.{broken_source, is_replaced_by}
 use Rattle.mo_instance.specs.Passes.{first_of_all, first_pass}
-use Rattle.mo_instance.specs.Walks.{walk_or_none}
+use Rattle.mo_instance.specs.steps.Walks.{walk_or_none}
 use Rattle.mo_instance.proofs.Lists.{dropped_map, length_mapped, rest_taken}
 use Rattle.mo_instance.proofs.Passing.{sources_are}
 use Rattle.mo_instance.proofs.first_pass.first_pass.Goals as goal

@@ -4,7 +4,7 @@ use Rattle.std.proofs.lemmas.List.{drop_all}
 use Rattle.mo_names.proofs.Circling.{left_from}
 use Rattle.mo_mods.specs.declared.asked.Claim.{Claim as ClaimAt}
 use Rattle.mo_mods.specs.PathSights.{claim_seen}
-use Rattle.mo_instance.specs.FirstSteps.{first_repeated}
+use Rattle.mo_instance.specs.steps.FirstPass.{first_repeated}
 use Rattle.mo_instance.proofs.Lists.{else_is, then_is}
 use Rattle.mo_instance.proofs.first_pass.first_repeated.Goals as goal
 

@@ -7,7 +7,7 @@ use Rattle.mo_names.specs.declared.walk.Inherited.{Inherited as InheritedAt}
 use Rattle.mo_names.specs.Sights.{inherited_seen, walk_seen}
 use Rattle.mo_instance.specs.Attributes.{is_attribute}
 use Rattle.mo_instance.specs.Passes.{is_inherited}
-use Rattle.mo_instance.specs.Walks.{inherits_name}
+use Rattle.mo_instance.specs.steps.Walks.{inherits_name}
 use Rattle.mo_instance.proofs.Named.{inherits_held}
 use Rattle.mo_instance.proofs.first_pass.inherits.Goals as goal
 

@@ -5,7 +5,7 @@ use Rattle.std.proofs.lemmas.List.{drop_all}
 use Rattle.mo_names.proofs.Circling.{left_from}
 use Rattle.mo_mods.specs.declared.asked.Claim.{Claim as ClaimAt}
 use Rattle.mo_mods.specs.PathSights.{claim_seen}
-use Rattle.mo_instance.specs.FirstSteps.{is_in}
+use Rattle.mo_instance.specs.steps.FirstPass.{is_in}
 use Rattle.mo_instance.proofs.Lists.{or_false, or_true}
 use Rattle.mo_instance.proofs.first_pass.is_in.Goals as goal
 

@@ -1,7 +1,7 @@
 -- What is said of those that are left is said of all.
 use Rattle.std.proofs.Common.{◌≡◌, drop, map}
 use Rattle.mo_mods.specs.PathSights.{claim_seen}
-use Rattle.mo_instance.specs.FirstSteps.{is_in}
+use Rattle.mo_instance.specs.steps.FirstPass.{is_in}
 use Rattle.mo_instance.proofs.first_pass.is_in.Given as goal
 
 abbrev pub invariant-loop-other : goal.invariant-loop-other

@@ -4,7 +4,7 @@ use Rattle.std.specs.List.{list_any}
 use Rattle.std.proofs.lemmas.List.{drop_all}
 use Rattle.mo_names.proofs.Circling.{left_from}
 use Rattle.mo_names.specs.declared.walk.Inherited.{Inherited as InheritedAt}
-use Rattle.mo_instance.specs.Walks.{inherits_name}
+use Rattle.mo_instance.specs.steps.Walks.{inherits_name}
 use Rattle.mo_instance.proofs.Lists.{or_false, or_true}
 use Rattle.mo_instance.proofs.first_pass.is_inherited.Goals as goal
 

@@ -1,7 +1,7 @@
 -- What is said of those that are left is said of all.
 use Rattle.std.proofs.Common.{◌≡◌, drop}
 use Rattle.std.specs.List.{list_any}
-use Rattle.mo_instance.specs.Walks.{inherits_name}
+use Rattle.mo_instance.specs.steps.Walks.{inherits_name}
 use Rattle.mo_instance.proofs.first_pass.is_inherited.Given as goal
 
 abbrev pub invariant-loop-inherited : goal.invariant-loop-inherited

@@ -3,7 +3,7 @@ use Rattle.std.proofs.Common.{◌≡◌, ap, subst, sym, ◌∙◌, arith}
 use Rattle.mo_scope.specs.Rows.{Table}
 use Rattle.mo_scope.specs.Worlds.{frame_at, frames_of, table_in}
 use Rattle.mo_names.proofs.Later.{grows_trans, table_later}
-use Rattle.mo_instance.specs.Ways.{IsStep, Is_input, Is_none, On_base, input_way, step_seen}
+use Rattle.mo_instance.specs.steps.Ways.{IsStep, Is_input, Is_none, On_base, input_way, step_seen}
 use Rattle.mo_instance.proofs.Inputs.{input_ends, input_is, input_none, input_on}
 use Rattle.mo_instance.proofs.given.is_input_type.Goals as goal
 

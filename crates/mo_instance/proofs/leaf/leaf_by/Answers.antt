@@ -3,7 +3,7 @@ use Rattle.std.proofs.Common.{◌≡◌, Some, Ok, ap, sym, ◌∙◌}
 use Rattle.mo_scope.specs.Instances.{Leaf}
 use Rattle.mo_scope.specs.Worlds.{frame_at, frames_of, table_in}
 use Rattle.mo_names.specs.Sights.{member_of}
-use Rattle.mo_instance.specs.Sights.{around_seen}
+use Rattle.mo_instance.specs.steps.Sights.{around_seen}
 use Rattle.mo_instance.proofs.Choosing.{leaf_breaks, leaf_stands}
 use Rattle.mo_instance.proofs.leaf.leaf_by.Goals as goal
 

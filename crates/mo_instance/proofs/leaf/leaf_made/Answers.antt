@@ -7,7 +7,7 @@ use Rattle.mo_scope.specs.Trees.{attribute_in, chosen_in}
 use Rattle.mo_scope.specs.Worlds.{frame_at, frames_of, table_in}
 use Rattle.mo_instance.specs.Attributes.{chosen_attributes}
 use Rattle.mo_instance.specs.Elements.{leaf_made}
-use Rattle.mo_instance.specs.Sights.{around_seen}
+use Rattle.mo_instance.specs.steps.Sights.{around_seen}
 use Rattle.mo_instance.proofs.Choosing.{leaf_is}
 use Rattle.mo_instance.proofs.leaf.leaf_made.Goals as goal
 

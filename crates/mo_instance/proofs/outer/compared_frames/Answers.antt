@@ -8,7 +8,7 @@ use Rattle.mo_scope.specs.Rows.{Table}
 use Rattle.mo_scope.specs.Worlds.{frame_at, frames_of, table_in}
 use Rattle.mo_names.specs.Sights.{member_of}
 use Rattle.mo_names.proofs.Later.{frame_later, grows_trans, is_frame_later, is_member_later, table_later}
-use Rattle.mo_instance.specs.OuterSteps.{compared_frames}
+use Rattle.mo_instance.specs.steps.Outer.{compared_frames}
 use Rattle.mo_instance.proofs.Later.{is_child_later}
 use Rattle.mo_instance.proofs.Outers.{frame_before, frame_seen}
 use Rattle.mo_instance.proofs.outer.compared_frames.Goals as goal

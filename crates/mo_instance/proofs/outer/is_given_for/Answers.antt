@@ -4,8 +4,8 @@ use Rattle.std.specs.List.{list_any}
 use Rattle.std.proofs.lemmas.List.{drop_all}
 use Rattle.mo_names.proofs.Circling.{left_from}
 use Rattle.mo_instance.specs.declared.spoken.Spoken.{Spoken as SpokenAt}
-use Rattle.mo_instance.specs.OuterSteps.{speaks_for}
-use Rattle.mo_instance.specs.Speeches.{speech_seen}
+use Rattle.mo_instance.specs.steps.Outer.{speaks_for}
+use Rattle.mo_instance.specs.steps.Speeches.{speech_seen}
 use Rattle.mo_instance.proofs.Lists.{or_false, or_true}
 use Rattle.mo_instance.proofs.outer.is_given_for.Goals as goal
 

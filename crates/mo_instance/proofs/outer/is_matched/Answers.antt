@@ -7,7 +7,7 @@ use Rattle.mo_scope.specs.Worlds.{frames_of, table_in}
 use Rattle.mo_names.specs.Children.{child_seen}
 use Rattle.mo_names.specs.Sights.{member_of}
 use Rattle.mo_names.proofs.Later.{grows_trans, is_member_later}
-use Rattle.mo_instance.specs.OuterSteps.{matched_children}
+use Rattle.mo_instance.specs.steps.Outer.{matched_children}
 use Rattle.mo_instance.proofs.Later.{is_child_later}
 use Rattle.mo_instance.proofs.Lists.{broken_on}
 use Rattle.mo_instance.proofs.Outers.{matched_is, other_is}

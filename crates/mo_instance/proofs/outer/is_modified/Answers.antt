@@ -6,8 +6,8 @@ use Rattle.mo_scope.specs.Frames.{Source, sources_of}
 use Rattle.mo_scope.specs.Sights.{source_seen}
 use Rattle.mo_scope.specs.Worlds.{frame_at, frames_of, sources_in, table_in}
 use Rattle.mo_instance.specs.declared.spoken.Spoken.{Spoken as SpokenAt}
-use Rattle.mo_instance.specs.OuterSteps.{speaks_for}
-use Rattle.mo_instance.specs.Speeches.{speech_seen, speeches_in}
+use Rattle.mo_instance.specs.steps.Outer.{speaks_for}
+use Rattle.mo_instance.specs.steps.Speeches.{speech_seen, speeches_in}
 use Rattle.mo_instance.proofs.Speaking.{speaks_is}
 use Rattle.mo_instance.proofs.outer.is_modified.Goals as goal
 

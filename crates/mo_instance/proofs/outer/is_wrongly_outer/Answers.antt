@@ -6,7 +6,7 @@ use Rattle.mo_scope.specs.Compatible.{prefix_of}
 use Rattle.mo_scope.specs.Worlds.{frames_of, table_in}
 use Rattle.mo_names.specs.Sights.{member_of}
 use Rattle.mo_instance.specs.Outer.{is_left_out_prefix}
-use Rattle.mo_instance.specs.OuterSteps.{declared_wrongly, is_spoken_of}
+use Rattle.mo_instance.specs.steps.Outer.{declared_wrongly, is_spoken_of}
 use Rattle.mo_instance.proofs.outer.is_wrongly_outer.Goals as goal
 
 pub returns-then-is_declared_wrongly : goal.returns-then-is_declared_wrongly

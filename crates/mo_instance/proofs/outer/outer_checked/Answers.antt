@@ -5,7 +5,7 @@ use Rattle.mo_scope.specs.Outcome.{Gives}
 use Rattle.mo_scope.specs.Worlds.{frame_at, frames_of, table_in}
 use Rattle.mo_names.specs.Children.{component_seen}
 use Rattle.mo_names.specs.Sights.{member_of}
-use Rattle.mo_instance.specs.OuterSteps.{inner_asked}
+use Rattle.mo_instance.specs.steps.Outer.{inner_asked}
 use Rattle.mo_instance.proofs.Lists.{broken_on}
 use Rattle.mo_instance.proofs.Outers.{inner_is, rightly_is, wrongly_is}
 use Rattle.mo_instance.proofs.outer.outer_checked.Goals as goal

@@ -5,7 +5,7 @@ use Rattle.std.specs.Vec.Iter.{into_iter_items, into_iter_len}
 use Rattle.mo_mods.specs.PathSights.{claim_seen}
 use Rattle.mo_scope.proofs.Sayings.{taken_all, taken_more}
 use Rattle.mo_instance.specs.declared.spoken.Spoken.{Spoken as SpokenAt}
-use Rattle.mo_instance.specs.Speeches.{Speech, speech_seen}
+use Rattle.mo_instance.specs.steps.Speeches.{Speech, speech_seen}
 use Rattle.mo_instance.proofs.own.put_all.Goals as goal
 
 pub loop-one-preserved : goal.loop-one-preserved

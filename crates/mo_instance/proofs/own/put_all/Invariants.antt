@@ -2,7 +2,7 @@
 use Rattle.std.proofs.Common.{◌≡◌, ◌++◌, flat_map, length, map}
 use Rattle.std.specs.Vec.Iter.{into_iter_items, into_iter_len}
 use Rattle.mo_mods.specs.PathSights.{claim_seen}
-use Rattle.mo_instance.specs.Speeches.{Speech, speech_seen}
+use Rattle.mo_instance.specs.steps.Speeches.{Speech, speech_seen}
 use Rattle.mo_instance.proofs.own.put_all.Given as goal
 
 abbrev pub invariant-loop-one : goal.invariant-loop-one

@@ -2,7 +2,7 @@
 use Rattle.std.proofs.Common.{◌++◌, List, flat_map, map, ap, ◌∙◌}
 use Rattle.std.proofs.lemmas.Result.{on_ok_weaker}
 use Rattle.mo_mods.specs.PathSights.{claim_seen}
-use Rattle.mo_instance.specs.Speeches.{Speech}
+use Rattle.mo_instance.specs.steps.Speeches.{Speech}
 use Rattle.mo_instance.proofs.own.put_spoken.Goals as goal
 
 pub returns : goal.returns

@@ -2,7 +2,7 @@
 use Rattle.std.proofs.Common.{◌≡◌, ◌-◌, ℕ, flat_map, length, drop, ap, sym, ◌∙◌, arith}
 use Rattle.std.proofs.lemmas.List.{drop_all}
 use Rattle.mo_scope.specs.Rows.{replacing_in}
-use Rattle.mo_instance.specs.Firsts.{earlier_place, wrong_items}
+use Rattle.mo_instance.specs.steps.Firsts.{earlier_place, wrong_items}
 use Rattle.mo_instance.proofs.Lists.{back_step}
 use Rattle.mo_instance.proofs.profile.first_item.Goals as goal
 

@@ -3,7 +3,7 @@ use Rattle.std.proofs.Common.{◌≡◌, ◌-◌, ℕ, List, length, drop, map, 
 use Rattle.std.proofs.lemmas.List.{drop_all}
 use Rattle.mo_scope.specs.declared.row.Part.{Part as PartAt}
 use Rattle.mo_scope.specs.Sights.{part_seen}
-use Rattle.mo_instance.specs.Firsts.{earlier_place, wrong_parts}
+use Rattle.mo_instance.specs.steps.Firsts.{earlier_place, wrong_parts}
 use Rattle.mo_instance.proofs.Lists.{back_step}
 use Rattle.mo_instance.proofs.profile.first_part.Goals as goal
 

@@ -6,7 +6,7 @@ use Rattle.mo_syntax.specs.declared.class.Item.{Item}
 use Rattle.mo_syntax.specs.declared.place.Place.{Place}
 use Rattle.mo_scope.specs.Rows.{replacing_in}
 use Rattle.mo_names.proofs.Circling.{left_from}
-use Rattle.mo_instance.specs.Firsts.{first_replaced}
+use Rattle.mo_instance.specs.steps.Firsts.{first_replaced}
 use Rattle.mo_instance.proofs.profile.first_replacing.Goals as goal
 
 pub returns-in-Some : goal.returns-in-Some

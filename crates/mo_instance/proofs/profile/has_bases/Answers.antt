@@ -5,7 +5,7 @@ use Rattle.std.proofs.lemmas.List.{drop_all}
 use Rattle.mo_names.proofs.Circling.{left_from}
 use Rattle.mo_scope.specs.declared.row.Part.{Part as PartAt}
 use Rattle.mo_scope.specs.Sights.{part_seen}
-use Rattle.mo_instance.specs.Firsts.{part_is_base}
+use Rattle.mo_instance.specs.steps.Firsts.{part_is_base}
 use Rattle.mo_instance.proofs.Lists.{or_false, or_true}
 use Rattle.mo_instance.proofs.profile.has_bases.Goals as goal
 

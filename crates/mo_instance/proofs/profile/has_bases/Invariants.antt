@@ -2,7 +2,7 @@
 use Rattle.std.proofs.Common.{◌≡◌, drop, map}
 use Rattle.std.specs.List.{list_any}
 use Rattle.mo_scope.specs.Sights.{part_seen}
-use Rattle.mo_instance.specs.Firsts.{part_is_base}
+use Rattle.mo_instance.specs.steps.Firsts.{part_is_base}
 use Rattle.mo_instance.proofs.profile.has_bases.Given as goal
 
 abbrev pub invariant-loop-part : goal.invariant-loop-part

@@ -6,7 +6,7 @@ use Rattle.mo_scope.specs.declared.row.Part.{Part as PartAt}
 use Rattle.mo_scope.specs.Parts.{declared_in}
 use Rattle.mo_scope.specs.Rows.{elements_in, is_class, replacing_in}
 use Rattle.mo_scope.specs.Sights.{part_seen}
-use Rattle.mo_instance.specs.Firsts.{wrong_parts}
+use Rattle.mo_instance.specs.steps.Firsts.{wrong_parts}
 use Rattle.mo_instance.proofs.Firsts.{none_breaks, parts_first, wrong_breaks}
 use Rattle.mo_instance.proofs.profile.parts_in_profile.Goals as goal
 

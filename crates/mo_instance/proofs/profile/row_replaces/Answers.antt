@@ -4,7 +4,7 @@ use Rattle.std.specs.List.{list_any}
 use Rattle.mo_scope.specs.declared.row.Part.{Part as PartAt}
 use Rattle.mo_scope.specs.Rows.{replacing_in}
 use Rattle.mo_scope.specs.Sights.{part_seen}
-use Rattle.mo_instance.specs.Firsts.{part_is_base}
+use Rattle.mo_instance.specs.steps.Firsts.{part_is_base}
 use Rattle.mo_instance.proofs.Firsts.{first_breaks, none_replaced, some_bases}
 use Rattle.mo_instance.proofs.profile.row_replaces.Goals as goal
 

@@ -2,7 +2,7 @@
 use Rattle.std.proofs.Common.{◌≡◌, ◌++◌, List, map, ap, sym, ◌∙◌}
 use Rattle.mo_syntax.specs.declared.class.Element.{Element}
 use Rattle.mo_scope.specs.Parts.{declared_in}
-use Rattle.mo_instance.specs.Firsts.{earlier_place, first_wrong}
+use Rattle.mo_instance.specs.steps.Firsts.{earlier_place, first_wrong}
 use Rattle.mo_instance.proofs.Firsts.{first_step}
 use Rattle.mo_instance.proofs.profile.wrong_item.Goals as goal
 

@@ -9,7 +9,7 @@ use Rattle.mo_scope.specs.Worlds.{frame_or_top, frames_of, table_in}
 use Rattle.mo_names.proofs.Later.{grows_trans, table_later}
 use Rattle.mo_names.proofs.Reading.{at_element}
 use Rattle.mo_instance.specs.Instances.{enclosing, inside, is_placed}
-use Rattle.mo_instance.specs.Roots.{names_seen}
+use Rattle.mo_instance.specs.steps.Roots.{names_seen}
 use Rattle.mo_instance.proofs.Rooting.{enclosed_by}
 use Rattle.mo_instance.proofs.root.enclosing_frame.Goals as goal
 

@@ -5,7 +5,7 @@ use Rattle.mo_scope.specs.Entries.{number_of}
 use Rattle.mo_scope.specs.Frames.{Top}
 use Rattle.mo_scope.specs.Worlds.{Grows, IsFrameOrNone, frame_or_top, frames_of, table_in}
 use Rattle.mo_instance.specs.Instances.{enclosing}
-use Rattle.mo_instance.specs.Roots.{names_seen}
+use Rattle.mo_instance.specs.steps.Roots.{names_seen}
 use Rattle.mo_instance.proofs.root.enclosing_frame.Given as goal
 
 abbrev pub invariant-loop-at : goal.invariant-loop-at

@@ -8,7 +8,7 @@ use Rattle.mo_scope.specs.Frames.{looked_up}
 use Rattle.mo_scope.specs.Sights.{source_seen}
 use Rattle.mo_scope.specs.Worlds.{frame_or_top, frames_of, sources_in, table_in}
 use Rattle.mo_instance.specs.Instances.{is_placed}
-use Rattle.mo_instance.specs.Roots.{names_seen}
+use Rattle.mo_instance.specs.steps.Roots.{names_seen}
 use Rattle.mo_instance.proofs.Rooting.{inside_none, inside_some}
 use Rattle.mo_instance.proofs.root.inside_frame.Goals as goal
 

@@ -3,7 +3,7 @@ use Rattle.std.proofs.Common.{◌≡◌, List, Bor, ℕ, Some, None, ap, sym, �
 use Rattle.std.proofs.lemmas.Result.{IfOk-weaker}
 use Rattle.mo_scope.specs.Rows.{Row}
 use Rattle.mo_scope.specs.Sights.{row_seen}
-use Rattle.mo_instance.specs.Roots.{names_seen, path_of_home}
+use Rattle.mo_instance.specs.steps.Roots.{names_seen, path_of_home}
 use Rattle.mo_instance.proofs.root.path_of_class.Goals as goal
 
 pub returns-in-Some : goal.returns-in-Some

@@ -4,7 +4,7 @@ use Rattle.mo_scope.specs.Rows.{number_of_classes}
 use Rattle.mo_scope.specs.Sights.{row_seen}
 use Rattle.mo_scope.specs.Worlds.{table_in}
 use Rattle.mo_instance.specs.Instances.{is_placed}
-use Rattle.mo_instance.specs.Roots.{names_seen}
+use Rattle.mo_instance.specs.steps.Roots.{names_seen}
 use Rattle.mo_instance.proofs.Rooting.{absent_is, class_below, placed_is, rows_numbered}
 use Rattle.mo_instance.proofs.root.placed_at.Goals as goal
 

@@ -6,7 +6,7 @@ use Rattle.mo_syntax.specs.declared.meaning.ClassId.{ClassId}
 use Rattle.mo_scope.specs.Rows.{Row, Table}
 use Rattle.mo_scope.specs.Worlds.{table_in}
 use Rattle.mo_instance.specs.Instances.{is_placed}
-use Rattle.mo_instance.specs.Roots.{names_seen}
+use Rattle.mo_instance.specs.steps.Roots.{names_seen}
 use Rattle.mo_instance.proofs.Rooting.{number_found, number_next}
 use Rattle.mo_instance.proofs.root.placed_class.Goals as goal
 

@@ -3,7 +3,7 @@ use Rattle.std.proofs.Common.{◌≡◌, drop}
 use Rattle.std.specs.Prelude.{find, option_map}
 use Rattle.mo_scope.specs.Worlds.{table_in}
 use Rattle.mo_instance.specs.Instances.{is_placed}
-use Rattle.mo_instance.specs.Roots.{names_seen}
+use Rattle.mo_instance.specs.steps.Roots.{names_seen}
 use Rattle.mo_instance.proofs.root.placed_class.Given as goal
 
 abbrev pub invariant-loop-at : goal.invariant-loop-at

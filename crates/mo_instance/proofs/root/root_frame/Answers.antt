@@ -7,7 +7,7 @@ use Rattle.mo_scope.specs.Entries.{number_of}
 use Rattle.mo_scope.specs.Frames.{Frame, In, Indexed, Top, gathered}
 use Rattle.mo_scope.specs.Sights.{source_seen}
 use Rattle.mo_scope.specs.Worlds.{frame_or_top, frames_of, sources_in, table_in}
-use Rattle.mo_instance.specs.Roots.{names_seen}
+use Rattle.mo_instance.specs.steps.Roots.{names_seen}
 use Rattle.mo_instance.proofs.Rooting.{root_made, rooted}
 use Rattle.mo_instance.proofs.root.root_frame.Goals as goal
 

@@ -5,7 +5,7 @@ use Rattle.mo_scope.specs.declared.source.Source.{Source as SourceAt}
 use Rattle.mo_scope.specs.Sights.{source_seen}
 use Rattle.mo_scope.specs.Worlds.{SourceEntry, source_in, table_in}
 use Rattle.mo_scope.proofs.Sayings.{gathered_all, gathered_more}
-use Rattle.mo_instance.specs.Speeches.{speech_seen, speeches_of}
+use Rattle.mo_instance.specs.steps.Speeches.{speech_seen, speeches_of}
 use Rattle.mo_instance.proofs.spoken.all_spoken.Goals as goal
 
 pub loop-source-preserved : goal.loop-source-preserved

@@ -6,7 +6,7 @@ use Rattle.mo_syntax.specs.declared.class.Give.{Give}
 use Rattle.mo_scope.specs.Sights.{source_seen}
 use Rattle.mo_scope.specs.Spoken.{spoken_argument, spoken_rest}
 use Rattle.mo_scope.specs.Worlds.{source_in, table_in}
-use Rattle.mo_instance.specs.Speeches.{Speech, speech_of, speech_seen}
+use Rattle.mo_instance.specs.steps.Speeches.{Speech, speech_of, speech_seen}
 use Rattle.mo_instance.proofs.spoken.put_argued.Goals as goal
 
 pub returns : goal.returns

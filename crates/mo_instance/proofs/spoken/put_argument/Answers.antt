@@ -5,7 +5,7 @@ use Rattle.mo_scope.specs.Sights.{source_seen}
 use Rattle.mo_scope.specs.Worlds.{table_in}
 use Rattle.mo_scope.proofs.Sayings.{nothing_more, pushed_more}
 use Rattle.mo_redeclare.proofs.Speaking.{read_drop, read_none}
-use Rattle.mo_instance.specs.Speeches.{Speech, speech_seen}
+use Rattle.mo_instance.specs.steps.Speeches.{Speech, speech_seen}
 use Rattle.mo_instance.proofs.Speaking.{argument_silent, argument_speech}
 use Rattle.mo_instance.proofs.spoken.put_argument.Goals as goal
 

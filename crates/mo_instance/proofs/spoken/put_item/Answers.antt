@@ -8,7 +8,7 @@ use Rattle.mo_scope.specs.Sights.{declares_seen, source_seen}
 use Rattle.mo_scope.specs.Spoken.{spoken_element}
 use Rattle.mo_scope.specs.Worlds.{source_in, table_in}
 use Rattle.mo_scope.proofs.Sayings.{pushed_more}
-use Rattle.mo_instance.specs.Speeches.{element_with, speech_of, speech_seen}
+use Rattle.mo_instance.specs.steps.Speeches.{element_with, speech_of, speech_seen}
 use Rattle.mo_instance.proofs.spoken.put_item.Goals as goal
 
 pub returns-in-Some : goal.returns-in-Some

@@ -8,7 +8,7 @@ use Rattle.mo_scope.specs.Sights.{source_seen}
 use Rattle.mo_scope.specs.Spoken.{spoken_element}
 use Rattle.mo_scope.specs.Worlds.{source_in, table_in}
 use Rattle.mo_scope.proofs.Sayings.{flat_map-flat_map, gathered_all, gathered_more}
-use Rattle.mo_instance.specs.Speeches.{Speech, speech_of, speech_seen}
+use Rattle.mo_instance.specs.steps.Speeches.{Speech, speech_of, speech_seen}
 use Rattle.mo_instance.proofs.spoken.put_items.Goals as goal
 
 pub loop-item-preserved : goal.loop-item-preserved

@@ -6,7 +6,7 @@ use Rattle.mo_scope.specs.Rows.{replacing_in}
 use Rattle.mo_scope.specs.Sights.{source_seen}
 use Rattle.mo_scope.specs.Spoken.{spoken_element}
 use Rattle.mo_scope.specs.Worlds.{source_in, table_in}
-use Rattle.mo_instance.specs.Speeches.{speech_of, speech_seen}
+use Rattle.mo_instance.specs.steps.Speeches.{speech_of, speech_seen}
 use Rattle.mo_instance.proofs.spoken.put_items.Given as goal
 
 abbrev pub invariant-loop-item : goal.invariant-loop-item

@@ -6,7 +6,7 @@ use Rattle.mo_scope.specs.Sights.{source_seen}
 use Rattle.mo_scope.specs.Spoken.{spoken_argument}
 use Rattle.mo_scope.specs.Worlds.{source_in, table_in}
 use Rattle.mo_scope.proofs.Sayings.{gathered_all, gathered_more}
-use Rattle.mo_instance.specs.Speeches.{speech_of, speech_seen}
+use Rattle.mo_instance.specs.steps.Speeches.{speech_of, speech_seen}
 use Rattle.mo_instance.proofs.spoken.put_list.Goals as goal
 
 pub loop-argument-preserved : goal.loop-argument-preserved

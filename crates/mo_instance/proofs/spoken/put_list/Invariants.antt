@@ -4,7 +4,7 @@ use Rattle.mo_scope.specs.Frames.{Frame}
 use Rattle.mo_scope.specs.Sights.{source_seen}
 use Rattle.mo_scope.specs.Spoken.{spoken_argument}
 use Rattle.mo_scope.specs.Worlds.{source_in, table_in}
-use Rattle.mo_instance.specs.Speeches.{speech_of, speech_seen}
+use Rattle.mo_instance.specs.steps.Speeches.{speech_of, speech_seen}
 use Rattle.mo_instance.proofs.spoken.put_list.Given as goal
 
 abbrev pub invariant-loop-argument : goal.invariant-loop-argument

@@ -5,7 +5,7 @@ use Rattle.std.proofs.lemmas.Result.{IfOk-weaker}
 use Rattle.mo_scope.specs.Sights.{source_seen}
 use Rattle.mo_scope.specs.Worlds.{table_in}
 use Rattle.mo_scope.proofs.Sayings.{front_is, nothing_more, pushed_more}
-use Rattle.mo_instance.specs.Speeches.{Speech, speech_seen}
+use Rattle.mo_instance.specs.steps.Speeches.{Speech, speech_seen}
 use Rattle.mo_instance.proofs.Lists.{rest_taken}
 use Rattle.mo_instance.proofs.Speaking.{rest_silent, rest_speech}
 use Rattle.mo_instance.proofs.spoken.put_rest.Goals as goal

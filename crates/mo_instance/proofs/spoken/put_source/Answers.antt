@@ -3,7 +3,7 @@ use Rattle.std.proofs.Common.{◌++◌, List, map, ap, sym, ◌∙◌}
 use Rattle.std.proofs.lemmas.Result.{on_ok_weaker}
 use Rattle.mo_scope.specs.Sights.{given_seen, source_seen}
 use Rattle.mo_scope.specs.Worlds.{source_in, table_in}
-use Rattle.mo_instance.specs.Speeches.{Speech, speech_seen}
+use Rattle.mo_instance.specs.steps.Speeches.{Speech, speech_seen}
 use Rattle.mo_instance.proofs.Speaking.{argued_speeches, listed_speeches, replacing_speeches}
 use Rattle.mo_instance.proofs.spoken.put_source.Goals as goal
 

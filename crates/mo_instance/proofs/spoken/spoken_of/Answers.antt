@@ -3,7 +3,7 @@ use Rattle.std.proofs.Common.{◌++◌, List, map, ap, ◌∙◌}
 use Rattle.mo_scope.specs.Sights.{source_seen}
 use Rattle.mo_scope.specs.Worlds.{source_in, table_in}
 use Rattle.mo_instance.specs.declared.spoken.Spoken.{Spoken as SpokenAt}
-use Rattle.mo_instance.specs.Speeches.{speech_seen, speeches_of}
+use Rattle.mo_instance.specs.steps.Speeches.{speech_seen, speeches_of}
 use Rattle.mo_instance.proofs.spoken.spoken_of.Goals as goal
 
 pub returns : goal.returns

@@ -18,8 +18,8 @@ use Rattle.mo_names.proofs.Later.{grows_trans, is_member_later}
 use Rattle.mo_eval.proofs.Grown.{kept_still}
 use Rattle.mo_instance.specs.declared.prefixes.Around.{Around as AroundAt}
 use Rattle.mo_instance.specs.Instances.{component_entered, deeper, member_entered, parts_entered}
-use Rattle.mo_instance.specs.Sights.{IsEntered, around_seen}
-use Rattle.mo_instance.specs.Steps.{component_asked, elements_to, elements_under, is_entered, members_added}
+use Rattle.mo_instance.specs.steps.Sights.{IsEntered, around_seen}
+use Rattle.mo_instance.specs.steps.Instances.{component_asked, elements_to, elements_under, is_entered, members_added}
 use Rattle.mo_instance.proofs.Adding.{component_added, component_empty, element_added, element_broken, member_added, member_left_out, under_next}
 use Rattle.mo_instance.proofs.Later.{are_instances_later}
 use Rattle.mo_instance.proofs.Lists.{broken_on, broken_to, every_at, every_more, gives_as, same_default}

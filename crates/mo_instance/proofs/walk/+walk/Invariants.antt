@@ -6,8 +6,8 @@ use Rattle.mo_names.specs.Sights.{inherited_seen, member_of}
 use Rattle.mo_eval.specs.Keeping.{IsKept}
 use Rattle.mo_instance.specs.Instances.{deeper, parts_entered}
 use Rattle.mo_scope.specs.Trees.{instances_in}
-use Rattle.mo_instance.specs.Sights.{IsEntered, around_seen}
-use Rattle.mo_instance.specs.Steps.{elements_to, members_added}
+use Rattle.mo_instance.specs.steps.Sights.{IsEntered, around_seen}
+use Rattle.mo_instance.specs.steps.Instances.{elements_to, members_added}
 use Rattle.mo_instance.proofs.walk.+walk.Given as goal
 
 abbrev pub decreases-members_entered : goal.decreases-members_entered

@@ -1,5 +1,5 @@
 use Rattle.std.proofs.Common.{ℕ, ◌-◌, ◌<◌, ◌≤◌, length}
-use Rattle.mo_lexer.specs.Finding.{ClosesAt}
+use Rattle.mo_lexer.specs.steps.Finding.{ClosesAt}
 use Rattle.mo_lexer.proofs.contents.close_at.Given as goal
 
 abbrev pub invariant-loop-at : goal.invariant-loop-at

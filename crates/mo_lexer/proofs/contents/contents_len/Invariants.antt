@@ -1,6 +1,6 @@
 use Rattle.std.proofs.Common.{◌-◌, ◌≤◌, length, take}
 use Rattle.mo_lexer.specs.Spelling.{AreContents}
-use Rattle.mo_lexer.specs.Finding.{is_plain}
+use Rattle.mo_lexer.specs.steps.Finding.{is_plain}
 use Rattle.mo_lexer.proofs.contents.contents_len.Given as goal
 
 abbrev pub invariant-loop-n : goal.invariant-loop-n

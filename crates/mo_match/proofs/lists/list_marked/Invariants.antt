@@ -1,6 +1,6 @@
 use Rattle.std.proofs.Common.{◌≡◌, ◌≤◌, vec_capacity}
 use Rattle.mo_incidence.specs.Offsets.{by_place}
-use Rattle.mo_match.specs.Lists.{numbers_where}
+use Rattle.mo_match.specs.steps.Lists.{numbers_where}
 use Rattle.mo_match.proofs.lists.list_marked.Given as goal
 
 abbrev pub invariant-loop-i : goal.invariant-loop-i

@@ -1,5 +1,5 @@
 use Rattle.std.proofs.Common.{◌+◌, length, ap, arith}
-use Rattle.mo_match.specs.Lists.{reached}
+use Rattle.mo_match.specs.steps.Lists.{reached}
 use Rattle.mo_match.proofs.ListLemmas.{numbers-few}
 use Rattle.mo_match.proofs.lists.list_reached.Goals as goal
 

@@ -1,5 +1,5 @@
 use Rattle.std.proofs.Common.{◌≡◌, ◌≤◌, ◌+◌, vec_capacity}
-use Rattle.mo_match.specs.Lists.{numbers_where, reached}
+use Rattle.mo_match.specs.steps.Lists.{numbers_where, reached}
 use Rattle.mo_match.proofs.lists.list_reached.Given as goal
 
 abbrev pub invariant-loop-u : goal.invariant-loop-u

@@ -1,5 +1,5 @@
 use Rattle.std.proofs.Common.{◌≡◌, arith, subst, ℕ}
-use Rattle.mo_match.specs.Spreading.{IsSpreadTo}
+use Rattle.mo_match.specs.steps.Spreading.{IsSpreadTo}
 use Rattle.mo_match.proofs.Loose.{marked-undetermined, undetermined-marked}
 use Rattle.mo_match.proofs.spread.find_loose.Goals as goal
 

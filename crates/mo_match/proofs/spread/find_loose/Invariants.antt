@@ -1,5 +1,5 @@
 use Rattle.std.proofs.Common.{◌≤◌, ◌-◌, suc}
-use Rattle.mo_match.specs.Spreading.{IsSpread, AreFreeMarked, IsSpreadTo}
+use Rattle.mo_match.specs.steps.Spreading.{IsSpread, AreFreeMarked, IsSpreadTo}
 use Rattle.mo_match.proofs.spread.find_loose.Given as goal
 
 abbrev pub invariant-loop-head : goal.invariant-loop-head

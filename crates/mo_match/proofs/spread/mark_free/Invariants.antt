@@ -1,4 +1,4 @@
-use Rattle.mo_match.specs.Spreading.{IsSpread, AreFreeMarked}
+use Rattle.mo_match.specs.steps.Spreading.{IsSpread, AreFreeMarked}
 use Rattle.mo_match.proofs.spread.mark_free.Given as goal
 
 abbrev pub invariant-loop-j : goal.invariant-loop-j

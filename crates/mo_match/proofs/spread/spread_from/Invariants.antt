@@ -1,6 +1,6 @@
 use Rattle.std.proofs.Common.{List, ℕ, slice_index}
 use Rattle.mo_incidence.specs.Signature.{equations, entries}
-use Rattle.mo_match.specs.Threads.{IsThreadedTo}
+use Rattle.mo_match.specs.steps.Threads.{IsThreadedTo}
 use Rattle.mo_match.proofs.SpreadLemmas.{IsWalkingTo}
 use Rattle.mo_match.proofs.spread.spread_from.Given as goal
 

@@ -1,4 +1,4 @@
-use Rattle.mo_match.specs.Threads.{IsThreaded}
+use Rattle.mo_match.specs.steps.Threads.{IsThreaded}
 use Rattle.mo_match.proofs.threads.thread.Given as goal
 
 abbrev pub invariant-loop-i : goal.invariant-loop-i

@@ -3,7 +3,7 @@ use Rattle.std.proofs.Common.{◌≡◌, ◌++◌, length, map, reverse}
 use Rattle.mo_scope.specs.Lookup.{is_counted, not_counted}
 use Rattle.mo_scope.specs.Places.{Every}
 use Rattle.mo_scope.specs.Worlds.{frame_at, frames_of}
-use Rattle.mo_names.specs.Joins.{base_behind}
+use Rattle.mo_names.specs.steps.Joins.{base_behind}
 use Rattle.mo_names.specs.Sights.{AreThrough, IsBase, frames_through}
 use Rattle.mo_names.proofs.join.bases_behind.Given as goal
 

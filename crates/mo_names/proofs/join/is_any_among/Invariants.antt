@@ -2,7 +2,7 @@
 use Rattle.std.proofs.Common.{◌≡◌, drop, map}
 use Rattle.std.specs.List.{list_any}
 use Rattle.mo_scope.specs.Worlds.{frame_in, frames_of}
-use Rattle.mo_names.specs.Joins.{is_among}
+use Rattle.mo_names.specs.steps.Joins.{is_among}
 use Rattle.mo_names.specs.Sights.{AreThrough, frames_through}
 use Rattle.mo_names.proofs.join.is_any_among.Given as goal
 

@@ -2,7 +2,7 @@
 use Rattle.std.proofs.Common.{◌≡◌, drop, map}
 use Rattle.mo_scope.specs.Places.{Every}
 use Rattle.mo_scope.specs.Worlds.{frame_at, frames_of}
-use Rattle.mo_names.specs.Joins.{is_among}
+use Rattle.mo_names.specs.steps.Joins.{is_among}
 use Rattle.mo_names.specs.Sights.{IsBase, frames_through}
 use Rattle.mo_names.proofs.join.is_base_among.Given as goal
 

@@ -3,7 +3,7 @@ use Rattle.std.proofs.Common.{arith, length, map, sym, ◌≡◌, ◌∙◌}
 use Rattle.std.proofs.lemmas.Bool.Decides.{nat_tests}
 use Rattle.mo_syntax.specs.declared.meaning.FrameId.{FrameId}
 use Rattle.mo_scope.specs.Worlds.{frame_in, frames_of}
-use Rattle.mo_names.specs.Joins.{is_among}
+use Rattle.mo_names.specs.steps.Joins.{is_among}
 use Rattle.mo_names.specs.Sights.{frames_through}
 use Rattle.mo_names.proofs.Joining.{any_turned}
 use Rattle.mo_names.proofs.Counting.{none_counted}

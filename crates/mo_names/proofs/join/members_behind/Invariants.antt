@@ -3,7 +3,7 @@ use Rattle.std.proofs.Common.{◌≡◌, ◌++◌, length, map, reverse}
 use Rattle.mo_scope.specs.Lookup.{not_counted}
 use Rattle.mo_scope.specs.Places.{Every}
 use Rattle.mo_scope.specs.Worlds.{frame_at, frames_of}
-use Rattle.mo_names.specs.Joins.{counts_through, inherited_behind}
+use Rattle.mo_names.specs.steps.Joins.{counts_through, inherited_behind}
 use Rattle.mo_names.specs.Sights.{IsInherited, frames_through, inherited_seen}
 use Rattle.mo_names.proofs.join.members_behind.Given as goal
 

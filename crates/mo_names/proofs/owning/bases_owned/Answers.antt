@@ -5,7 +5,7 @@ use Rattle.mo_scope.specs.Places.{Every}
 use Rattle.mo_scope.specs.Worlds.{frame_at, frames_of}
 use Rattle.mo_scope.proofs.laws.Standing.{every_append}
 use Rattle.mo_names.specs.Sights.{IsBase, frames_through}
-use Rattle.mo_names.specs.Twins.{owned_through}
+use Rattle.mo_names.specs.steps.Twins.{owned_through}
 use Rattle.mo_names.proofs.Later.{all_bases_later, are_bases_later, frame_later, grows_trans, is_base_later, through_later}
 use Rattle.mo_names.proofs.OwnedWalks.{is_base_owned, made_on, next_of}
 use Rattle.mo_names.proofs.owning.bases_owned.Goals as goal

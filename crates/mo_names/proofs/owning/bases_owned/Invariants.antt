@@ -2,9 +2,9 @@
 use Rattle.std.proofs.Common.{◌≡◌, ◌++◌, drop, map}
 use Rattle.mo_scope.specs.Places.{Every}
 use Rattle.mo_scope.specs.Worlds.{Grows, frame_at, frames_of}
-use Rattle.mo_names.specs.Settled.{AreOwned}
+use Rattle.mo_names.specs.steps.Settled.{AreOwned}
 use Rattle.mo_names.specs.Sights.{IsBase, frames_through}
-use Rattle.mo_names.specs.Twins.{owned_through}
+use Rattle.mo_names.specs.steps.Twins.{owned_through}
 use Rattle.mo_names.proofs.owning.bases_owned.Given as goal
 
 abbrev pub invariant-loop-base : goal.invariant-loop-base

@@ -5,7 +5,7 @@ use Rattle.mo_scope.specs.Places.{Every}
 use Rattle.mo_scope.specs.Worlds.{frame_at, frames_of}
 use Rattle.mo_scope.proofs.laws.Standing.{every_append}
 use Rattle.mo_names.specs.Sights.{IsInherited, inherited_seen}
-use Rattle.mo_names.specs.Twins.{owned_inherited}
+use Rattle.mo_names.specs.steps.Twins.{owned_inherited}
 use Rattle.mo_names.proofs.Later.{all_inherited_later, are_inherited_later, frame_later, grows_trans, inherited_later, is_inherited_later}
 use Rattle.mo_names.proofs.OwnedWalks.{made_on, next_of}
 use Rattle.mo_names.proofs.owning.members_owned.Goals as goal

@@ -2,9 +2,9 @@
 use Rattle.std.proofs.Common.{◌≡◌, ◌++◌, drop, map}
 use Rattle.mo_scope.specs.Places.{Every}
 use Rattle.mo_scope.specs.Worlds.{Grows, frame_at, frames_of}
-use Rattle.mo_names.specs.Settled.{AreOwned}
+use Rattle.mo_names.specs.steps.Settled.{AreOwned}
 use Rattle.mo_names.specs.Sights.{IsInherited, inherited_seen}
-use Rattle.mo_names.specs.Twins.{owned_inherited}
+use Rattle.mo_names.specs.steps.Twins.{owned_inherited}
 use Rattle.mo_names.proofs.owning.members_owned.Given as goal
 
 abbrev pub invariant-loop-held : goal.invariant-loop-held

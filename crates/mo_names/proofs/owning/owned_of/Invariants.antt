@@ -1,6 +1,6 @@
 -- What is left was entered so as well.
 use Rattle.std.proofs.Common.{drop}
-use Rattle.mo_names.specs.Settled.{AreOwned}
+use Rattle.mo_names.specs.steps.Settled.{AreOwned}
 use Rattle.mo_names.proofs.owning.owned_of.Given as goal
 
 abbrev pub invariant-loop-one : goal.invariant-loop-one

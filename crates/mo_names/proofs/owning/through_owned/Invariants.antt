@@ -1,6 +1,6 @@
 -- What was made and what is left to be made is all.
 use Rattle.std.proofs.Common.{length}
-use Rattle.mo_names.specs.Settled.{AreOwned}
+use Rattle.mo_names.specs.steps.Settled.{AreOwned}
 use Rattle.mo_names.proofs.OwnedWalks.{Owning}
 use Rattle.mo_names.proofs.owning.through_owned.Given as goal
 

@@ -2,7 +2,7 @@
 use Rattle.std.proofs.Common.{ap, map, ◌∙◌}
 use Rattle.mo_scope.specs.Worlds.{frame_at, frames_of}
 use Rattle.mo_names.specs.Sights.{inherited_seen}
-use Rattle.mo_names.specs.Twins.{owned_inherited}
+use Rattle.mo_names.specs.steps.Twins.{owned_inherited}
 use Rattle.mo_names.proofs.Later.{are_bases_later, are_inherited_later, grows_trans}
 use Rattle.mo_names.proofs.OwnedWalks.{owned_names, same_names}
 use Rattle.mo_names.proofs.owning.walk_owned.Goals as goal

@@ -6,7 +6,7 @@ use Rattle.mo_scope.specs.declared.row.Part.{Part}
 use Rattle.mo_scope.specs.Sights.{part_seen}
 use Rattle.mo_scope.specs.Rows.{number_of_classes}
 use Rattle.mo_scope.specs.Worlds.{table_in}
-use Rattle.mo_names.specs.Parts.{parts_of}
+use Rattle.mo_names.specs.steps.Parts.{parts_of}
 use Rattle.mo_names.proofs.Ends.{part_exists}
 use Rattle.mo_names.proofs.Reading.{read_element}
 use Rattle.mo_names.proofs.parts.part_at.Goals as goal

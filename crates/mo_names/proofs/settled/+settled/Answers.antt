@@ -7,11 +7,11 @@ use Rattle.mo_scope.specs.Lookup.{Walked}
 use Rattle.mo_scope.specs.Rows.{Part, Row, Table, row_at}
 use Rattle.mo_scope.specs.Sights.{clause_seen, declares_seen, part_seen}
 use Rattle.mo_scope.specs.Worlds.{frame_at, frames_of, table_in}
-use Rattle.mo_names.specs.Bases.{part_walked, parts_walked}
-use Rattle.mo_names.specs.Settled.{ToldOwned}
-use Rattle.mo_names.specs.Parts.{parts_of}
+use Rattle.mo_names.specs.steps.Bases.{part_walked, parts_walked}
+use Rattle.mo_names.specs.steps.Settled.{ToldOwned}
+use Rattle.mo_names.specs.steps.Parts.{parts_of}
 use Rattle.mo_names.specs.Sights.{asking_at, walk_seen}
-use Rattle.mo_names.specs.Twins.{owned_walk}
+use Rattle.mo_names.specs.steps.Twins.{owned_walk}
 use Rattle.mo_names.proofs.Later.{grows_refl, grows_trans, is_frame_later, is_walk_later}
 use Rattle.mo_names.proofs.OwnElements.{counted_next, own_part, own_part_later}
 use Rattle.mo_names.proofs.Settling.{are_settled_later, base_told, base_told_owned, class_owned_later, class_told, class_told_later, class_told_owned, own_told_owned, part_on, part_told_free, part_told_owned}

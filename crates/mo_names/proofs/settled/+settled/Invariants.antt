@@ -3,11 +3,11 @@ use Rattle.std.proofs.Common.{◌≡◌, ℕ, List, true, drop, ◌+◌, ◌*◌
 use Rattle.mo_scope.specs.Frames.{Frame, class_of}
 use Rattle.mo_scope.specs.Rows.{row_at}
 use Rattle.mo_scope.specs.Worlds.{Grows, frames_of, table_in, frame_at}
-use Rattle.mo_names.specs.Bases.{parts_walked}
-use Rattle.mo_names.specs.Parts.{parts_of}
-use Rattle.mo_names.specs.Settled.{AreFree, AreSettled}
+use Rattle.mo_names.specs.steps.Bases.{parts_walked}
+use Rattle.mo_names.specs.steps.Parts.{parts_of}
+use Rattle.mo_names.specs.steps.Settled.{AreFree, AreSettled}
 use Rattle.mo_names.specs.Sights.{IsWalk, asking_at, walk_seen}
-use Rattle.mo_names.specs.Twins.{owned_walk, unowned}
+use Rattle.mo_names.specs.steps.Twins.{owned_walk, unowned}
 use Rattle.mo_names.proofs.OwnElements.{elements_before}
 use Rattle.mo_names.proofs.settled.+settled.Given as goal
 

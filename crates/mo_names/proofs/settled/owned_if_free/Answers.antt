@@ -3,7 +3,7 @@ use Rattle.std.proofs.Common.{◌≡◌, Ok, true, ap, rules, sym, ◌∙◌}
 use Rattle.mo_scope.specs.Frames.{Frame}
 use Rattle.mo_scope.specs.Worlds.{frame_at, frames_of, table_in}
 use Rattle.mo_names.specs.Sights.{walk_seen}
-use Rattle.mo_names.specs.Twins.{owned_walk}
+use Rattle.mo_names.specs.steps.Twins.{owned_walk}
 use Rattle.mo_names.proofs.Settling.{elements_freely}
 use Rattle.mo_names.proofs.settled.owned_if_free.Goals as goal
 

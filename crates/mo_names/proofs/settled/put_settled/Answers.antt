@@ -2,7 +2,7 @@
 use Rattle.std.proofs.Common.{◌≡◌, ◌+◌, false, ap, rules, sym, subst, ◌∙◌}
 use Rattle.mo_scope.specs.Lookup.{contains}
 use Rattle.mo_scope.specs.Worlds.{frames_of}
-use Rattle.mo_names.specs.Settled.{AreSettled}
+use Rattle.mo_names.specs.steps.Settled.{AreSettled}
 use Rattle.mo_names.proofs.Settling.{one_more_settled}
 use Rattle.mo_names.proofs.settled.put_settled.Goals as goal
 

@@ -1,6 +1,6 @@
 -- What is left is known as well.
 use Rattle.std.proofs.Common.{drop}
-use Rattle.mo_names.specs.Settled.{AreSettled}
+use Rattle.mo_names.specs.steps.Settled.{AreSettled}
 use Rattle.mo_names.proofs.settled.settled_of.Given as goal
 
 abbrev pub invariant-loop-one : goal.invariant-loop-one

@@ -1,5 +1,5 @@
 use Rattle.mo_incidence.specs.Offsets.{by_place, by_number}
-use Rattle.mo_pantelides.specs.Ranks.{IsChosenTo}
+use Rattle.mo_pantelides.specs.steps.Ranks.{IsChosenTo}
 use Rattle.mo_pantelides.proofs.choose.choose_all.Given as goal
 
 abbrev pub invariant-loop-k : goal.invariant-loop-k

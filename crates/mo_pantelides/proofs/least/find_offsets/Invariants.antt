@@ -2,7 +2,7 @@ use Rattle.std.proofs.Common.{◌≢◌, ◌≤◌, ◌<◌, ◌+◌, ◌*◌, �
 use Rattle.mo_incidence.specs.Signature.{equations, entries}
 use Rattle.mo_incidence.specs.Offsets.{BoundsOrders, sum_unknowns}
 use Rattle.mo_match.specs.Searching.{Uses, tight_of, IsMatching, IsTree}
-use Rattle.mo_pantelides.specs.Raising.{AreRising, gap}
+use Rattle.mo_pantelides.specs.steps.Raising.{AreRising, gap}
 use Rattle.mo_pantelides.proofs.least.find_offsets.Given as goal
 
 abbrev pub invariant-loop-root : goal.invariant-loop-root

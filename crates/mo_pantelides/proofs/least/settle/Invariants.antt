@@ -1,7 +1,7 @@
 use Rattle.std.proofs.Common.{◌≡◌, ◌≢◌, ◌≤◌, ◌+◌, ◌*◌, ℕ, slice_index}
 use Rattle.mo_incidence.specs.Signature.{equations, entries}
 use Rattle.mo_match.specs.Searching.{Uses, tight_of, IsMatching, IsTree}
-use Rattle.mo_pantelides.specs.Raising.{AreRising, gap}
+use Rattle.mo_pantelides.specs.steps.Raising.{AreRising, gap}
 use Rattle.mo_pantelides.proofs.least.settle.Given as goal
 
 abbrev pub invariant-again : goal.invariant-again

@@ -1,6 +1,6 @@
 use Rattle.std.proofs.Common.{◌≡◌, ℕ, arith, subst}
 use Rattle.mo_incidence.specs.Offsets.{by_place, by_number}
-use Rattle.mo_pantelides.specs.Ranks.{IsClosedTo}
+use Rattle.mo_pantelides.specs.steps.Ranks.{IsClosedTo}
 use Rattle.mo_pantelides.proofs.Ranking.{ranking-next, all-ranked, ranked}
 use Rattle.mo_pantelides.proofs.ranks.find_ranks.Goals as goal
 

@@ -1,7 +1,7 @@
 use Rattle.std.proofs.Common.{◌-◌}
 use Rattle.mo_incidence.specs.Signature.{equations}
 use Rattle.mo_incidence.specs.Offsets.{by_place, by_number}
-use Rattle.mo_pantelides.specs.Ranks.{IsRankingTo}
+use Rattle.mo_pantelides.specs.steps.Ranks.{IsRankingTo}
 use Rattle.mo_pantelides.proofs.ranks.find_ranks.Given as goal
 
 abbrev pub invariant-loop-head : goal.invariant-loop-head

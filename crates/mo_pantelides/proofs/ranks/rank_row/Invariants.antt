@@ -2,7 +2,7 @@ use Rattle.std.proofs.Common.{ℕ, ◌<◌, ◌≢◌, slice_index}
 use Rattle.mo_incidence.specs.Signature.{equations}
 use Rattle.mo_incidence.specs.Offsets.{by_place, by_number}
 use Rattle.mo_incidence.specs.Reasons.{LeadsTo}
-use Rattle.mo_pantelides.specs.Ranks.{IsRanking, IsNear, RanksOn}
+use Rattle.mo_pantelides.specs.steps.Ranks.{IsRanking, IsNear, RanksOn}
 use Rattle.mo_pantelides.proofs.ranks.rank_row.Given as goal
 
 abbrev pub invariant-loop-n : goal.invariant-loop-n

@@ -1,5 +1,5 @@
 use Rattle.mo_incidence.specs.Offsets.{by_place, by_number}
-use Rattle.mo_pantelides.specs.Ranks.{IsStarting}
+use Rattle.mo_pantelides.specs.steps.Ranks.{IsStarting}
 use Rattle.mo_pantelides.proofs.ranks.start_ranks.Given as goal
 
 abbrev pub invariant-loop-i : goal.invariant-loop-i

@@ -1,6 +1,6 @@
 use Rattle.std.proofs.Common.{◌≡◌, ◌+◌, ◌-◌, ◌*◌}
 use Rattle.mo_incidence.specs.Signature.{equations, entries}
-use Rattle.mo_pantelides.specs.Seeking.{IsSeeking, looked}
+use Rattle.mo_pantelides.specs.steps.Seeking.{IsSeeking, looked}
 use Rattle.mo_pantelides.proofs.seek.seek.Given as goal
 
 abbrev pub invariant-on : goal.invariant-on

@@ -1,7 +1,7 @@
 use Rattle.std.proofs.Common.{◌≤◌, ◌+◌, ◌*◌}
 use Rattle.mo_incidence.specs.Signature.{equations, entries}
 use Rattle.mo_match.specs.Searching.{Uses, tight_of, IsTree}
-use Rattle.mo_pantelides.specs.Fixing.{IsFixedTo}
+use Rattle.mo_pantelides.specs.steps.Fixing.{IsFixedTo}
 use Rattle.mo_pantelides.proofs.transversal.fix_all.Given as goal
 
 abbrev pub invariant-loop-root : goal.invariant-loop-root

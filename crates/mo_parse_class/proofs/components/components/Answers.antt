@@ -7,7 +7,7 @@ use Rattle.mo_grammar.specs.Forms.{behind}
 use Rattle.mo_grammar.specs.Classes.{component, components}
 use Rattle.mo_grammar.proofs.Loops.{turn}
 use Rattle.mo_class_heads.specs.Left.{limits}
-use Rattle.mo_parse_class.specs.Parts.{what_of}
+use Rattle.mo_parse_class.specs.steps.Parts.{what_of}
 use Rattle.mo_grammar.specs.ClassTrees.{whats_of_components}
 use Rattle.mo_grammar.specs.Language.{reads_form}
 use Rattle.mo_grammar.specs.Answers.{with_rest}

@@ -8,7 +8,7 @@ use Rattle.mo_grammar.specs.Reading.{read}
 use Rattle.mo_grammar.specs.Language.{reads_form}
 use Rattle.mo_grammar.proofs.Loops.{with_front}
 use Rattle.mo_class_heads.specs.Left.{limits}
-use Rattle.mo_parse_class.specs.Parts.{Head, head, what_of}
+use Rattle.mo_parse_class.specs.steps.Parts.{Head, head, what_of}
 use Rattle.mo_parse_class.proofs.components.components.Given as goal
 
 abbrev pub invariant-each : goal.invariant-each

@@ -1,6 +1,6 @@
 use Rattle.std.proofs.Common.{◌≡◌, ◌++◌, map, length}
 use Rattle.std.specs.Vec.Iter.{into_iter_items, into_iter_len}
-use Rattle.mo_parse_class.specs.Parts.{member_of}
+use Rattle.mo_parse_class.specs.steps.Parts.{member_of}
 use Rattle.mo_parse_class.proofs.elements.member_items.Given as goal
 
 abbrev pub invariant-each : goal.invariant-each

@@ -3,7 +3,7 @@ use Rattle.std.proofs.Common.{refl, arith}
 use Rattle.mo_grammar.specs.Lexeme.{lexemes}
 use Rattle.mo_grammar.proofs.Loops.{turn}
 use Rattle.mo_class_heads.specs.Left.{limits}
-use Rattle.mo_parse_class.specs.Parts.{definition}
+use Rattle.mo_parse_class.specs.steps.Parts.{definition}
 use Rattle.mo_parse_class.proofs.file.definitions.Goals as goal
 
 pub each-preserved : goal.each-preserved

@@ -4,7 +4,7 @@ use Rattle.mo_grammar.specs.Grammar.{many}
 use Rattle.mo_grammar.specs.Language.{reads_form}
 use Rattle.mo_grammar.proofs.Loops.{with_front}
 use Rattle.mo_class_heads.specs.Left.{limits}
-use Rattle.mo_parse_class.specs.Parts.{definition}
+use Rattle.mo_parse_class.specs.steps.Parts.{definition}
 use Rattle.mo_parse_class.proofs.file.definitions.Given as goal
 
 abbrev pub invariant-each : goal.invariant-each

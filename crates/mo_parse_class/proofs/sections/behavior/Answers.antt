@@ -4,7 +4,7 @@ use Rattle.mo_grammar.specs.Lexeme.{lexemes}
 use Rattle.mo_grammar.specs.Symbols.{Sections}
 use Rattle.mo_grammar.specs.Language.{reads}
 use Rattle.mo_class_heads.specs.Left.{limits}
-use Rattle.mo_parse_class.specs.Parts.{with_items}
+use Rattle.mo_parse_class.specs.steps.Parts.{with_items}
 use Rattle.mo_parse_class.proofs.SectionLists.{equations_is, algorithm_is}
 use Rattle.mo_parse_class.proofs.sections.behavior.Goals as goal
 

@@ -7,7 +7,7 @@ use Rattle.mo_grammar.specs.Forms.{before}
 use Rattle.mo_grammar.specs.Symbols.{EquationItems, Sections, SectionEquations}
 use Rattle.mo_grammar.specs.Language.{reads, reads_form}
 use Rattle.mo_grammar.specs.Answers.{with_rest}
-use Rattle.mo_parse_class.specs.Parts.{before_sections}
+use Rattle.mo_parse_class.specs.steps.Parts.{before_sections}
 use Rattle.mo_parse_class.proofs.Passed.{stuck_passed, stuck_there}
 use Rattle.mo_class_heads.specs.Left.{limits}
 use Rattle.mo_parse_class.proofs.SectionLists.{equations_turn, equations_done, equations_stuck}

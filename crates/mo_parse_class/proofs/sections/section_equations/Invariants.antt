@@ -3,7 +3,7 @@ use Rattle.mo_grammar.specs.Lexeme.{lexemes}
 use Rattle.mo_grammar.specs.Language.{reads}
 use Rattle.mo_grammar.specs.Symbols.{SectionEquations}
 use Rattle.mo_class_heads.specs.Left.{limits}
-use Rattle.mo_parse_class.specs.Parts.{with_equations}
+use Rattle.mo_parse_class.specs.steps.Parts.{with_equations}
 use Rattle.mo_parse_class.proofs.sections.section_equations.Given as goal
 
 abbrev pub invariant-each : goal.invariant-each

@@ -8,8 +8,8 @@ use Rattle.mo_scope.specs.Redeclarations.{each_checked}
 use Rattle.mo_scope.specs.Worlds.{frames_of, member_in, table_in}
 use Rattle.mo_names.proofs.Later.{grows_trans}
 use Rattle.mo_redeclare.specs.declared.spoken.Named.{Named}
-use Rattle.mo_redeclare.specs.Sights.{IsNamed, named_seen}
-use Rattle.mo_redeclare.specs.Steps.{found_checked}
+use Rattle.mo_redeclare.specs.steps.Sights.{IsNamed, named_seen}
+use Rattle.mo_redeclare.specs.steps.Comparing.{found_checked}
 use Rattle.mo_redeclare.proofs.Outcomes.{err_on, every_at, left_from, then_ok}
 use Rattle.mo_redeclare.proofs.Later.{checked_before}
 use Rattle.mo_redeclare.proofs.check.each_checked_in.Goals as goal

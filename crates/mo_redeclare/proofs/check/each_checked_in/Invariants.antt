@@ -2,8 +2,8 @@
 use Rattle.std.proofs.Common.{◌≡◌, drop, map}
 use Rattle.mo_scope.specs.Redeclarations.{each_checked}
 use Rattle.mo_scope.specs.Worlds.{Grows, frames_of, member_in, table_in}
-use Rattle.mo_redeclare.specs.Sights.{named_seen}
-use Rattle.mo_redeclare.specs.Steps.{found_checked}
+use Rattle.mo_redeclare.specs.steps.Sights.{named_seen}
+use Rattle.mo_redeclare.specs.steps.Comparing.{found_checked}
 use Rattle.mo_redeclare.proofs.check.each_checked_in.Given as goal
 
 abbrev pub invariant-loop-one : goal.invariant-loop-one

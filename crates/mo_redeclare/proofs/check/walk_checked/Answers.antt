@@ -3,7 +3,7 @@ use Rattle.std.proofs.Common.{◌≡◌, List, map, ap, sym, subst, ◌∙◌}
 use Rattle.mo_scope.specs.Outcome.{Gives}
 use Rattle.mo_scope.specs.Places.{Every}
 use Rattle.mo_scope.specs.Worlds.{frames_of}
-use Rattle.mo_redeclare.specs.Sights.{IsKept, entry_of, named_seen}
+use Rattle.mo_redeclare.specs.steps.Sights.{IsKept, entry_of, named_seen}
 use Rattle.mo_redeclare.proofs.Checking.{walk_is}
 use Rattle.mo_redeclare.proofs.Tables.{all_kept}
 use Rattle.mo_redeclare.proofs.check.walk_checked.Goals as goal

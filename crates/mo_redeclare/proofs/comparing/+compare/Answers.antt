@@ -6,8 +6,8 @@ use Rattle.mo_redeclare.proofs.Later.{are_kept_later, matched_before}
 use Rattle.mo_redeclare.proofs.Matching.{nothing_matches, one_matches, leaves_first, compared_further, none_left, pair_left}
 use Rattle.mo_redeclare.proofs.Outcomes.{err_on, every_at, left_from, then_ok}
 use Rattle.mo_redeclare.proofs.Tables.{all_kept, every_filter, matched_open, members_are, open_twice}
-use Rattle.mo_redeclare.specs.Sights.{IsKept, entry_of, is_open}
-use Rattle.mo_redeclare.specs.Steps.{element_matched, leaves_compared, components_compared}
+use Rattle.mo_redeclare.specs.steps.Sights.{IsKept, entry_of, is_open}
+use Rattle.mo_redeclare.specs.steps.Comparing.{element_matched, leaves_compared, components_compared}
 use Rattle.mo_scope.specs.Compatible.{compatible_from, are_matched, Pairs}
 use Rattle.mo_scope.specs.Frames.{Member}
 use Rattle.mo_scope.specs.Lookup.{Walked, members_in}

@@ -6,7 +6,7 @@ use Rattle.mo_scope.specs.Rows.{Table}
 use Rattle.mo_scope.specs.Sizes.{count_sizes, sizes_from, type_sizes}
 use Rattle.mo_scope.specs.Worlds.{frame_at, frames_of, table_in}
 use Rattle.mo_names.proofs.Later.{grows_trans, table_later}
-use Rattle.mo_redeclare.specs.Ways.{step_of, step_seen}
+use Rattle.mo_redeclare.specs.steps.Ways.{step_of, step_seen}
 use Rattle.mo_redeclare.proofs.Counting.{none_counts, step_more, step_none}
 use Rattle.mo_redeclare.proofs.dims.type_count.Goals as goal
 

@@ -1,7 +1,7 @@
 -- The table has the public components so far.
 use Rattle.std.proofs.Common.{◌≡◌, map, take}
 use Rattle.std.specs.Prelude.{filter}
-use Rattle.mo_redeclare.specs.Sights.{entry_of, is_open}
+use Rattle.mo_redeclare.specs.steps.Sights.{entry_of, is_open}
 use Rattle.mo_redeclare.proofs.known.open_components.Given as goal
 
 abbrev pub invariant-loop-inherited : goal.invariant-loop-inherited

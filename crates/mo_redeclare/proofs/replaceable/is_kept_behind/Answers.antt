@@ -3,7 +3,7 @@ use Rattle.std.proofs.Common.{◌≡◌, ◌+◌, Bool, true, false, List, [], d
 use Rattle.std.proofs.lemmas.List.{drop_all}
 use Rattle.mo_scope.specs.declared.saying.Redeclaration.{Redeclaration as RedeclarationAt}
 use Rattle.mo_scope.specs.Sights.{redeclaration_in}
-use Rattle.mo_redeclare.specs.Steps.{kept_behind}
+use Rattle.mo_redeclare.specs.steps.Comparing.{kept_behind}
 use Rattle.mo_redeclare.proofs.Kept.{ended, kept_on, left}
 use Rattle.mo_redeclare.proofs.replaceable.is_kept_behind.Goals as goal
 

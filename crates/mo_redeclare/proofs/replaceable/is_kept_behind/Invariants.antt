@@ -2,7 +2,7 @@
 use Rattle.std.proofs.Common.{◌≡◌, List, false, drop, map}
 use Rattle.mo_scope.specs.Frames.{Frame}
 use Rattle.mo_scope.specs.Sights.{redeclaration_in}
-use Rattle.mo_redeclare.specs.Steps.{kept_behind}
+use Rattle.mo_redeclare.specs.steps.Comparing.{kept_behind}
 use Rattle.mo_redeclare.proofs.replaceable.is_kept_behind.Given as goal
 
 abbrev pub invariant-loop-redeclaration : goal.invariant-loop-redeclaration

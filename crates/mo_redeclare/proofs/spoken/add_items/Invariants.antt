@@ -6,8 +6,8 @@ use Rattle.mo_scope.specs.Rows.{replacing_in}
 use Rattle.mo_scope.specs.Sights.{source_seen}
 use Rattle.mo_scope.specs.Spoken.{spoken_element}
 use Rattle.mo_scope.specs.Worlds.{frames_of, source_in, table_in}
-use Rattle.mo_redeclare.specs.Sights.{IsNamed, named_seen}
-use Rattle.mo_redeclare.specs.Steps.{redeclares_in}
+use Rattle.mo_redeclare.specs.steps.Sights.{IsNamed, named_seen}
+use Rattle.mo_redeclare.specs.steps.Comparing.{redeclares_in}
 use Rattle.mo_redeclare.proofs.spoken.add_items.Given as goal
 
 abbrev pub invariant-loop-item : goal.invariant-loop-item

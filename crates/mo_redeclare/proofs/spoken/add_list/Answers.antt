@@ -7,8 +7,8 @@ use Rattle.mo_scope.specs.Sights.{source_seen}
 use Rattle.mo_scope.specs.Spoken.{spoken_argument}
 use Rattle.mo_scope.specs.Worlds.{frames_of, source_in, table_in}
 use Rattle.mo_scope.proofs.Sayings.{gathered_more, gathered_all}
-use Rattle.mo_redeclare.specs.Sights.{IsNamed, named_seen}
-use Rattle.mo_redeclare.specs.Steps.{redeclares_in}
+use Rattle.mo_redeclare.specs.steps.Sights.{IsNamed, named_seen}
+use Rattle.mo_redeclare.specs.steps.Comparing.{redeclares_in}
 use Rattle.mo_redeclare.proofs.Speaking.{put_more, put_exist}
 use Rattle.mo_redeclare.proofs.spoken.add_list.Goals as goal
 

@@ -7,8 +7,8 @@ use Rattle.mo_scope.specs.Rows.{replacing_in}
 use Rattle.mo_scope.specs.Sights.{given_seen, modifiers_seen, source_seen}
 use Rattle.mo_scope.specs.Spoken.{spoken_argument, spoken_rest}
 use Rattle.mo_scope.specs.Worlds.{frames_of, source_in, table_in}
-use Rattle.mo_redeclare.specs.Sights.{named_seen}
-use Rattle.mo_redeclare.specs.Steps.{redeclares_in}
+use Rattle.mo_redeclare.specs.steps.Sights.{named_seen}
+use Rattle.mo_redeclare.specs.steps.Comparing.{redeclares_in}
 use Rattle.mo_redeclare.proofs.Speaking.{put_more, listed_speaks, argued_speaks, replacing_speaks}
 use Rattle.mo_redeclare.proofs.spoken.add_source.Goals as goal
 

@@ -7,8 +7,8 @@ use Rattle.mo_scope.specs.Sights.{source_seen}
 use Rattle.mo_scope.specs.Spoken.{spoken_of}
 use Rattle.mo_scope.specs.Worlds.{SourceEntry, frames_of, source_in, sources_in, table_in}
 use Rattle.mo_scope.proofs.Sayings.{gathered_more, gathered_all, flat_map-flat_map}
-use Rattle.mo_redeclare.specs.Sights.{named_seen}
-use Rattle.mo_redeclare.specs.Steps.{redeclares_in, redeclares_of}
+use Rattle.mo_redeclare.specs.steps.Sights.{named_seen}
+use Rattle.mo_redeclare.specs.steps.Comparing.{redeclares_in, redeclares_of}
 use Rattle.mo_redeclare.proofs.Speaking.{source_exists}
 use Rattle.mo_redeclare.proofs.spoken.redeclared_in.Goals as goal
 

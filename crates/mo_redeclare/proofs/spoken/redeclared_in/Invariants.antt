@@ -4,8 +4,8 @@ use Rattle.mo_scope.specs.Places.{Every}
 use Rattle.mo_scope.specs.Sights.{source_seen}
 use Rattle.mo_scope.specs.Spoken.{spoken_of}
 use Rattle.mo_scope.specs.Worlds.{frames_of, source_in, table_in}
-use Rattle.mo_redeclare.specs.Sights.{IsNamed, named_seen}
-use Rattle.mo_redeclare.specs.Steps.{redeclares_in}
+use Rattle.mo_redeclare.specs.steps.Sights.{IsNamed, named_seen}
+use Rattle.mo_redeclare.specs.steps.Comparing.{redeclares_in}
 use Rattle.mo_redeclare.proofs.spoken.redeclared_in.Given as goal
 
 abbrev pub invariant-loop-source : goal.invariant-loop-source

@@ -6,7 +6,7 @@ use Rattle.mo_scope.specs.Rows.{Declares}
 use Rattle.mo_scope.specs.Sights.{declares_seen, source_seen}
 use Rattle.mo_scope.specs.Spoken.{spoken_element}
 use Rattle.mo_scope.specs.Worlds.{frames_of, source_in, table_in}
-use Rattle.mo_redeclare.specs.Steps.{redeclares_in}
+use Rattle.mo_redeclare.specs.steps.Comparing.{redeclares_in}
 use Rattle.mo_redeclare.proofs.Speaking.{element_speaks}
 use Rattle.mo_redeclare.proofs.spoken.spoken_element.Goals as goal
 

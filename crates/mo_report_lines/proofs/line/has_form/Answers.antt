@@ -1,5 +1,5 @@
 use Rattle.std.proofs.Common.{sym, ◌∙◌}
-use Rattle.mo_report_lines.specs.Reading.{fields_in}
+use Rattle.mo_report_lines.specs.steps.Reading.{fields_in}
 use Rattle.mo_report_lines.proofs.Forms.{all_left, field_left, no_field_left, form_ends, form_goes_on}
 use Rattle.mo_report_lines.proofs.line.has_form.Goals as goal
 

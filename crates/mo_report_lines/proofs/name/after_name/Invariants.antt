@@ -1,6 +1,6 @@
 use Rattle.std.proofs.Common.{length}
 use Rattle.mo_report_lines.specs.Grammar.{IsPart}
-use Rattle.mo_report_lines.specs.Reading.{in_name}
+use Rattle.mo_report_lines.specs.steps.Reading.{in_name}
 use Rattle.mo_report_lines.proofs.Separated.{GoesOn}
 use Rattle.mo_report_lines.proofs.name.after_name.Given as goal
 

@@ -1,6 +1,6 @@
 use Rattle.std.proofs.Common.{length}
 use Rattle.mo_report_lines.specs.Grammar.{IsNumber}
-use Rattle.mo_report_lines.specs.Reading.{in_numbers}
+use Rattle.mo_report_lines.specs.steps.Reading.{in_numbers}
 use Rattle.mo_report_lines.proofs.Separated.{GoesOn}
 use Rattle.mo_report_lines.proofs.number.after_numbers.Given as goal
 

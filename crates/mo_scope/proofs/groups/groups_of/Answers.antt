@@ -1,7 +1,7 @@
 -- One more class.
 use Rattle.std.proofs.Common.{map, ap, ◌∙◌, ◌++◌, take_all, arith}
 use Rattle.mo_scope.specs.Held.{placed_by, placed_among}
-use Rattle.mo_scope.specs.Listed.{class_seen}
+use Rattle.mo_scope.specs.steps.Listed.{class_seen}
 use Rattle.mo_scope.specs.Rows.{placed_part}
 use Rattle.mo_scope.proofs.Keys.{placed_more}
 use Rattle.mo_scope.proofs.groups.groups_of.Goals as goal

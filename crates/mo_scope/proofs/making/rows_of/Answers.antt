@@ -1,6 +1,6 @@
 -- One more row.
 use Rattle.mo_scope.specs.Held.{number_held, group_held, row_with}
-use Rattle.mo_scope.specs.Listed.{class_seen}
+use Rattle.mo_scope.specs.steps.Listed.{class_seen}
 use Rattle.mo_scope.specs.Sights.{row_seen}
 use Rattle.mo_scope.proofs.Keys.{mapped_more}
 use Rattle.mo_scope.proofs.making.rows_of.Goals as goal

@@ -1,7 +1,7 @@
 -- The rows so far.
 use Rattle.std.proofs.Common.{◌≡◌, map, take}
 use Rattle.mo_scope.specs.Held.{number_held, group_held, row_with}
-use Rattle.mo_scope.specs.Listed.{class_seen}
+use Rattle.mo_scope.specs.steps.Listed.{class_seen}
 use Rattle.mo_scope.specs.Sights.{row_seen}
 use Rattle.mo_scope.proofs.making.rows_of.Given as goal
 

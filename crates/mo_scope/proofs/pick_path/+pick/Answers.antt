@@ -9,7 +9,7 @@ use Rattle.mo_syntax.specs.declared.class.Item.{Item}
 use Rattle.mo_scope.specs.declared.source.Picked.{Picked as PickedAt}
 use Rattle.mo_scope.specs.Frames.{Listed, Scope}
 use Rattle.mo_scope.specs.Parts.{Saying, declared_in, said_by_argument, said_by_element, said_further, said_in_list}
-use Rattle.mo_scope.specs.Picks.{View, name_at, or_else, picked_said}
+use Rattle.mo_scope.specs.steps.Picks.{View, name_at, or_else, picked_said}
 use Rattle.mo_scope.specs.Rows.{number_of_element, replacing_in}
 use Rattle.mo_scope.specs.Sights.{given_seen, modifiers_seen, picked_in}
 use Rattle.mo_scope.proofs.PathPicking.{anew, brings, brings_same, by_given, found_here, found_nowhere, is_none, kept_less, kept_set, listed, modifies, passed_here, said_argued, said_left, said_list}

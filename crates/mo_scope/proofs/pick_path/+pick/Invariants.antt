@@ -2,7 +2,7 @@
 use Rattle.std.proofs.Common.{◌≡◌, ◌+◌, ◌-◌, ◌*◌, ◌++◌, List, drop, flat_map, length, take, []}
 use Rattle.mo_scope.specs.Frames.{Frame, Source}
 use Rattle.mo_scope.specs.Parts.{Saying, said_by_argument, said_by_elements}
-use Rattle.mo_scope.specs.Picks.{name_at, picked_said, view_in, view_of}
+use Rattle.mo_scope.specs.steps.Picks.{name_at, picked_said, view_in, view_of}
 use Rattle.mo_scope.specs.Rows.{Table, replacing_in}
 use Rattle.mo_scope.proofs.pick_path.+pick.Given as goal
 

@@ -2,7 +2,7 @@
 use Rattle.std.proofs.Common.{Bool, List, length, map, true, ap, sym, ◌∙◌}
 use Rattle.std.proofs.lemmas.List.{drop_all, length-map}
 use Rattle.mo_scope.specs.declared.source.Source.{Source as SourceAt}
-use Rattle.mo_scope.specs.Picks.{picked_with}
+use Rattle.mo_scope.specs.steps.Picks.{picked_with}
 use Rattle.mo_scope.specs.Sights.{source_seen}
 use Rattle.mo_scope.specs.Worlds.{sources_in}
 use Rattle.mo_scope.proofs.PathPicking.{all_win, nothing_picked}

@@ -2,7 +2,7 @@
 use Rattle.std.proofs.Common.{◌≡◌, List, drop, length, map}
 use Rattle.mo_scope.specs.Frames.{Frame}
 use Rattle.mo_scope.specs.Parts.{picked}
-use Rattle.mo_scope.specs.Picks.{picked_with}
+use Rattle.mo_scope.specs.steps.Picks.{picked_with}
 use Rattle.mo_scope.specs.Rows.{Table}
 use Rattle.mo_scope.specs.Sights.{source_seen}
 use Rattle.mo_scope.specs.Worlds.{sources_in}

@@ -1,10 +1,10 @@
 -- What is listed of each part.
 use Rattle.mo_syntax.specs.Classes.{Apart, outline_of_element}
-use Rattle.mo_syntax.specs.Parts.{outline_of_class}
+use Rattle.mo_syntax.specs.steps.Parts.{outline_of_class}
 use Rattle.mo_syntax.proofs.Outlines.{at_Short, at_Enumeration, at_Der, at_Modify, at_Redeclare, at_Replaceable, at_Import, at_Extends, at_Member, at_Equations, at_Algorithm, at_Class}
 use Rattle.std.proofs.Common.{false, map}
 use Rattle.mo_scope.specs.Sights.{home_seen}
-use Rattle.mo_scope.specs.Listed.{class_seen}
+use Rattle.mo_scope.specs.steps.Listed.{class_seen}
 use Rattle.mo_scope.proofs.WalkSteps.{lists_nothing, in_long, in_mods, in_same, in_component, in_limited, unlimited}
 use Rattle.mo_scope.proofs.walk.+walk.Goals as goal
 

@@ -4,7 +4,7 @@ use Rattle.mo_syntax.specs.Classes.{Apart, each, outline_of_give, outline_of_ite
 use Rattle.std.specs.List.{flat_map}
 use Rattle.mo_scope.specs.Rows.{entry_in}
 use Rattle.mo_scope.specs.Sights.{home_seen}
-use Rattle.mo_scope.specs.Listed.{class_seen}
+use Rattle.mo_scope.specs.steps.Listed.{class_seen}
 use Rattle.mo_scope.proofs.walk.+walk.Given as goal
 
 abbrev pub invariant-of_items-loop-item : goal.invariant-of_items-loop-item

@@ -3,7 +3,7 @@ use Rattle.std.proofs.Common.{◌≡◌, ◌++◌, map, drop}
 use Rattle.std.specs.List.{flat_map}
 use Rattle.mo_syntax.specs.Classes.{Apart, each}
 use Rattle.mo_syntax.specs.ClassTable.{in_file}
-use Rattle.mo_scope.specs.Listed.{class_seen}
+use Rattle.mo_scope.specs.steps.Listed.{class_seen}
 use Rattle.mo_scope.specs.Rows.{entry_in, entries_of}
 use Rattle.mo_scope.proofs.walk.classes_of.Given as goal
 

@@ -1,11 +1,11 @@
 -- What is left to list.
 use Rattle.std.proofs.Common.{◌≡◌, ◌+◌, ◌++◌, map, true, drop}
 use Rattle.mo_syntax.specs.Classes.{each}
-use Rattle.mo_syntax.specs.Parts.{outline_of_class}
+use Rattle.mo_syntax.specs.steps.Parts.{outline_of_class}
 use Rattle.std.specs.List.{flat_map}
 use Rattle.mo_scope.specs.Rows.{entry_in}
 use Rattle.mo_scope.specs.Sights.{home_seen}
-use Rattle.mo_scope.specs.Listed.{class_seen}
+use Rattle.mo_scope.specs.steps.Listed.{class_seen}
 use Rattle.mo_scope.proofs.walk.of_classes.Given as goal
 
 abbrev pub invariant-loop-class : goal.invariant-loop-class

@@ -1,6 +1,6 @@
 use Rattle.mo_incidence.specs.Offsets.{by_place, by_number}
 use Rattle.mo_select.specs.Levels.{levels_of}
-use Rattle.mo_select.specs.Staging.{AreWhole}
+use Rattle.mo_select.specs.steps.Staging.{AreWhole}
 use Rattle.mo_select.proofs.LowLevels.{levels-low}
 use Rattle.mo_select.proofs.Stages.{chosen-known, stages-nested}
 use Rattle.mo_select.proofs.Counts.{dummies-count, states-whole}

@@ -2,7 +2,7 @@ use Rattle.std.proofs.Common.{◌≡◌, ◌-◌, ℕ, suc, length, slice_index}
 use Rattle.mo_incidence.specs.Signature.{equations}
 use Rattle.mo_incidence.specs.Offsets.{by_place, by_number}
 use Rattle.mo_incidence.specs.Dummies.{greatest}
-use Rattle.mo_select.specs.Staging.{AreMadeTo}
+use Rattle.mo_select.specs.steps.Staging.{AreMadeTo}
 use Rattle.mo_select.proofs.choose.stages.Given as goal
 
 abbrev pub invariant-on : goal.invariant-on

@@ -1,4 +1,4 @@
-use Rattle.mo_select.specs.Growing.{IsGrownTo}
+use Rattle.mo_select.specs.steps.Growing.{IsGrownTo}
 use Rattle.mo_select.proofs.grow.grow_all.Given as goal
 
 abbrev pub invariant-loop-root : goal.invariant-loop-root

@@ -1,5 +1,5 @@
 use Rattle.std.proofs.Common.{◌≡◌, ◌≢◌, ◌+◌, ◌-◌, suc, slice_index_or, sym, ◌∙◌, arith}
-use Rattle.mo_select.specs.Staging.{taken}
+use Rattle.mo_select.specs.steps.Staging.{taken}
 use Rattle.mo_select.proofs.Picking.{taken-low, chosen-skip, chosen-take}
 use Rattle.mo_select.proofs.stage.chosen_among.Goals as goal
 

@@ -1,6 +1,6 @@
 use Rattle.std.proofs.Common.{◌≡◌, ◌++◌, drop}
 use Rattle.mo_select.specs.Selection.{chosen_of}
-use Rattle.mo_select.specs.Staging.{taken}
+use Rattle.mo_select.specs.steps.Staging.{taken}
 use Rattle.mo_select.proofs.stage.chosen_among.Given as goal
 
 abbrev pub invariant-loop-candidate : goal.invariant-loop-candidate

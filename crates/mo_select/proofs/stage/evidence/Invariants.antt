@@ -1,5 +1,5 @@
 use Rattle.mo_incidence.specs.Offsets.{by_place, by_number}
-use Rattle.mo_select.specs.Staging.{AreEvidence}
+use Rattle.mo_select.specs.steps.Staging.{AreEvidence}
 use Rattle.mo_select.proofs.stage.evidence.Given as goal
 
 abbrev pub invariant-loop-end : goal.invariant-loop-end

@@ -1,5 +1,5 @@
 use Rattle.std.proofs.Common.{◌≡◌, ℕ, ap, ◌∙◌, arith}
-use Rattle.mo_incidence.specs.Given.{given}
+use Rattle.mo_incidence.specs.steps.Given.{given}
 use Rattle.mo_incidence.specs.Offsets.{by_place, by_number}
 use Rattle.mo_select.proofs.Opening.{left-out-are, left-out-known}
 use Rattle.mo_select.proofs.stage.left_out.Goals as goal

@@ -1,5 +1,5 @@
 use Rattle.std.proofs.Common.{◌≡◌, ℕ, [], length, get_or}
-use Rattle.mo_select.specs.Ties.{entries_in}
+use Rattle.mo_select.specs.steps.Ties.{entries_in}
 use Rattle.mo_select.proofs.ties.empty_rows.Given as goal
 
 abbrev pub invariant-loop-t : goal.invariant-loop-t

@@ -1,5 +1,5 @@
 use Rattle.mo_incidence.specs.Offsets.{by_place, by_number}
-use Rattle.mo_select.specs.Ties.{IsOpenRow}
+use Rattle.mo_select.specs.steps.Ties.{IsOpenRow}
 use Rattle.mo_select.proofs.ties.open_row.Given as goal
 
 abbrev pub invariant-loop-k : goal.invariant-loop-k

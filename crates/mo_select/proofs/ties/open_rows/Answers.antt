@@ -1,6 +1,6 @@
 use Rattle.std.proofs.Common.{◌≡◌, ◌++◌, ◌∷◌, ℕ, [], length, ap, ◌∙◌, refl, arith, Vec, Global}
 use Rattle.std.proofs.lemmas.List.{map-append, length_push}
-use Rattle.mo_select.specs.Ties.{entries_in}
+use Rattle.mo_select.specs.steps.Ties.{entries_in}
 use Rattle.mo_select.proofs.Opening.{open-rows-none, open-rows-push}
 use Rattle.mo_select.proofs.ties.open_rows.Goals as goal
 

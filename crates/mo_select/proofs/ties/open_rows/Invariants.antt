@@ -1,6 +1,6 @@
 use Rattle.std.proofs.Common.{◌≡◌, length}
 use Rattle.mo_incidence.specs.Offsets.{by_place, by_number}
-use Rattle.mo_select.specs.Ties.{entries_in, AreOpenRows}
+use Rattle.mo_select.specs.steps.Ties.{entries_in, AreOpenRows}
 use Rattle.mo_select.proofs.ties.open_rows.Given as goal
 
 abbrev pub invariant-loop-place : goal.invariant-loop-place

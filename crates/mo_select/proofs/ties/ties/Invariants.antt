@@ -1,5 +1,5 @@
 use Rattle.mo_incidence.specs.Offsets.{by_place, by_number}
-use Rattle.mo_select.specs.Ties.{entries_in, HasTies}
+use Rattle.mo_select.specs.steps.Ties.{entries_in, HasTies}
 use Rattle.mo_select.proofs.ties.ties.Given as goal
 
 abbrev pub invariant-loop-e : goal.invariant-loop-e

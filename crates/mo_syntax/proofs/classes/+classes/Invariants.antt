@@ -1,6 +1,6 @@
 -- What was counted so far, and how deep each function goes.
 use Rattle.std.proofs.Common.{◌≡◌, ◌+◌, ◌*◌, ◌-◌, ◌^◌, min, sum_by, take}
-use Rattle.mo_syntax.specs.Parts.{classes_in_give, classes_in_item}
+use Rattle.mo_syntax.specs.steps.Parts.{classes_in_give, classes_in_item}
 use Rattle.mo_syntax.proofs.classes.+classes.Given as goal
 
 abbrev pub invariant-of_items-loop-item : goal.invariant-of_items-loop-item

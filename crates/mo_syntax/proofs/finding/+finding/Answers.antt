@@ -5,7 +5,7 @@ use Rattle.mo_syntax.specs.declared.class.Body.{the_lemmas as body_lemmas}
 use Rattle.mo_syntax.specs.declared.class.Element.{the_lemmas as element_lemmas}
 use Rattle.mo_syntax.specs.declared.class.Item.{the_lemmas as item_lemmas}
 use Rattle.mo_syntax.specs.Classes.{Under, outline_of_item}
-use Rattle.mo_syntax.specs.Parts.{classes_in_item, classes_in_what}
+use Rattle.mo_syntax.specs.steps.Parts.{classes_in_item, classes_in_what}
 use Rattle.mo_syntax.specs.Rows.{row_of}
 use Rattle.mo_syntax.proofs.ClassCounts.{of_Element, of_Class, of_Member}
 use Rattle.mo_syntax.proofs.Found.{in_Short, in_Enumeration, in_Der, in_Member, in_Import, in_Extends, in_Equations, in_Algorithm, in_redeclared, in_kept_class, in_kept_component, missed, found, below, goes_on, stops, counted, counts_on, front_of, long_few, long_rows}

@@ -2,7 +2,7 @@
 use Rattle.std.proofs.Common.{◌≡◌, ◌+◌, ◌*◌, sum_by, take, drop}
 use Rattle.mo_syntax.specs.Classes.{Under, each, outline_of_item}
 use Rattle.mo_syntax.specs.ClassTable.{first_row}
-use Rattle.mo_syntax.specs.Parts.{classes_in_item}
+use Rattle.mo_syntax.specs.steps.Parts.{classes_in_item}
 use Rattle.mo_syntax.proofs.finding.+finding.Given as goal
 
 abbrev pub invariant-in_items-loop-item : goal.invariant-in_items-loop-item

@@ -3,7 +3,7 @@ use Rattle.std.proofs.Common.{◌≡◌, ◌+◌, ◌∷◌, drop, ◌∙◌, sy
 use Rattle.std.specs.Option.{option_map}
 use Rattle.mo_syntax.specs.Classes.{Apart}
 use Rattle.mo_syntax.specs.ClassTable.{in_file}
-use Rattle.mo_syntax.specs.Parts.{classes_in_file}
+use Rattle.mo_syntax.specs.steps.Parts.{classes_in_file}
 use Rattle.mo_syntax.specs.Rows.{row_of}
 use Rattle.mo_syntax.proofs.ClassCounts.{files}
 use Rattle.mo_syntax.proofs.Found.{goes_on, stops, counted, counts_on, counts_few, front_of}

@@ -2,7 +2,7 @@
 use Rattle.std.proofs.Common.{◌≡◌, ◌+◌, sum_by, drop}
 use Rattle.mo_syntax.specs.Classes.{Apart, each}
 use Rattle.mo_syntax.specs.ClassTable.{class_of_path, first_row, in_file}
-use Rattle.mo_syntax.specs.Parts.{classes_in_file}
+use Rattle.mo_syntax.specs.steps.Parts.{classes_in_file}
 use Rattle.mo_syntax.proofs.finding.find_class.Given as goal
 
 abbrev pub invariant-loop-file : goal.invariant-loop-file

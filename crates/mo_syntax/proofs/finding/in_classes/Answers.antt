@@ -2,7 +2,7 @@
 use Rattle.std.proofs.Common.{◌≡◌, ◌+◌, ◌∷◌, take, drop, true, ◌∙◌, sym, ap}
 use Rattle.std.specs.Option.{option_map}
 use Rattle.mo_syntax.specs.Classes.{Under}
-use Rattle.mo_syntax.specs.Parts.{outline_of_class, classes_in_class}
+use Rattle.mo_syntax.specs.steps.Parts.{outline_of_class, classes_in_class}
 use Rattle.mo_syntax.specs.Rows.{row_of}
 use Rattle.mo_syntax.proofs.Found.{goes_on, stops, counted, counts_on, front_of}
 use Rattle.mo_syntax.proofs.finding.in_classes.Goals as goal

@@ -2,7 +2,7 @@
 use Rattle.std.proofs.Common.{◌≡◌, ◌+◌, true, sum_by, take, drop}
 use Rattle.mo_syntax.specs.Classes.{Under, each}
 use Rattle.mo_syntax.specs.ClassTable.{first_row}
-use Rattle.mo_syntax.specs.Parts.{outline_of_class, classes_in_class}
+use Rattle.mo_syntax.specs.steps.Parts.{outline_of_class, classes_in_class}
 use Rattle.mo_syntax.proofs.finding.in_classes.Given as goal
 
 abbrev pub invariant-loop-class : goal.invariant-loop-class

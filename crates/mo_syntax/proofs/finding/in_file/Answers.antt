@@ -1,6 +1,6 @@
 -- The rows of a file.
 use Rattle.std.proofs.Common.{sum_by, ap, arith}
-use Rattle.mo_syntax.specs.Parts.{classes_in_class}
+use Rattle.mo_syntax.specs.steps.Parts.{classes_in_class}
 use Rattle.mo_syntax.proofs.ClassCounts.{file}
 use Rattle.mo_syntax.proofs.Found.{in_file_passed}
 use Rattle.mo_syntax.proofs.finding.in_file.Goals as goal

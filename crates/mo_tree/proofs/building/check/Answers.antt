@@ -3,7 +3,7 @@ use Rattle.std.proofs.Common.{◌∙◌, ap, sym}
 use Rattle.std.proofs.Math.Path.{fun_ext}
 use Rattle.mo_syntax.proofs.Found.{front_of}
 use Rattle.mo_tree.specs.Keys.{holds}
-use Rattle.mo_tree.specs.Repeats.{files_broken}
+use Rattle.mo_tree.specs.steps.Repeats.{files_broken}
 use Rattle.mo_tree.proofs.Breaking.{tree_alike}
 use Rattle.mo_tree.proofs.Steps.{file_fits}
 use Rattle.mo_tree.proofs.building.check.Goals as goal

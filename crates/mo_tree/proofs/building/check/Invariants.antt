@@ -2,7 +2,7 @@
 use Rattle.std.proofs.Common.{◌≡◌, drop}
 use Rattle.mo_syntax.specs.ClassTable.{broken_tree}
 use Rattle.mo_tree.specs.Keys.{holds}
-use Rattle.mo_tree.specs.Repeats.{files_broken}
+use Rattle.mo_tree.specs.steps.Repeats.{files_broken}
 use Rattle.mo_tree.proofs.building.check.Given as goal
 
 abbrev pub invariant-loop-file : goal.invariant-loop-file

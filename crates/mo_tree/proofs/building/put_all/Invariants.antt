@@ -2,7 +2,7 @@
 use Rattle.std.proofs.Common.{◌≡◌, ℕ, List, length}
 use Rattle.std.specs.Vec.Iter.{into_iter_items, into_iter_len}
 use Rattle.mo_tree.specs.Keys.{holds}
-use Rattle.mo_tree.specs.Repeats.{repeated, with_keys}
+use Rattle.mo_tree.specs.steps.Repeats.{repeated, with_keys}
 use Rattle.mo_tree.proofs.building.put_all.Given as goal
 
 abbrev pub invariant-loop-name : goal.invariant-loop-name

@@ -1,6 +1,6 @@
 -- What is listed of each part.
 use Rattle.mo_syntax.specs.Classes.{Apart, outline_of_element}
-use Rattle.mo_syntax.specs.Parts.{outline_of_class}
+use Rattle.mo_syntax.specs.steps.Parts.{outline_of_class}
 use Rattle.mo_syntax.proofs.Outlines.{at_Short, at_Enumeration, at_Der, at_Modify, at_Redeclare, at_Replaceable, at_Import, at_Extends, at_Member, at_Equations, at_Algorithm, at_Class}
 use Rattle.std.proofs.Common.{false}
 use Rattle.mo_tree.specs.Keys.{home_of}

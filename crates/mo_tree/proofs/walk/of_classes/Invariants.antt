@@ -1,7 +1,7 @@
 -- What is left to list.
 use Rattle.std.proofs.Common.{◌≡◌, ◌+◌, ◌++◌, map, true, drop}
 use Rattle.mo_syntax.specs.Classes.{each}
-use Rattle.mo_syntax.specs.Parts.{outline_of_class}
+use Rattle.mo_syntax.specs.steps.Parts.{outline_of_class}
 use Rattle.mo_tree.specs.Keys.{home_of, name_of}
 use Rattle.mo_tree.proofs.walk.of_classes.Given as goal
 

@@ -1,5 +1,5 @@
 use Rattle.std.proofs.Common.{◌<◌, ◌≤◌, arith, ap}
-use Rattle.mo_alias.specs.Forests.{since_in}
+use Rattle.mo_alias.specs.steps.Forests.{since_in}
 use Rattle.mo_alias.proofs.Latest.{latest-first, latest-init, latest-second, second-early}
 use Rattle.mo_alias.proofs.Reading.{ends-read, parent-read, since-read}
 use Rattle.mo_alias.proofs.trees.Trees.latest.Goals as goal

@@ -1,5 +1,5 @@
 use Rattle.std.proofs.Common.{◌+◌, ◌-◌}
-use Rattle.mo_alias.specs.Forests.{LatestTo, since_in}
+use Rattle.mo_alias.specs.steps.Forests.{LatestTo, since_in}
 use Rattle.mo_alias.proofs.trees.Trees.latest.Given as goal
 
 abbrev pub invariant-loop-a : goal.invariant-loop-a

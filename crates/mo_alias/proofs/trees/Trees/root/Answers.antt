@@ -1,6 +1,6 @@
 use Rattle.std.proofs.Common.{false, arith, subst}
-use Rattle.mo_alias.specs.Climbing.{top}
-use Rattle.mo_alias.specs.Forests.{Reaches}
+use Rattle.mo_alias.specs.steps.Climbing.{top}
+use Rattle.mo_alias.specs.steps.Forests.{Reaches}
 use Rattle.mo_alias.proofs.Reading.{root-step, since-read}
 use Rattle.mo_alias.proofs.Signs.{product-plus}
 use Rattle.mo_alias.proofs.trees.Trees.root.Goals as goal

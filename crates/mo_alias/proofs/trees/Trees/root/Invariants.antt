@@ -1,5 +1,5 @@
 use Rattle.std.proofs.Common.{ℕ, ◌<◌, ◌-◌, Bool, length}
-use Rattle.mo_alias.specs.Forests.{Reaches, since_in}
+use Rattle.mo_alias.specs.steps.Forests.{Reaches, since_in}
 use Rattle.mo_alias.specs.Recognized.{sign_product}
 use Rattle.mo_alias.proofs.trees.Trees.root.Given as goal
 

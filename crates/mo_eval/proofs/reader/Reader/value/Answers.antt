@@ -2,7 +2,7 @@ use Rattle.std.proofs.Common.{ap}
 use Rattle.mo_scope.specs.Worlds.{frames_of}
 use Rattle.mo_eval.specs.Components.{place_of}
 use Rattle.mo_eval.specs.Seen.{resolved_seen}
-use Rattle.mo_eval.specs.Sites.{elements_in}
+use Rattle.mo_eval.specs.steps.Sites.{elements_in}
 use Rattle.mo_eval.specs.Values.{most_references}
 use Rattle.mo_eval.specs.steps.Asking.{value_in}
 use Rattle.mo_eval.proofs.Growing.{gives_as, same_elements}

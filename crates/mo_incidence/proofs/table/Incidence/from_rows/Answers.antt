@@ -1,6 +1,6 @@
 use Rattle.std.proofs.Common.{◌≡◌, ◌+◌, ◌≤◌, ℕ, false, true, List, [], ◌∷◌, ◌++◌, length, sym, ap, ◌∙◌, arith, length-append, subst}
 use Rattle.mo_incidence.specs.Signature.{equations}
-use Rattle.mo_incidence.specs.Given.{given, IsRow}
+use Rattle.mo_incidence.specs.steps.Given.{given, IsRow}
 use Rattle.mo_incidence.proofs.Building.{built-none, built-next, built-end, built-sound, built-flat, row-given, equations-given, sound-row, too-many, IsBuiltTo}
 use Rattle.mo_incidence.proofs.table.Incidence.from_rows.Goals as goal
 

@@ -1,4 +1,4 @@
-use Rattle.mo_incidence.specs.Given.{given}
+use Rattle.mo_incidence.specs.steps.Given.{given}
 use Rattle.mo_incidence.proofs.Building.{IsBuiltTo}
 use Rattle.mo_incidence.proofs.table.Incidence.from_rows.Given as goal
 

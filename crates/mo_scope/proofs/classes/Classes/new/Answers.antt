@@ -3,7 +3,7 @@ use Rattle.std.proofs.Common.{◌≡◌, find, map, ap, ◌∙◌}
 use Rattle.std.specs.Prelude.{option_map}
 use Rattle.std.specs.Str.{bytes_eq}
 use Rattle.mo_scope.specs.Held.{number_held, group_held, placed_among, row_with}
-use Rattle.mo_scope.specs.Listed.{class_seen}
+use Rattle.mo_scope.specs.steps.Listed.{class_seen}
 use Rattle.mo_scope.specs.Rows.{number_among, placed_part, table_of, top_classes, entries_of}
 use Rattle.mo_scope.specs.Sights.{row_seen}
 use Rattle.mo_scope.proofs.RowsMade.{number_at_table, rows_made}

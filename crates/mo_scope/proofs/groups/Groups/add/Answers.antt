@@ -2,7 +2,7 @@
 use Rattle.std.proofs.Common.{map, ap, ◌∙◌}
 use Rattle.std.proofs.lemmas.Result.{on_ok_weaker}
 use Rattle.mo_scope.specs.Held.{group_held, path_key}
-use Rattle.mo_scope.specs.Listed.{class_seen}
+use Rattle.mo_scope.specs.steps.Listed.{class_seen}
 use Rattle.mo_scope.specs.Sights.{part_seen, home_seen}
 use Rattle.mo_scope.proofs.Keys.{placed_added}
 use Rattle.mo_scope.proofs.groups.Groups.add.Goals as goal

@@ -4,7 +4,7 @@ use Rattle.std.proofs.Common.{get_or}
 use Rattle.mo_incidence.specs.Counting.{sum_below, sign}
 use Rattle.mo_incidence.specs.Signature.{Signature, equations}
 use Rattle.mo_incidence.specs.Offsets.{by_place, by_number, BoundsOrders, sum_unknowns, Fits, IsBelowAll}
-use Rattle.mo_match.specs.Lists.{reached}
+use Rattle.mo_match.specs.steps.Lists.{reached}
 
 -- the offsets of the marked equations, and of their unknowns, are one higher
 pub record AreRaised (m n : ℕ) (owner mark c d c' d' : List ℕ) : Type 0 where

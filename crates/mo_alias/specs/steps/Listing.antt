@@ -2,7 +2,7 @@
 use Rattle.std.specs.Prelude.{ℕ, ◌<◌, ◌⊎◌, List, Contains}
 use Rattle.std.specs.BTreeSet.{BTreeSet}
 use Rattle.std.specs.List.Sorted.{IsStrictlyIncreasing}
-use Rattle.mo_graph.specs.Placing.{Has}
+use Rattle.mo_graph.specs.steps.Placing.{Has}
 
 -- the least numbers of a set, and those that are left
 pub record IsListedTo (set left : BTreeSet ℕ) (made : List ℕ) : Type 0 where

@@ -6,7 +6,7 @@ use Rattle.mo_syntax.specs.declared.place.Place.{Place}
 use Rattle.mo_syntax.specs.declared.text.Path.{Path}
 use Rattle.mo_syntax.specs.Classes.{ClassRow, Declaration, Inside, each}
 use Rattle.mo_syntax.specs.ClassTable.{class_of_path, is_long}
-use Rattle.mo_syntax.specs.Parts.{outline_of_class}
+use Rattle.mo_syntax.specs.steps.Parts.{outline_of_class}
 
 -- the number of a long class
 abbrev pub long_number : Option ClassRow → Option ℕ

@@ -2,7 +2,7 @@
 use Rattle.std.specs.Prelude.{ℕ, ◌==◌, if◌then◌else◌, List, [], ◌∷◌, ◌++◌}
 use Rattle.std.proofs.Common.{zero, suc}
 use Rattle.mo_graph.specs.Edges.{AreReplaced}
-use Rattle.mo_graph.specs.Placing.{AreOrdered}
+use Rattle.mo_graph.specs.steps.Placing.{AreOrdered}
 
 -- the numbers from 1 to n with f equal to q at the place before, ascending
 abbrev pub members : (ℕ → ℕ) → ℕ → ℕ → List ℕ

@@ -12,7 +12,7 @@ use Rattle.mo_scope.specs.Lookup.{Walked, members_in, named}
 use Rattle.mo_scope.specs.Spoken.{spoken_of}
 use Rattle.mo_instance.specs.Attributes.{is_attribute}
 use Rattle.mo_instance.specs.Passes.{breach_if, broken_against, broken_spoken, first_of_all, inherits, own_claims}
-use Rattle.mo_instance.specs.Speeches.{Speech}
+use Rattle.mo_instance.specs.steps.Speeches.{Speech}
 use Rattle.mo_syntax.specs.declared.rules.TheConstants.{PROTECTED_ELEMENT, MODIFIED_TWICE, FINAL_MODIFIED, MODIFIED_ELEMENT_NOT_FOUND}
 
 -- what an element with `redeclare` may replace: what the frame has of which it is asked for a base, if it is

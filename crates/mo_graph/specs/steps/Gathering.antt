@@ -3,7 +3,7 @@ use Rattle.std.specs.Prelude.{◌≡◌, ◌≢◌, ℕ, ◌+◌, ◌<◌, ◌�
 use Rattle.std.proofs.Common.{get_or}
 use Rattle.mo_graph.specs.Order.{Leads}
 use Rattle.mo_graph.specs.Edges.{Edge}
-use Rattle.mo_graph.specs.Finishing.{unmarked}
+use Rattle.mo_graph.specs.steps.Finishing.{unmarked}
 
 -- `class` is a vertex's number, or 0. Those with numbers stand in the queue; those of the last number stand there from `base` on, and
 -- come from the vertex at place t of the order. What leads to those before `head` has a number.

@@ -1,12 +1,12 @@
 -- Parts of a chain that are still to be listed: words that only inner contracts need.
 use Rattle.std.specs.Prelude.{◌≡◌, ℕ, zero, suc, ◌+◌, ◌-◌, ◌*◌, ◌<◌, ◌≤◌, ◌⊎◌, Bool, List, [], ◌∷◌, ◌++◌, Option, Contains, get_or, length}
 use Rattle.std.specs.BTreeSet.{BTreeSet}
-use Rattle.mo_graph.specs.Placing.{Has}
+use Rattle.mo_graph.specs.steps.Placing.{Has}
 use Rattle.mo_alias.specs.declared.alias.Alias.{Alias}
 use Rattle.mo_alias.specs.declared.chain.Stretch.{Stretch}
 use Rattle.mo_alias.specs.declared.trees.Trees.{Trees}
 use Rattle.mo_alias.specs.Chains.{Chain, IsLinkBelow}
-use Rattle.mo_alias.specs.Forests.{HaveRoot}
+use Rattle.mo_alias.specs.steps.Forests.{HaveRoot}
 
 -- no number twice
 abbrev pub AreDistinct : List ℕ → Type 0

@@ -13,7 +13,7 @@ use Rattle.mo_scope.specs.Compatible.{compatible}
 use Rattle.mo_scope.specs.Redeclarations.{Checked}
 use Rattle.mo_scope.specs.Spoken.{spoken_in}
 use Rattle.mo_instance.specs.Outer.{as_differing, has_condition, is_alike, is_matched, speaks_of}
-use Rattle.mo_instance.specs.Speeches.{Speech}
+use Rattle.mo_instance.specs.steps.Speeches.{Speech}
 use Rattle.mo_syntax.specs.declared.rules.TheConstants.{INNER_DIFFERS, OUTSIDE_PROFILE}
 
 -- an argument that gives something for a name

@@ -4,8 +4,8 @@ use Rattle.mo_alias.specs.declared.alias.Alias.{Alias}
 use Rattle.mo_alias.specs.declared.trees.Latest.{Latest}
 use Rattle.mo_alias.specs.declared.trees.Trees.{Trees}
 use Rattle.mo_alias.specs.Chains.{IsLink, Says}
-use Rattle.mo_alias.specs.Climbing.{Climbs, Rises}
-use Rattle.mo_alias.specs.Marking.{IsMarked}
+use Rattle.mo_alias.specs.steps.Climbing.{Climbs, Rises}
+use Rattle.mo_alias.specs.steps.Marking.{IsMarked}
 
 -- the place at a root
 abbrev pub never : ℕ

@@ -3,7 +3,7 @@ use Rattle.std.specs.Prelude.{◌≡◌, ℕ, ◌<◌, ◌≤◌, Bool, List, Op
 use Rattle.std.specs.List.Sorted.{IsStrictlyIncreasing}
 use Rattle.mo_alias.specs.declared.found.Gone.{Gone}
 use Rattle.mo_alias.specs.declared.trees.Trees.{Trees}
-use Rattle.mo_alias.specs.Forests.{Reaches}
+use Rattle.mo_alias.specs.steps.Forests.{Reaches}
 use Rattle.mo_alias.specs.Recognized.{sign_product}
 
 -- the roots of all unknowns, with their signs

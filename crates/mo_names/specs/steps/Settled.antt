@@ -10,7 +10,7 @@ use Rattle.mo_scope.specs.Worlds.{World, IsFrame, frame_at, frames_of, table_in}
 use Rattle.mo_names.specs.declared.owning.Owned.{Owned}
 use Rattle.mo_names.specs.declared.settled.Settled.{Settled}
 use Rattle.mo_names.specs.declared.settled.Settling.{Settling}
-use Rattle.mo_names.specs.Twins.{owned_by, owned_walk, unowned}
+use Rattle.mo_names.specs.steps.Twins.{owned_by, owned_walk, unowned}
 use Rattle.mo_names.specs.Sights.{IsAdded, added_seen, asking_at, walk_seen}
 
 -- ---- classes that are free

@@ -4,7 +4,7 @@ use Rattle.std.proofs.Common.{get_or, suc}
 use Rattle.mo_incidence.specs.Counting.{sum_below}
 use Rattle.mo_incidence.specs.Signature.{Signature, equations, row_len, unknown_at}
 use Rattle.mo_match.specs.Searching.{UsesEntry, Uses, tight_of, IsTree, IsSearched, IsFree, IsHandedTo}
-use Rattle.mo_pantelides.specs.Fixing.{IsRival, IsFixedTo}
+use Rattle.mo_pantelides.specs.steps.Fixing.{IsRival, IsFixedTo}
 
 -- The place of the queue whose equation is looked at next: that of the last one while some stand in a row, else that of the first one that
 -- has entries left, and the root's where there is none.

@@ -4,7 +4,7 @@ use Rattle.std.specs.Global.{Global}
 use Rattle.std.proofs.Common.{get_or, suc}
 use Rattle.mo_incidence.specs.Signature.{Signature, row_len, unknown_at, order_at}
 use Rattle.mo_incidence.specs.Offsets.{by_place, IsTight}
-use Rattle.mo_incidence.specs.Needing.{IsNeed}
+use Rattle.mo_incidence.specs.steps.Needing.{IsNeed}
 
 -- the entries of rows that are held in vectors
 abbrev pub entries_in : List (Vec (ℕ × ℕ) Global) → List (List (ℕ × ℕ))

@@ -7,7 +7,7 @@ use Rattle.mo_scope.specs.Rows.{Row, Table, Part, Element_of, Base_of, Clause, c
 use Rattle.mo_scope.specs.Frames.{Frame, Scope}
 use Rattle.mo_scope.specs.Own.{own_declared}
 use Rattle.mo_scope.specs.Lookup.{Classed, Walked, Asking, last_place, with_member, with_base}
-use Rattle.mo_names.specs.Steps.{base_at, first_class, next_item, own_inherited}
+use Rattle.mo_names.specs.steps.Lookup.{base_at, first_class, next_item, own_inherited}
 use Rattle.mo_syntax.specs.declared.rules.TheConstants.{NAME_NOT_FOUND}
 
 -- the first of the identifiers of a name

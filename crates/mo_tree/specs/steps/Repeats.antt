@@ -8,7 +8,7 @@ use Rattle.mo_syntax.specs.declared.rules.TheConstants.{DECLARED_TWICE, WITHIN_N
 use Rattle.mo_syntax.specs.declared.text.Path.{Path}
 use Rattle.mo_syntax.specs.ClassTable.{in_file, is_long, class_of_path, otherwise}
 use Rattle.mo_tree.specs.declared.names.Name.{Name}
-use Rattle.mo_tree.specs.Homes.{declared_under, number_of_within}
+use Rattle.mo_tree.specs.steps.Homes.{declared_under, number_of_within}
 use Rattle.mo_tree.specs.Keys.{name_of}
 
 abbrev pub has_key : (List ℕ → Bool) → Option (List ℕ) → Bool

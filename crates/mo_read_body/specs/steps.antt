@@ -1,0 +1,4 @@
+-- Words of the contracts inside this crate, which no public clause cites.
+pub mod EquationParts
+pub mod Parts
+pub mod StatementParts

@@ -1,0 +1,3 @@
+-- Words of the contracts inside this crate, which no public clause cites.
+pub mod Homes
+pub mod Repeats
