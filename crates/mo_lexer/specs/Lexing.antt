@@ -1,12 +1,12 @@
 -- Which tokens a text has, or which rule it breaks and where (Modelica Language Specification 3.5, chapter 2).
-use Rattle.std.specs.Prelude.{◌≡◌, ℕ, ◌+◌, ◌-◌, ◌<◌, Bool, true, false, ◌==◌, ◌&&◌, List, [], ◌∷◌, ◌++◌, length, ◌⊎◌, if◌then◌else◌}
+use Rattle.std.specs.Prelude.{◌≡◌, ℕ, ◌+◌, ◌-◌, ◌<◌, Bool, true, false, ◌==◌, ◌&&◌, List, [], ◌∷◌, ◌++◌, length, ◌⊎◌, if◌then◌else◌, codes}
 use Rattle.mo_syntax.specs.Lexeme.{Lexeme}
 use Rattle.mo_syntax.specs.declared.place.Broken.{Broken}
 use Rattle.mo_syntax.specs.declared.place.Place.{Place}
 use Rattle.mo_syntax.specs.declared.rules.TheConstants.{LITERAL_TOO_WIDE, TEXT_WITHOUT_END, BAD_CHARACTER}
 use Rattle.mo_syntax.specs.declared.token.TokenKind.{TokenKind}
 use Rattle.mo_syntax.specs.declared.token.TokenKind.TheVariants.{End}
-use Rattle.mo_lexer.specs.Bytes.{is_escaped, is_quotable, is_string_byte}
+use Rattle.mo_lexer.specs.Bytes.{is_escaped, is_quotable, is_string_byte, double_quote, single_quote, star, slash, backslash}
 use Rattle.mo_lexer.specs.Spelling.{AreContents, Spells, IsWithinLimit, IsSeparator, IsComment, NeverCloses}
 
 -- what may stand as one piece of a text: a separator or a spelling
@@ -15,7 +15,7 @@ IsPiece text = IsSeparator text ⊎ ((kind : TokenKind) × Spells kind text)
 
 -- `/*` stands at the front
 abbrev pub opens_block : List ℕ → Bool
-opens_block (a ∷ b ∷ bs) = (a == 47) && (b == 42)
+opens_block (a ∷ b ∷ bs) = (a == slash) && (b == star)
 opens_block _ = false
 
 -- the piece is the longest that fits where `after` follows it, and where `/*` stands only a comment fits
@@ -69,9 +69,9 @@ pub record IsTooWide (left : List ℕ) : Type 0 where
 
 -- a comment, string or quoted identifier begins at the front, is not closed, and all that follows may stand in it
 pub data IsCutByEnd (left : List ℕ) : Type 0 where
-  comment : (body : List ℕ) → left ≡ 47 ∷ 42 ∷ body → NeverCloses body → IsCutByEnd left
-  string : (body : List ℕ) → left ≡ 34 ∷ body → AreContents is_string_byte body → IsCutByEnd left
-  quoted : (body : List ℕ) → left ≡ 39 ∷ body → AreContents is_quotable body → IsCutByEnd left
+  comment : (body : List ℕ) → left ≡ codes "/*" ++ body → NeverCloses body → IsCutByEnd left
+  string : (body : List ℕ) → left ≡ double_quote ∷ body → AreContents is_string_byte body → IsCutByEnd left
+  quoted : (body : List ℕ) → left ≡ single_quote ∷ body → AreContents is_quotable body → IsCutByEnd left
 
 -- an escape is completed
 abbrev pub begins_escaped : List ℕ → Bool
@@ -81,10 +81,10 @@ begins_escaped (b ∷ bs) = is_escaped b
 -- so many bytes after the front stands the first byte that may not stand in the string or quoted identifier there: a
 -- `\` that begins no escape, a byte that is not allowed between single quotes, or the second of two quotes
 pub data IsBadAt (left : List ℕ) : ℕ → Type 0 where
-  in_string : {at : ℕ} (body after : List ℕ) → left ≡ 34 ∷ (body ++ 92 ∷ after) → AreContents is_string_byte body → begins_escaped after ≡ false
+  in_string : {at : ℕ} (body after : List ℕ) → left ≡ double_quote ∷ (body ++ backslash ∷ after) → AreContents is_string_byte body → begins_escaped after ≡ false
       → at ≡ 1 + length body → IsBadAt left at
-  in_quoted : {at : ℕ} (body : List ℕ) (b : ℕ) (after : List ℕ) → left ≡ 39 ∷ (body ++ b ∷ after) → AreContents is_quotable body → is_quotable b ≡ false
-      → (b ≡ 39 → body ≡ []) → (b ≡ 92 → begins_escaped after ≡ false) → at ≡ 1 + length body → IsBadAt left at
+  in_quoted : {at : ℕ} (body : List ℕ) (b : ℕ) (after : List ℕ) → left ≡ single_quote ∷ (body ++ b ∷ after) → AreContents is_quotable body → is_quotable b ≡ false
+      → (b ≡ single_quote → body ≡ []) → (b ≡ backslash → begins_escaped after ≡ false) → at ≡ 1 + length body → IsBadAt left at
 
 -- the rule that is broken where left is what no piece covers, and how many bytes after its front: the first that applies
 pub data Breaks (left : List ℕ) : ℕ → ℕ → Type 0 where

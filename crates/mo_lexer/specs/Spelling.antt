@@ -1,11 +1,11 @@
 -- How tokens, blanks and comments are spelled (Modelica Language Specification 3.5, chapter 2).
-use Rattle.std.specs.Prelude.{◌≡◌, ℕ, ◌+◌, ◌<◌, ◌≤◌, Bool, true, false, ◌&&◌, List, [], ◌∷◌, ◌++◌, length, ◌⊎◌, Some, None}
+use Rattle.std.specs.Prelude.{◌≡◌, ℕ, ◌+◌, ◌<◌, ◌≤◌, Bool, true, false, ◌&&◌, List, [], ◌∷◌, ◌++◌, length, ◌⊎◌, Some, None, codes}
 use Rattle.std.specs.List.{list_all}
 use Rattle.std.specs.Str.Parse.{digits_value}
 use Rattle.mo_syntax.specs.declared.token.TokenKind.{TokenKind}
 use Rattle.mo_syntax.specs.declared.token.TokenKind.TheVariants.{Ident, Keyword, Operator, Whole, Decimal, Str, End}
 use Rattle.mo_tables.specs.Words.{code_in, keywords, operators}
-use Rattle.mo_lexer.specs.Bytes.{is_blank, is_letter, is_digit, is_word_byte, is_escaped, is_quotable, is_string_byte, is_line_byte, is_exponent_mark, is_sign}
+use Rattle.mo_lexer.specs.Bytes.{is_blank, is_letter, is_digit, is_word_byte, is_escaped, is_quotable, is_string_byte, is_line_byte, is_exponent_mark, is_sign, double_quote, single_quote, point, backslash}
 
 -- a letter or `_`, then letters, digits and `_`
 abbrev pub is_word : List ℕ → Bool
@@ -16,19 +16,19 @@ is_word (b ∷ bs) = is_letter b && list_all is_word_byte bs
 pub data AreContents (is_plain : ℕ → Bool) : List ℕ → Type 0 where
   nothing : AreContents is_plain []
   plain : {b : ℕ} {bs : List ℕ} → is_plain b ≡ true → AreContents is_plain bs → AreContents is_plain (b ∷ bs)
-  escape : {s b : ℕ} {bs : List ℕ} → s ≡ 92 → is_escaped b ≡ true → AreContents is_plain bs → AreContents is_plain (s ∷ b ∷ bs)
+  escape : {s b : ℕ} {bs : List ℕ} → s ≡ backslash → is_escaped b ≡ true → AreContents is_plain bs → AreContents is_plain (s ∷ b ∷ bs)
 
 -- `'`, one or more characters, and `'`
 pub record IsQuoted (text : List ℕ) : Type 0 where
   pub body : List ℕ
-  pub is : text ≡ 39 ∷ (body ++ 39 ∷ [])
+  pub is : text ≡ single_quote ∷ (body ++ single_quote ∷ [])
   pub contents : AreContents is_quotable body
   pub some : 0 < length body
 
 -- `"`, any characters, and `"`
 pub record IsString (text : List ℕ) : Type 0 where
   pub body : List ℕ
-  pub is : text ≡ 34 ∷ (body ++ 34 ∷ [])
+  pub is : text ≡ double_quote ∷ (body ++ double_quote ∷ [])
   pub contents : AreContents is_string_byte body
 
 abbrev pub are_digits : List ℕ → Bool
@@ -52,7 +52,7 @@ pub record IsWhole (text : List ℕ) : Type 0 where
 
 -- digits with a point before, among or after them and perhaps an exponent, or digits and an exponent
 pub data IsDecimal (text : List ℕ) : Type 0 where
-  pointed : (digits fraction exponent : List ℕ) → text ≡ digits ++ 46 ∷ (fraction ++ exponent) → are_digits digits ≡ true → are_digits fraction ≡ true
+  pointed : (digits fraction exponent : List ℕ) → text ≡ digits ++ point ∷ (fraction ++ exponent) → are_digits digits ≡ true → are_digits fraction ≡ true
       → 0 < length digits + length fraction → (exponent ≡ []) ⊎ IsExponent exponent → IsDecimal text
   unpointed : (digits exponent : List ℕ) → text ≡ digits ++ exponent → IsWhole digits → IsExponent exponent → IsDecimal text
 
@@ -74,12 +74,12 @@ IsWithinLimit _ text = Unit {0}
 
 -- `*/` stands nowhere in it
 abbrev pub NeverCloses : List ℕ → Type 0
-NeverCloses body = (before after : List ℕ) → body ≡ before ++ 42 ∷ 47 ∷ after → ⊥
+NeverCloses body = (before after : List ℕ) → body ≡ before ++ (codes "*/" ++ after) → ⊥
 
 -- `//` and what stands in the line, or from `/*` up to the next `*/`
 pub data IsComment (text : List ℕ) : Type 0 where
-  line : (body : List ℕ) → text ≡ 47 ∷ 47 ∷ body → list_all is_line_byte body ≡ true → IsComment text
-  block : (body : List ℕ) → text ≡ 47 ∷ 42 ∷ (body ++ 42 ∷ 47 ∷ []) → NeverCloses body → IsComment text
+  line : (body : List ℕ) → text ≡ codes "//" ++ body → list_all is_line_byte body ≡ true → IsComment text
+  block : (body : List ℕ) → text ≡ codes "/*" ++ (body ++ codes "*/") → NeverCloses body → IsComment text
 
 -- what separates tokens: a blank or a comment
 pub data IsSeparator (text : List ℕ) : Type 0 where

@@ -4,7 +4,7 @@ use Rattle.std.specs.List.{prefix_len}
 use Rattle.std.specs.Str.{IsUtf8, IsCharBoundary}
 use Rattle.mo_syntax.specs.declared.token.TokenKind.{TokenKind}
 use Rattle.mo_syntax.specs.declared.token.TokenKind.TheVariants.{Whole, Decimal}
-use Rattle.mo_lexer.specs.Bytes.{is_blank, is_letter, is_digit, is_quotable, is_string_byte, is_exponent_mark, is_sign}
+use Rattle.mo_lexer.specs.Bytes.{is_blank, is_letter, is_digit, is_quotable, is_string_byte, is_exponent_mark, is_sign, double_quote, single_quote, star, point, slash, backslash}
 use Rattle.mo_lexer.specs.Spelling.{AreContents, Spells, IsWithinLimit, IsSeparator}
 use Rattle.mo_lexer.specs.Lexing.{Fits, IsStuck, Breaks, begins_escaped}
 use Rattle.mo_lexer.specs.declared.contents.Quotes.{Quotes}
@@ -22,11 +22,11 @@ pub record IsContentsEnd (is_plain : ℕ → Bool) (bytes : List ℕ) (n : ℕ) 
   pub within : n ≤ length bytes
   pub contents : AreContents is_plain (take n bytes)
   pub stops : n < length bytes → is_plain (slice_index bytes n) ≡ false
-  pub unescaped : n < length bytes → slice_index bytes n ≡ 92 → begins_escaped (drop (n + 1) bytes) ≡ false
+  pub unescaped : n < length bytes → slice_index bytes n ≡ backslash → begins_escaped (drop (n + 1) bytes) ≡ false
 
 -- `*/` stands there
 abbrev pub ClosesAt : List ℕ → ℕ → Type 0
-ClosesAt bytes k = (k + 1 < length bytes) × (slice_index bytes k ≡ 42) × (slice_index bytes (k + 1) ≡ 47)
+ClosesAt bytes k = (k + 1 < length bytes) × (slice_index bytes k ≡ star) × (slice_index bytes (k + 1) ≡ slash)
 
 -- the first `*/`, if there is one
 abbrev pub IsFirstClose : List ℕ → Option ℕ → Type 0
@@ -36,7 +36,7 @@ IsFirstClose bytes (Some n) = ClosesAt bytes n × ((k : ℕ) → k < n → Close
 -- how many bytes a point and digits after it take
 abbrev pub point_len : List ℕ → ℕ
 point_len [] = 0
-point_len (b ∷ bs) = if b == 46 then 1 + prefix_len is_digit bs else 0
+point_len (b ∷ bs) = if b == point then 1 + prefix_len is_digit bs else 0
 
 -- how many bytes the mark of an exponent and a sign take
 abbrev pub mark_len : List ℕ → ℕ
@@ -52,16 +52,16 @@ exponent_len bytes = let start = mark_len bytes in let digits = prefix_len is_di
 abbrev pub begins_number : List ℕ → Bool
 begins_number [] = false
 begins_number (b ∷ []) = is_digit b
-begins_number (b ∷ c ∷ bs) = is_digit b || ((b == 46) && is_digit c)
+begins_number (b ∷ c ∷ bs) = is_digit b || ((b == point) && is_digit c)
 
 -- `//` stands at the front
 abbrev pub opens_line : List ℕ → Bool
-opens_line (a ∷ b ∷ bs) = (a == 47) && (b == 47)
+opens_line (a ∷ b ∷ bs) = (a == slash) && (b == slash)
 opens_line _ = false
 
 -- a byte that begins no blank, word, digits or text in quotes
 abbrev pub is_mark : ℕ → Bool
-is_mark b = not (is_blank b) && (not (is_letter b) && (not (is_digit b) && (not (b == 39) && not (b == 34))))
+is_mark b = not (is_blank b) && (not (is_letter b) && (not (is_digit b) && (not (b == single_quote) && not (b == double_quote))))
 
 -- a front of so many bytes, after which the text may be cut
 pub record IsCut (rest : List ℕ) (n : ℕ) : Type 0 where
