@@ -1,8 +1,8 @@
 -- What the test of a whole grammar gives: facts on each production, and on what it spells and begins.
-use Rattle.std.proofs.Common.{◌≡◌, not, ℕ, zero, suc, ◌<◌, Bool, true, false, List, [], ◌∷◌, refl, zero-le, nat_lt, ltb-true}
+use Rattle.std.proofs.Common.{◌≡◌, not, ℕ, zero, suc, ◌<◌, Bool, true, false, List, [], ◌∷◌, refl, zero-le, nat_lt, ltb-true, ◌&&◌}
 use Rattle.mo_grammar.specs.Lexeme.{Lexeme, code_of}
 use Rattle.mo_grammar.specs.Grammar.{Limits, has, Productions, SpelledIn, BegunIn}
-use Rattle.mo_grammar.specs.Reading.{may_be_empty, entry_codes, first_codes, later_codes, second_codes, Tables, is_decided, is_below, is_sound_at, covers, each_covers, reads_within}
+use Rattle.mo_grammar.specs.Reading.{may_be_empty, entry_codes, first_codes, later_codes, second_codes, Tables, AreRight, is_decided, is_below, covers, each_covers, reads_within}
 use Rattle.mo_grammar.proofs.Codes.{both, not_true, never, covers_lem, each_covers_lem}
 use Rattle.mo_grammar.proofs.Decided.{Decided, decided}
 use Rattle.mo_grammar.proofs.Begun.{Known, begins_nothing, spelled_begun, nothing_spelled, first_sound, second_sound}
@@ -10,6 +10,10 @@ use Rattle.mo_grammar.proofs.Limits.{Below, spelled_rises}
 use Rattle.mo_grammar.proofs.Outcomes.{shrinks}
 use Rattle.mo_grammar.proofs.Entering.{Enters, entries, enters}
 use Rattle.mo_grammar.proofs.Soundness.{Sound, sound}
+
+-- What the tables say of one production, in one test that is computed.
+abbrev pub is_sound_at : {S : Type 0} {V : S → Type 0} → Tables S → Productions S V → S → Bool
+is_sound_at k rule x = is_decided k (rule x) && (not (may_be_empty (rule x)) && (covers (k.starts x) (first_codes k.starts (rule x)) && (covers (first_codes k.starts (rule x)) (k.starts x) && (covers (k.starts x) (k.plains x) && (covers (entry_codes false k.plains (rule x)) (k.plains x) && (covers (k.laters x) (later_codes k.starts k.laters (rule x)) && (each_covers (λ c. covers (k.seconds c x) (second_codes k.starts (k.seconds c) c (rule x))) k.specials && (is_below k.rank (k.rank x) (rule x) && nat_lt (k.rank x) k.ranks))))))))
 
 pub record Checked (S : Type 0) (V : S → Type 0) (k : Tables S) (rule : Productions S V) : Type 0 where
   pub dec : (x : S) → Decided k (rule x)
@@ -24,7 +28,7 @@ pub record Checked (S : Type 0) (V : S → Type 0) (k : Tables S) (rule : Produc
   pub ranked : (x : S) → k.rank x < k.ranks
 
 module _ {S : Type 0} {V : S → Type 0} where
-  checked_at : (k : Tables S) (rule : Productions S V) (x : S) → is_sound_at k rule x ≡ true → Decided k (rule x) × (may_be_empty (rule x) ≡ false) × (covers (k.starts x) (first_codes k.starts (rule x)) ≡ true) × (covers (first_codes k.starts (rule x)) (k.starts x) ≡ true) × (covers (k.starts x) (k.plains x) ≡ true) × (covers (entry_codes false k.plains (rule x)) (k.plains x) ≡ true) × (covers (k.laters x) (later_codes k.starts k.laters (rule x)) ≡ true) × (each_covers (λ c. covers (k.seconds c x) (second_codes k.starts (k.seconds c) c (rule x))) k.specials ≡ true) × (is_below k.rank (k.rank x) (rule x) ≡ true) × (k.rank x < k.ranks)
+  checked_at : (k : Tables S) (rule : Productions S V) (x : S) → is_sound_at k rule x ≡ true → (is_decided k (rule x) ≡ true) × (may_be_empty (rule x) ≡ false) × (covers (k.starts x) (first_codes k.starts (rule x)) ≡ true) × (covers (first_codes k.starts (rule x)) (k.starts x) ≡ true) × (covers (k.starts x) (k.plains x) ≡ true) × (covers (entry_codes false k.plains (rule x)) (k.plains x) ≡ true) × (covers (k.laters x) (later_codes k.starts k.laters (rule x)) ≡ true) × (each_covers (λ c. covers (k.seconds c x) (second_codes k.starts (k.seconds c) c (rule x))) k.specials ≡ true) × (is_below k.rank (k.rank x) (rule x) ≡ true) × (k.rank x < k.ranks)
   checked_at k rule x h =
       let one = both (is_decided k (rule x)) _ h in
       let two = both (not (may_be_empty (rule x))) _ one.1 in
@@ -35,12 +39,12 @@ module _ {S : Type 0} {V : S → Type 0} where
       let seven = both (covers (k.laters x) (later_codes k.starts k.laters (rule x))) _ six.1 in
       let eight = both (each_covers (λ c. covers (k.seconds c x) (second_codes k.starts (k.seconds c) c (rule x))) k.specials) _ seven.1 in
       let nine = both (is_below k.rank (k.rank x) (rule x)) (nat_lt (k.rank x) k.ranks) eight.1 in
-      (decided k (rule x) one.0, not_true (may_be_empty (rule x)) two.0, three.0, four.0, five.0, six.0, seven.0, eight.0, nine.0, ltb-true (k.rank x) k.ranks nine.1)
+      (one.0, not_true (may_be_empty (rule x)) two.0, three.0, four.0, five.0, six.0, seven.0, eight.0, nine.0, ltb-true (k.rank x) k.ranks nine.1)
 
-  pub checked : (k : Tables S) (rule : Productions S V) → ((x : S) → is_sound_at k rule x ≡ true) → Checked S V k rule
-  checked k rule h = record {
-    dec = λ x. (checked_at k rule x (h x)).0;
-    solid = λ x. (checked_at k rule x (h x)).1;
+  pub right : (k : Tables S) (rule : Productions S V) → ((x : S) → is_sound_at k rule x ≡ true) → AreRight k rule
+  right k rule h = record {
+    decided = λ x. (checked_at k rule x (h x)).0;
+    some_token = λ x. (checked_at k rule x (h x)).1;
     starts_all = λ x. (checked_at k rule x (h x)).2;
     starts_only = λ x. (checked_at k rule x (h x)).3;
     plain_starts = λ x. (checked_at k rule x (h x)).4;
@@ -49,6 +53,20 @@ module _ {S : Type 0} {V : S → Type 0} where
     seconds_all = λ x. (checked_at k rule x (h x)).7;
     below = λ x. (checked_at k rule x (h x)).8;
     ranked = λ x. (checked_at k rule x (h x)).9;
+  }
+
+  pub checked : (k : Tables S) (rule : Productions S V) → AreRight k rule → Checked S V k rule
+  checked k rule h = record {
+    dec = λ x. decided k (rule x) (h.decided x);
+    solid = h.some_token;
+    starts_all = h.starts_all;
+    starts_only = h.starts_only;
+    plain_starts = h.plain_starts;
+    plains_only = h.plains_only;
+    laters_all = h.laters_all;
+    seconds_all = h.seconds_all;
+    below = h.below;
+    ranked = h.ranked;
   }
 
   pub known : (k : Tables S) (rule : Productions S V) → Checked S V k rule → (n : ℕ) → Known S V k.starts (SpelledIn rule n) (BegunIn rule n)

@@ -1,10 +1,10 @@
 -- The grammar passes the test, one production after another.
 use Rattle.std.proofs.Common.{◌≡◌, ℕ, true, refl}
-use Rattle.mo_grammar.specs.Reading.{is_sound_at}
+use Rattle.mo_grammar.specs.Reading.{AreRight}
 use Rattle.mo_grammar.specs.Symbols.{Symbol, ValueOf, Expressions, Simples, Logicals, Conjunctions, Negations, Relations, Sums, Products, Powers, Primaries, CallArguments, Arguments, MoreArguments, OneArgument, Indices, References, Subscripts, TypeSpecs, Names, ClassMods, ModArguments, EquationItems, ForEquations, WhenEquations, ElseEquations, IfEquations, StatementItems, ImportNames, ElementItems, Compositions, Sections, SectionEquations, ClassDefinitions, Files}
 use Rattle.mo_grammar.specs.Productions.{rule}
 use Rattle.mo_grammar.specs.Tables.{tables}
-use Rattle.mo_grammar.proofs.Checked.{Checked, checked}
+use Rattle.mo_grammar.proofs.Checked.{Checked, checked, is_sound_at, right}
 use Rattle.mo_grammar.proofs.Extending.{is_productive, is_fillable}
 
 pub tested : (x : Symbol) → is_sound_at tables rule x ≡ true
@@ -155,5 +155,8 @@ fillable SectionEquations = refl
 fillable ClassDefinitions = refl
 fillable Files = refl
 
+pub tables_right : AreRight tables rule
+tables_right = right tables rule tested
+
 pub passed : Checked Symbol ValueOf tables rule
-passed = checked tables rule tested
+passed = checked tables rule tables_right

@@ -1,5 +1,5 @@
 -- Reading from left to right, one token ahead, or two where a choice says so.
-use Rattle.std.specs.Prelude.{◌==◌, ◌||◌, ◌&&◌, not, ℕ, zero, suc, ◌+◌, ◌*◌, Bool, true, false, List, [], ◌∷◌, ◌++◌, Option, Some, None, length, nat_lt, if◌then◌else◌}
+use Rattle.std.specs.Prelude.{◌==◌, ◌||◌, ◌&&◌, not, ℕ, zero, suc, ◌+◌, ◌*◌, Bool, true, false, List, [], ◌∷◌, ◌++◌, Option, Some, None, length, nat_lt, if◌then◌else◌, ◌≡◌, ◌<◌}
 use Rattle.mo_syntax.specs.declared.place.Place.{Place}
 use Rattle.mo_grammar.specs.declared.fault.Fault.{Fault}
 use Rattle.mo_grammar.specs.declared.fault.Fault.TheVariants.{Misplaced, Misnamed, TooDeep}
@@ -245,9 +245,24 @@ abbrev pub each_covers : (ℕ → Bool) → List ℕ → Bool
 each_covers test [] = true
 each_covers test (c ∷ cs) = test c && each_covers test cs
 
--- What the tables say of one production is right.
-abbrev pub is_sound_at : {S : Type 0} {V : S → Type 0} → Tables S → Productions S V → S → Bool
-is_sound_at k rule x = is_decided k (rule x) && (not (may_be_empty (rule x)) && (covers (k.starts x) (first_codes k.starts (rule x)) && (covers (first_codes k.starts (rule x)) (k.starts x) && (covers (k.starts x) (k.plains x) && (covers (entry_codes false k.plains (rule x)) (k.plains x) && (covers (k.laters x) (later_codes k.starts k.laters (rule x)) && (each_covers (λ c. covers (k.seconds c x) (second_codes k.starts (k.seconds c) c (rule x))) k.specials && (is_below k.rank (k.rank x) (rule x) && nat_lt (k.rank x) k.ranks))))))))
+-- What the tables say of the productions is right.
+pub record AreRight {S : Type 0} {V : S → Type 0} (k : Tables S) (rule : Productions S V) : Type 0 where
+  -- the next token, or the next two where a choice says so, tell every choice
+  pub decided : (x : S) → is_decided k (rule x) ≡ true
+  -- what is spelled has a token
+  pub some_token : (x : S) → may_be_empty (rule x) ≡ false
+  -- `starts` are the codes of first tokens, all and only
+  pub starts_all : (x : S) → covers (k.starts x) (first_codes k.starts (rule x)) ≡ true
+  pub starts_only : (x : S) → covers (first_codes k.starts (rule x)) (k.starts x) ≡ true
+  -- `plains` are among them, and open no construct
+  pub plain_starts : (x : S) → covers (k.starts x) (k.plains x) ≡ true
+  pub plains_only : (x : S) → covers (entry_codes false k.plains (rule x)) (k.plains x) ≡ true
+  -- `laters` leave out no code that makes a spelling longer, `seconds` none that comes second behind a special one
+  pub laters_all : (x : S) → covers (k.laters x) (later_codes k.starts k.laters (rule x)) ≡ true
+  pub seconds_all : (x : S) → each_covers (λ c. covers (k.seconds c x) (second_codes k.starts (k.seconds c) c (rule x))) k.specials ≡ true
+  -- what is reached before the first token has a lower rank, and all ranks are below their number
+  pub below : (x : S) → is_below k.rank (k.rank x) (rule x) ≡ true
+  pub ranked : (x : S) → k.rank x < k.ranks
 
 -- ---- the limits that a fault asks to lift
 

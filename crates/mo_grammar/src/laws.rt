@@ -6,11 +6,18 @@ ghost use Rattle.mo_grammar.specs.declared.fault.Fault.{Fault};
 ghost use Rattle.mo_grammar.specs.declared.fault.Fault.TheVariants.{Misplaced, Misnamed};
 ghost use Rattle.mo_grammar.specs.Lexeme.{Lexeme};
 ghost use Rattle.mo_grammar.specs.Grammar.{EndName, Limits, at_most, end_name_in};
-ghost use Rattle.mo_grammar.specs.Reading.{read, stuck, unfinished};
+ghost use Rattle.mo_grammar.specs.Productions.{rule};
+ghost use Rattle.mo_grammar.specs.Reading.{AreRight, read, stuck, unfinished};
 ghost use Rattle.mo_grammar.specs.Symbols.{Symbol, ValueOf, Files};
+ghost use Rattle.mo_grammar.specs.Tables.{tables};
 ghost use Rattle.mo_grammar.specs.Classless.{is_classless};
 ghost use Rattle.mo_grammar.specs.Naming.{IdentifiersPass};
 ghost use Rattle.mo_grammar.specs.Language.{Spells, Begins, IsLongestFront, IsImpossibleAfter, HasFaultAfter, EndsBeforeNames, reads};
+
+/// What the tables of the grammar say of its productions is right: the next token, or the next two where a choice says so, tell every choice.
+pub fn tables_are_right()
+    ensures { AreRight tables rule }
+{}
 
 /// Tokens spell at most one tree of a production, whatever the limits are.
 pub fn one_tree()

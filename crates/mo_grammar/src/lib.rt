@@ -15,7 +15,7 @@ mod token_code;
 pub use fault::Fault;
 pub use laws::{
     beginnings_extend, classes_leave_alone, files_are_sound, first_impossible, fronts_begin,
-    longest_spelling, one_tree, reading_ends, unfinished_front,
+    longest_spelling, one_tree, reading_ends, tables_are_right, unfinished_front,
 };
 pub use printed::{
     arguments, class_heads, compositions, equalities, equation_lists, external_calls, imports,
