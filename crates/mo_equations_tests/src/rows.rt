@@ -1,12 +1,6 @@
 //! Texts with what the instances of their model `M` give.
 
-/// A text, what its instances give as text, or the rule that is broken with the text at whose first occurrence it is.
-pub struct Row {
-    pub text: &'static str,
-    pub shown: &'static str,
-    pub rule: u8,
-    pub at: &'static str,
-}
+use mo_samples::Row;
 
 pub const ROWS: [Row; 47] = [
     Row {

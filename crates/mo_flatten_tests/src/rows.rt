@@ -1,12 +1,6 @@
 //! Texts with the flat model of their class `M`.
 
-/// A text, the text of its flat model, or the rule that is broken with the text at whose first occurrence it is.
-pub struct Row {
-    pub text: &'static str,
-    pub shown: &'static str,
-    pub rule: u8,
-    pub at: &'static str,
-}
+use mo_samples::Row;
 
 pub const ROWS: [Row; 12] = [
     Row {

@@ -1,11 +1,11 @@
 //! What `flatten` answers for the rows.
 ghost use Rattle.mo_syntax.specs.SoundTree.{IsSoundTree};
 
-use crate::rows::{ROWS, Row};
+use crate::rows::ROWS;
 use mo_flat::flat_text;
 use mo_flatten::flatten;
-use mo_samples::tree;
-use mo_syntax::{Broken, ClassTree, List, NoMemory, Path, Stop, Text, class_count};
+use mo_samples::{Row, is_told, tree};
+use mo_syntax::{ClassTree, List, NoMemory, Path, Stop, Text, class_count};
 use std::alloc::Global;
 use std::process::Abort;
 
@@ -26,31 +26,13 @@ fn answer(alloc: Global, files: &ClassTree) -> Result<Text, Stop>
     Ok(flat_text(alloc, &model)?)
 }
 
-fn is_at(broken: &Broken, row: &Row) -> bool {
-    match row.text.find(row.at) {
-        Some(byte) => broken.place.byte as usize == byte && broken.rule.number() == row.rule,
-        None => false,
-    }
-}
-
 fn told(rt: &impl Abort, alloc: Global, row: &Row) {
     let files = tree(alloc, &[row.text]).expect(rt, "it is read");
-    match answer(alloc, &files) {
-        Ok(text) => {
-            assert!(rt; row.rule == 0, "{}", row.text);
-            assert_eq!(rt; text.as_str(), row.shown, "{}", row.text);
-        }
-        Err(Stop::Broken(broken)) => {
-            assert!(rt;
-                is_at(&broken, row),
-                "{} {} {}",
-                row.text,
-                broken.rule.number(),
-                broken.place.byte
-            );
-        }
-        Err(Stop::NoMemory) => panic!(rt; "memory {}", row.text),
-    }
+    let told = match answer(alloc, &files) {
+        Ok(text) => is_told(row, Ok(text.as_str())),
+        Err(stop) => is_told(row, Err(stop)),
+    };
+    assert!(rt; told, "{}", row.text);
 }
 
 #[test]

@@ -1,12 +1,6 @@
 //! Texts with the instances of their model `M`.
 
-/// A text, what its instances are shown as, or the rule that is broken with the text at whose first occurrence it is.
-pub struct Row {
-    pub text: &'static str,
-    pub shown: &'static str,
-    pub rule: u8,
-    pub at: &'static str,
-}
+use mo_samples::Row;
 
 pub const ROWS: [Row; 56] = [
     Row {

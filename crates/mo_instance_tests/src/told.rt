@@ -3,12 +3,12 @@ ghost use Rattle.std.specs.Prelude.{◌<◌, IfOk};
 ghost use Rattle.mo_syntax.specs.SoundTree.{IsSoundTree};
 ghost use Rattle.mo_scope.specs.Rows.{number_of_classes, table_of};
 
-use crate::rows::{ROWS, Row};
+use crate::rows::ROWS;
 use crate::showing::shown;
 use mo_instance::instantiate;
-use mo_samples::tree;
+use mo_samples::{Row, is_told, tree};
 use mo_scope::Scopes;
-use mo_syntax::{Broken, ClassId, ClassTree, Stop, Text};
+use mo_syntax::{ClassId, ClassTree, Stop, Text};
 use std::alloc::Global;
 use std::process::Abort;
 
@@ -32,31 +32,13 @@ fn answer(alloc: Global, files: &ClassTree) -> Result<String, Stop>
     shown(alloc, &made)
 }
 
-fn is_at(broken: &Broken, row: &Row) -> bool {
-    match row.text.find(row.at) {
-        Some(byte) => broken.place.byte as usize == byte && broken.rule.number() == row.rule,
-        None => false,
-    }
-}
-
 fn told(rt: &impl Abort, alloc: Global, row: &Row) {
     let files = tree(alloc, &[row.text]).expect(rt, "it is read");
-    match answer(alloc, &files) {
-        Ok(text) => {
-            assert!(rt; row.rule == 0, "{}", row.text);
-            assert_eq!(rt; text.as_str(), row.shown, "{}", row.text);
-        }
-        Err(Stop::Broken(broken)) => {
-            assert!(rt;
-                is_at(&broken, row),
-                "{} {} {}",
-                row.text,
-                broken.rule.number(),
-                broken.place.byte
-            );
-        }
-        Err(Stop::NoMemory) => panic!(rt; "memory {}", row.text),
-    }
+    let told = match answer(alloc, &files) {
+        Ok(text) => is_told(row, Ok(text.as_str())),
+        Err(stop) => is_told(row, Err(stop)),
+    };
+    assert!(rt; told, "{}", row.text);
 }
 
 #[test]

@@ -1,7 +1,10 @@
 //! Class trees from texts, for the tests of what stands on class trees.
 //!
 //! - `tree`: the files whose texts are given, read; the tree is sound.
+//! - `Row`: a text with what is to come of its class; `is_told`: whether it came.
 #![tactic(auto)]
+
+mod row;
 
 ghost use Rattle.std.specs.Prelude.{IfOk, IsTrue};
 ghost use Rattle.mo_syntax.specs.SoundTree.{IsSoundTree, any_name, is_sound_file};
@@ -9,6 +12,7 @@ ghost use Rattle.mo_syntax.specs.SoundTree.{IsSoundTree, any_name, is_sound_file
 use mo_lexer::tokens;
 use mo_parse_class::stored_definition;
 use mo_syntax::{ClassTree, FileTree, List, Stop};
+pub use row::{Row, is_told};
 use std::alloc::Global;
 
 /// The longest text that is read, in bytes.
