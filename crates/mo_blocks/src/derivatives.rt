@@ -4,7 +4,7 @@ ghost use Rattle.std.proofs.Common.{suc};
 ghost use Rattle.mo_incidence.specs.Counting.{sum_below};
 ghost use Rattle.mo_incidence.specs.Signature.{equations};
 ghost use Rattle.mo_incidence.specs.Assignment.{Assigns, CoversAll};
-ghost use Rattle.mo_incidence.specs.Offsets.{IsTight, by_place, by_number, sum_unknowns};
+ghost use Rattle.mo_incidence.specs.Offsets.{IsTight, by_place, by_number, sum_unknowns, c_of, d_of, pairs_of};
 ghost use Rattle.mo_incidence.specs.Dummies.{differentiated, dummy, dummies_of, states_of};
 ghost use Rattle.mo_blocks.specs.Stages.{kept, derivatives_below, derivatives_to, HaveOwn, AreHighest, AreFollowed};
 
@@ -129,15 +129,15 @@ fn list_states(alloc: Global, d: &[u32], depth: &[u32]) -> Result<Vec<(u32, u32)
 pub fn dummies(alloc: Global, inc: &Incidence, offsets: &Offsets) -> Result<Dummies, NoMemory>
     requires square { equations inc.now ≡ inc.now.unknowns }
     requires lengths { (length offsets.now.c.items ≡ equations inc.now) × (length offsets.now.d.items ≡ inc.now.unknowns) × (length offsets.now.pairs.items ≡ equations inc.now) }
-    requires tight { Assigns (IsTight inc.now (by_place offsets.now.c.items) (by_number offsets.now.d.items)) (equations inc.now) (by_place offsets.now.pairs.items) }
-    requires all { CoversAll inc.now (by_place offsets.now.pairs.items) }
-    ensures chosen { IfOk result (λ found. found.chosen.items ≡ dummies_of (by_place offsets.now.c.items) (by_number offsets.now.d.items) (by_place offsets.now.pairs.items) (equations inc.now)) }
-    ensures states { IfOk result (λ found. found.states.items ≡ states_of (by_place offsets.now.c.items) (by_number offsets.now.d.items) (by_place offsets.now.pairs.items) (equations inc.now) inc.now.unknowns) }
-    ensures own { IfOk result (λ found. HaveOwn (by_place offsets.now.c.items) (by_place offsets.now.pairs.items) (equations inc.now) found.chosen.items) }
-    ensures highest { IfOk result (λ found. AreHighest inc.now (by_place offsets.now.c.items) found.chosen.items) }
+    requires tight { Assigns (IsTight inc.now (c_of offsets.now) (d_of offsets.now)) (equations inc.now) (pairs_of offsets.now) }
+    requires all { CoversAll inc.now (pairs_of offsets.now) }
+    ensures chosen { IfOk result (λ found. found.chosen.items ≡ dummies_of (c_of offsets.now) (d_of offsets.now) (pairs_of offsets.now) (equations inc.now)) }
+    ensures states { IfOk result (λ found. found.states.items ≡ states_of (c_of offsets.now) (d_of offsets.now) (pairs_of offsets.now) (equations inc.now) inc.now.unknowns) }
+    ensures own { IfOk result (λ found. HaveOwn (c_of offsets.now) (pairs_of offsets.now) (equations inc.now) found.chosen.items) }
+    ensures highest { IfOk result (λ found. AreHighest inc.now (c_of offsets.now) found.chosen.items) }
     ensures followed { IfOk result (λ found. AreFollowed found.chosen.items) }
-    ensures dummies_count { IfOk result (λ found. length found.chosen.items ≡ sum_below (by_place offsets.now.c.items) (equations inc.now)) }
-    ensures states_count { IfOk result (λ found. length found.states.items + sum_below (by_place offsets.now.c.items) (equations inc.now) ≡ sum_unknowns inc.now (by_number offsets.now.d.items)) }
+    ensures dummies_count { IfOk result (λ found. length found.chosen.items ≡ sum_below (c_of offsets.now) (equations inc.now)) }
+    ensures states_count { IfOk result (λ found. length found.states.items + sum_below (c_of offsets.now) (equations inc.now) ≡ sum_unknowns inc.now (d_of offsets.now)) }
 {
     let _equations = inc.equations();
     let chosen = choose(alloc, inc, &offsets.c, &offsets.d, &offsets.pairs)?;

@@ -2,7 +2,7 @@
 ghost use Rattle.std.specs.Prelude.{◌≡◌, length, IfOk};
 ghost use Rattle.mo_incidence.specs.Signature.{equations};
 ghost use Rattle.mo_incidence.specs.Assignment.{Assigns, CoversAll};
-ghost use Rattle.mo_incidence.specs.Offsets.{IsTight, by_place, by_number};
+ghost use Rattle.mo_incidence.specs.Offsets.{IsTight, c_of, d_of, pairs_of};
 ghost use Rattle.mo_incidence.specs.Blocks.{AreBlocksInOrder, numbers_in};
 
 use mo_graph::in_order;
@@ -17,9 +17,9 @@ use std::alloc::Global;
 pub fn blocks(alloc: Global, inc: &Incidence, offsets: &Offsets) -> Result<Blocks, NoMemory>
     requires square { equations inc.now ≡ inc.now.unknowns }
     requires lengths { (length offsets.now.c.items ≡ equations inc.now) × (length offsets.now.d.items ≡ inc.now.unknowns) × (length offsets.now.pairs.items ≡ equations inc.now) }
-    requires tight { Assigns (IsTight inc.now (by_place offsets.now.c.items) (by_number offsets.now.d.items)) (equations inc.now) (by_place offsets.now.pairs.items) }
-    requires all { CoversAll inc.now (by_place offsets.now.pairs.items) }
-    ensures { IfOk result (λ found. AreBlocksInOrder inc.now (by_place offsets.now.c.items) (by_number offsets.now.d.items) (by_place offsets.now.pairs.items) (numbers_in found.0.items)) }
+    requires tight { Assigns (IsTight inc.now (c_of offsets.now) (d_of offsets.now)) (equations inc.now) (pairs_of offsets.now) }
+    requires all { CoversAll inc.now (pairs_of offsets.now) }
+    ensures { IfOk result (λ found. AreBlocksInOrder inc.now (c_of offsets.now) (d_of offsets.now) (pairs_of offsets.now) (numbers_in found.0.items)) }
 {
     let edges = needs(alloc, inc, offsets)?;
     let lists = in_order(alloc, edges, inc.equations() as usize)?;

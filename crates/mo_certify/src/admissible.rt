@@ -2,7 +2,7 @@
 ghost use Rattle.std.specs.Prelude.{◌≡◌, ◌≢◌, ℕ, ◌+◌, ◌-◌, ◌<◌, ◌≤◌, ◌↔◌, IsTrue, IfOk, length, slice_index, true, false};
 ghost use Rattle.std.proofs.Common.{suc};
 ghost use Rattle.mo_incidence.specs.Signature.{equations, row_len, unknown_at, order_at};
-ghost use Rattle.mo_incidence.specs.Offsets.{Fits, IsTight, IsAdmissible, by_place, by_number};
+ghost use Rattle.mo_incidence.specs.Offsets.{Fits, IsTight, IsAdmissible, by_place, by_number, c_of, d_of};
 ghost use Rattle.mo_certify.specs.Offsets.{AreOffsets};
 
 use crate::entries::find_entry;
@@ -99,7 +99,7 @@ fn admissible(inc: &Incidence, c: &[u32], d: &[u32], pairs: &[u32], used: &mut [
 /// `NoMemory` is the only other answer.
 pub fn offsets_hold(alloc: Global, inc: &Incidence, offsets: &Offsets) -> Result<bool, NoMemory>
     ensures exact { IfOk result (λ yes. IsTrue yes ↔ AreOffsets inc.now offsets.now.c.items offsets.now.d.items offsets.now.pairs.items) }
-    ensures admissible { IfOk result (λ yes. IsTrue yes → IsAdmissible inc.now (by_place offsets.now.c.items) (by_number offsets.now.d.items)) }
+    ensures admissible { IfOk result (λ yes. IsTrue yes → IsAdmissible inc.now (c_of offsets.now) (d_of offsets.now)) }
 {
     let mut used = vec![in alloc; 0; inc.unknowns() as usize + 1]?;
     Ok(admissible(inc, &offsets.c, &offsets.d, &offsets.pairs, &mut used))

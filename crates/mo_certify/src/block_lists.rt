@@ -1,7 +1,7 @@
 //! Whether listed blocks are the irreducible blocks in order.
 ghost use Rattle.std.specs.Prelude.{◌≡◌, ◌↔◌, IsTrue, IfOk, true, false};
 ghost use Rattle.mo_incidence.specs.Signature.{equations};
-ghost use Rattle.mo_incidence.specs.Offsets.{by_place, by_number};
+ghost use Rattle.mo_incidence.specs.Offsets.{c_of, d_of, pairs_of};
 ghost use Rattle.mo_incidence.specs.Blocks.{AreBlocksInOrder, numbers_in};
 ghost use Rattle.mo_certify.specs.Offsets.{AreOffsets};
 
@@ -51,7 +51,7 @@ pub fn blocks_hold(
     offsets: &Offsets,
     listed: &Blocks,
 ) -> Result<bool, NoMemory>
-    ensures exact { IfOk result (λ yes. IsTrue yes ↔ (AreOffsets inc.now offsets.now.c.items offsets.now.d.items offsets.now.pairs.items × (equations inc.now ≡ inc.now.unknowns) × AreBlocksInOrder inc.now (by_place offsets.now.c.items) (by_number offsets.now.d.items) (by_place offsets.now.pairs.items) (numbers_in listed.now.0.items))) }
+    ensures exact { IfOk result (λ yes. IsTrue yes ↔ (AreOffsets inc.now offsets.now.c.items offsets.now.d.items offsets.now.pairs.items × (equations inc.now ≡ inc.now.unknowns) × AreBlocksInOrder inc.now (c_of offsets.now) (d_of offsets.now) (pairs_of offsets.now) (numbers_in listed.now.0.items))) }
 {
     if !offsets_hold(alloc, inc, offsets)? {
         return Ok(false);

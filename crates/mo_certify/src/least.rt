@@ -2,7 +2,7 @@
 ghost use Rattle.std.specs.Prelude.{◌≡◌, ◌≢◌, ℕ, ◌+◌, ◌-◌, ◌<◌, ◌≤◌, ◌⊎◌, ◌↔◌, IsTrue, IfOk, length, slice_index, true, false};
 ghost use Rattle.std.proofs.Common.{suc};
 ghost use Rattle.mo_incidence.specs.Signature.{equations};
-ghost use Rattle.mo_incidence.specs.Offsets.{IsLeast, by_place, by_number};
+ghost use Rattle.mo_incidence.specs.Offsets.{IsLeast, by_place, c_of, d_of};
 ghost use Rattle.mo_certify.specs.Offsets.{AreOffsets};
 ghost use Rattle.mo_certify.specs.Reasons.{first_reason, reason_of, named, LeadsToZero, IsReasonAt, AreReasonsBy, LeadToZeroBy, AreShownLeast};
 
@@ -157,7 +157,7 @@ pub fn least_holds(
     why: &[Reason],
 ) -> Result<bool, NoMemory>
     ensures exact { IfOk result (λ yes. IsTrue yes ↔ AreShownLeast inc.now offsets.now.c.items offsets.now.d.items offsets.now.pairs.items why.now) }
-    ensures least { IfOk result (λ yes. IsTrue yes → IsLeast inc.now (by_place offsets.now.c.items) (by_number offsets.now.d.items)) }
+    ensures least { IfOk result (λ yes. IsTrue yes → IsLeast inc.now (c_of offsets.now) (d_of offsets.now)) }
 {
     if !offsets_hold(alloc, inc, offsets)? {
         return Ok(false);

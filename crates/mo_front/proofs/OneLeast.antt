@@ -4,7 +4,7 @@ use Rattle.mo_flat.specs.declared.model.FlatModel.{FlatModel}
 use Rattle.mo_incidence.specs.declared.findings.Offsets.{Offsets}
 use Rattle.mo_incidence.specs.Signature.{Signature, equations}
 use Rattle.mo_incidence.specs.Assignment.{IsDeficit}
-use Rattle.mo_incidence.specs.Offsets.{by_place, by_number}
+use Rattle.mo_incidence.specs.Offsets.{c_of, d_of, pairs_of}
 use Rattle.mo_incidence.specs.Model.{incidence_of}
 use Rattle.mo_incidence.proofs.Transversals.{one-transversal}
 use Rattle.mo_report.specs.declared.report.Report.{Report}
@@ -17,30 +17,30 @@ module _ (g : Signature) (o p : Offsets) (a : AreLeastOffsets g o) (b : AreLeast
   same-c : o.c.items ≡ p.c.items
   same-c = same-numbers o.c.items p.c.items (a.equations_all ∙ sym b.equations_all) (λ i l.
       let il : i < equations g = omega (arith, a.equations_all, l) in
-      let under = (a.least.least.below (by_place p.c.items) (by_number p.d.items) b.least.admissible).equation i il in
-      let over = (b.least.least.below (by_place o.c.items) (by_number o.d.items) a.least.admissible).equation i il in
+      let under = (a.least.least.below (c_of p) (d_of p) b.least.admissible).equation i il in
+      let over = (b.least.least.below (c_of o) (d_of o) a.least.admissible).equation i il in
       omega (arith, under, over))
 
   same-d : o.d.items ≡ p.d.items
   same-d = same-numbers o.d.items p.d.items (a.unknowns_all ∙ sym b.unknowns_all) (λ i l.
       let il : suc i ≤ g.unknowns = omega (arith, a.unknowns_all, l) in
       let back : suc i - 1 ≡ i = omega arith in
-      let under = (a.least.least.below (by_place p.c.items) (by_number p.d.items) b.least.admissible).unknown (suc i) (omega arith) il in
-      let over = (b.least.least.below (by_place o.c.items) (by_number o.d.items) a.least.admissible).unknown (suc i) (omega arith) il in
+      let under = (a.least.least.below (c_of p) (d_of p) b.least.admissible).unknown (suc i) (omega arith) il in
+      let over = (b.least.least.below (c_of o) (d_of o) a.least.admissible).unknown (suc i) (omega arith) il in
       let low : get_or o.d.items i 0 ≤ get_or p.d.items i 0 = rw back at under in
       let high : get_or p.d.items i 0 ≤ get_or o.d.items i 0 = rw back at over in
       omega (arith, low, high))
 
   same-pairs : o.pairs.items ≡ p.pairs.items
   same-pairs = same-numbers o.pairs.items p.pairs.items (a.pairs_all ∙ sym b.pairs_all) (λ i l.
-      one-transversal g (by_place o.c.items) (by_number o.d.items) (by_place o.pairs.items) (by_place p.pairs.items) a.tight a.covers a.sequence
+      one-transversal g (c_of o) (d_of o) (pairs_of o) (pairs_of p) a.tight a.covers a.sequence
       (rw (same-c, same-d) b.tight) b.covers (rw (same-c, same-d) b.sequence) i (omega (arith, a.pairs_all, l)))
 
   same-lists : offset_lists (Some o) ≡ offset_lists (Some p)
   same-lists = rw (same-c, same-d, same-pairs) refl
 
 none-and-some : (g : Signature) (deficient mentioned : List ℕ) (k : ℕ) (o : Offsets) → k ≢ 0 → IsDeficit g deficient mentioned k → AreLeastOffsets g o → ⊥
-none-and-some g deficient mentioned k o some is they = no-deficit g (by_place o.c.items) (by_number o.d.items) (by_place o.pairs.items) they.tight they.covers deficient mentioned k some is
+none-and-some g deficient mentioned k o some is they = no-deficit g (c_of o) (d_of o) (pairs_of o) they.tight they.covers deficient mentioned k some is
 
 one-for : (g : Signature) (o p : Option Offsets) → IsLeastFor g o → IsLeastFor g p → offset_lists o ≡ offset_lists p
 one-for g None None (left_out deficient mentioned k some is) (left_out others also n some' is') = refl

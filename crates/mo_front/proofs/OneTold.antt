@@ -16,7 +16,7 @@ use Rattle.mo_report.proofs.OneReport.{one-report}
 use Rattle.mo_report.proofs.SameLines.{same-lines, offsets-are, offsets-none, none-offsets, both-none, none-both}
 use Rattle.mo_json.proofs.SameData.{same-line}
 use Rattle.mo_incidence.specs.Model.{incidence_of}
-use Rattle.mo_incidence.specs.Offsets.{by_number, by_place}
+use Rattle.mo_incidence.specs.Offsets.{by_number, c_of, d_of}
 use Rattle.mo_select.specs.declared.selection.Selection.{Selection}
 use Rattle.mo_select.specs.Levels.{levels_of}
 use Rattle.mo_select.proofs.LowLevels.{levels-low}
@@ -130,7 +130,7 @@ module _ (m : FlatModel) where
         let lists : offset_lists (Some o) ≡ offset_lists (Some p) = rw (o_is, p_is) at say.offsets in
         let are = offsets-are o p lists in
         let there : IsSelectionOf m o b = rw (are.0, are.1) b_is in
-        let same = one-selection (incidence_of m) (by_place o.c.items) (by_number o.d.items) (by_number (levels_of m.vars)) a b (levels-low m.vars) a_is there in
+        let same = one-selection (incidence_of m) (c_of o) (d_of o) (by_number (levels_of m.vars)) a b (levels-low m.vars) a_is there in
         rw (o_is, p_is, say.name, say.unknowns) (same-text s.name s.unknowns o p a b are.0 are.1 same)
 
     none-selected : (x y : Option Selection) → x ≡ None → y ≡ None → selected_lines r x r.offsets ≡ selected_lines s y s.offsets

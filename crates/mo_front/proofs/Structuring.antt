@@ -11,7 +11,7 @@ use Rattle.mo_incidence.specs.declared.findings.Offsets.{Offsets}
 use Rattle.mo_incidence.specs.declared.findings.Reason.{Reason}
 use Rattle.mo_incidence.specs.Signature.{Signature, equations, IsSound}
 use Rattle.mo_incidence.specs.Assignment.{Mentions, IsAssignment, CoversAll, ListsWhere, IsDeficit, IsUndetermined}
-use Rattle.mo_incidence.specs.Offsets.{IsTight, by_place, by_number}
+use Rattle.mo_incidence.specs.Offsets.{IsTight, c_of, d_of, pairs_of}
 use Rattle.mo_incidence.specs.Reasons.{AreReasonsOf}
 use Rattle.mo_incidence.specs.Model.{row_of, incidence_of}
 use Rattle.mo_incidence.proofs.Counting.{distinct-room}
@@ -40,35 +40,35 @@ few-equations g q sound assigns all =
 -- what is read of the offsets: the unknown j of the equation at place i, and their offsets x and y
 module _ (g : Signature) (offsets : Offsets) (i j : ℕ) (sound : IsSound g) (least : AreLeastOffsets g offsets) (l : i < equations g)
     (j-is : j ≡ get_or offsets.pairs.items i j) where
-  pair-is : j ≡ by_place offsets.pairs.items i
+  pair-is : j ≡ pairs_of offsets i
   pair-is =
       let inside : i < length offsets.pairs.items = omega (arith, least.pairs_all) in
       j-is ∙ get_or_default_zero offsets.pairs.items i j inside
 
-  pair-tight : IsTight g (by_place offsets.c.items) (by_number offsets.d.items) i (by_place offsets.pairs.items i)
+  pair-tight : IsTight g (c_of offsets) (d_of offsets) i (pairs_of offsets i)
   pair-tight = least.tight.allowed i l (least.covers i l)
 
   pub pair-known : (0 < j) × (j - 1 < length offsets.d.items)
   pair-known =
-      let known : (0 < by_place offsets.pairs.items i) × (by_place offsets.pairs.items i ≤ g.unknowns) =
-      tight-known g (by_place offsets.c.items) (by_number offsets.d.items) i (by_place offsets.pairs.items i) sound l pair-tight in
-      let is : j ≡ by_place offsets.pairs.items i = pair-is in
+      let known : (0 < pairs_of offsets i) × (pairs_of offsets i ≤ g.unknowns) =
+      tight-known g (c_of offsets) (d_of offsets) i (pairs_of offsets i) sound l pair-tight in
+      let is : j ≡ pairs_of offsets i = pair-is in
       let all : length offsets.d.items ≡ g.unknowns = least.unknowns_all in
       (omega (arith, known.0), omega (arith, known.0, known.1))
 
   module _ (x y : ℕ) (x-is : x ≡ get_or offsets.c.items i x) (y-is : y ≡ get_or offsets.d.items (j - 1) y) where
-    offset-is : x ≡ by_place offsets.c.items i
+    offset-is : x ≡ c_of offsets i
     offset-is =
         let inside : i < length offsets.c.items = omega (arith, least.equations_all) in
         x-is ∙ get_or_default_zero offsets.c.items i x inside
 
-    highest-is : y ≡ by_number offsets.d.items (by_place offsets.pairs.items i)
-    highest-is = y-is ∙ get_or_default_zero offsets.d.items (j - 1) y pair-known.1 ∙ ap (by_number offsets.d.items) pair-is
+    highest-is : y ≡ d_of offsets (pairs_of offsets i)
+    highest-is = y-is ∙ get_or_default_zero offsets.d.items (j - 1) y pair-known.1 ∙ ap (d_of offsets) pair-is
 
     pub order-low : x ≤ y
     order-low =
-        let low : by_place offsets.c.items i ≤ by_number offsets.d.items (by_place offsets.pairs.items i) =
-        tight-low g (by_place offsets.c.items) (by_number offsets.d.items) i (by_place offsets.pairs.items i) pair-tight in
+        let low : c_of offsets i ≤ d_of offsets (pairs_of offsets i) =
+        tight-low g (c_of offsets) (d_of offsets) i (pairs_of offsets i) pair-tight in
         omega (arith, offset-is, highest-is)
 
     pub order-is : y - x ≡ order_by_offsets offsets i
@@ -80,7 +80,7 @@ pub orders-at : (g : Signature) (offsets : Offsets) (orders : List ℕ) → AreL
 orders-at g offsets orders least all each = record {
   all = all;
   order = λ i l.
-      let entry = tight-entry-of g (by_place offsets.c.items) (by_number offsets.d.items) i (by_place offsets.pairs.items i)
+      let entry = tight-entry-of g (c_of offsets) (d_of offsets) i (pairs_of offsets i)
       (least.tight.allowed i l (least.covers i l)) in
       let here = each i l in
       (entry.0, entry.1, entry.2, omega (arith, entry.3));
@@ -124,7 +124,7 @@ fewer-of g f offsets (fewer_equations others few none is they loose) e l = (subs
 fewer-of g f offsets (as_many others all none is they reasons) e l = absurd (omega (arith, all, l))
 
 abbrev pub AreReasonsBy : Signature → Offsets → List Reason → Type 0
-AreReasonsBy g offsets reasons = AreReasonsOf g (by_place offsets.c.items) (by_number offsets.d.items) (by_place offsets.pairs.items) reasons
+AreReasonsBy g offsets reasons = AreReasonsOf g (c_of offsets) (d_of offsets) (pairs_of offsets) reasons
 
 pub equal-of : (g : Signature) (f : Found) (offsets : Offsets) → IsFoundOf g f → f.offsets ≡ Some offsets → g.unknowns ≤ equations g
     → (equations g ≡ g.unknowns) × AreLeastOffsets g offsets × AreReasonsBy g offsets f.reasons.items

@@ -3,7 +3,7 @@ use Rattle.std.specs.Prelude.{ℕ, List, Option, Some, None}
 use Rattle.mo_flat.specs.declared.model.FlatModel.{FlatModel}
 use Rattle.mo_incidence.specs.declared.findings.Offsets.{Offsets}
 use Rattle.mo_incidence.specs.Model.{incidence_of}
-use Rattle.mo_incidence.specs.Offsets.{by_place, by_number}
+use Rattle.mo_incidence.specs.Offsets.{by_number, c_of, d_of}
 use Rattle.mo_report.specs.declared.report.Report.{Report}
 use Rattle.mo_report.specs.Lines.{report_lines}
 use Rattle.mo_select.specs.declared.selection.Selection.{Selection}
@@ -13,7 +13,7 @@ use Rattle.mo_select.specs.Text.{selection_lines}
 
 -- the selection of the model with these offsets
 abbrev pub IsSelectionOf : FlatModel → Offsets → Selection → Type 0
-IsSelectionOf m offsets = IsSelection (incidence_of m) (by_place offsets.c.items) (by_number offsets.d.items) (by_number (levels_of m.vars))
+IsSelectionOf m offsets = IsSelection (incidence_of m) (c_of offsets) (d_of offsets) (by_number (levels_of m.vars))
 
 -- the text of what is selected, or the report where nothing is
 abbrev pub selected_lines : Report → Option Selection → Option Offsets → List ℕ

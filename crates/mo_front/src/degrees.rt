@@ -2,7 +2,7 @@
 ghost use Rattle.std.specs.Prelude.{◌≡◌, ◌+◌, ◌-◌, ◌<◌, length, IfOk};
 ghost use Rattle.mo_incidence.specs.Counting.{sum_below};
 ghost use Rattle.mo_incidence.specs.Signature.{equations};
-ghost use Rattle.mo_incidence.specs.Offsets.{by_place, by_number, sum_unknowns};
+ghost use Rattle.mo_incidence.specs.Offsets.{by_place, by_number, sum_unknowns, c_of, d_of, pairs_of};
 ghost use Rattle.mo_incidence.specs.Dummies.{greatest, states_of};
 ghost use Rattle.mo_report.specs.Right.{AreLeastOffsets, AreOrdersAt, has_zero, index_of};
 ghost use Rattle.mo_front.specs.steps.Structure.{order_by_offsets};
@@ -68,7 +68,7 @@ fn has_zero(d: &[u32]) -> bool
 /// The structural index of a system with these offsets. `NoMemory` where it has more than 32 bits.
 pub(crate) fn index(inc: &Incidence, offsets: &Offsets) -> Result<u32, NoMemory>
     requires least { AreLeastOffsets inc.now offsets.now }
-    ensures { IfOk result (λ n. n ≡ index_of inc.now (by_place offsets.now.c.items) (by_number offsets.now.d.items)) }
+    ensures { IfOk result (λ n. n ≡ index_of inc.now (c_of offsets.now) (d_of offsets.now)) }
 {
     let _equations = inc.equations();
     let most = greatest(&offsets.c);
@@ -87,8 +87,8 @@ pub(crate) fn freedom(
 ) -> Result<u32, NoMemory>
     requires square { equations inc.now ≡ inc.now.unknowns }
     requires least { AreLeastOffsets inc.now offsets.now }
-    requires states { dummies.now.states.items ≡ states_of (by_place offsets.now.c.items) (by_number offsets.now.d.items) (by_place offsets.now.pairs.items) (equations inc.now) inc.now.unknowns }
-    ensures { IfOk result (λ n. n + sum_below (by_place offsets.now.c.items) (equations inc.now) ≡ sum_unknowns inc.now (by_number offsets.now.d.items)) }
+    requires states { dummies.now.states.items ≡ states_of (c_of offsets.now) (d_of offsets.now) (pairs_of offsets.now) (equations inc.now) inc.now.unknowns }
+    ensures { IfOk result (λ n. n + sum_below (c_of offsets.now) (equations inc.now) ≡ sum_unknowns inc.now (d_of offsets.now)) }
 {
     let _equations = inc.equations();
     counted_by_offsets();

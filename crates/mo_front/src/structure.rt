@@ -4,7 +4,7 @@ ghost use Rattle.std.specs.Prelude.{◌≡◌, ◌<◌, Some, None, IfOk, OnOk, 
 ghost use Rattle.mo_flat.specs.Sound.{IsSoundModel};
 ghost use Rattle.mo_incidence.specs.Signature.{equations};
 ghost use Rattle.mo_incidence.specs.Assignment.{IsAssignment, CoversAll, IsDeficit, IsUndetermined, ListsWhere};
-ghost use Rattle.mo_incidence.specs.Offsets.{by_place, by_number};
+ghost use Rattle.mo_incidence.specs.Offsets.{by_place, c_of, d_of, pairs_of};
 ghost use Rattle.mo_incidence.specs.Reasons.{AreReasonsOf};
 ghost use Rattle.mo_incidence.specs.Model.{incidence_of, refusal_of};
 ghost use Rattle.mo_match.specs.Results.{IsMadeFor};
@@ -151,7 +151,7 @@ fn with_fewer(alloc: Global, _inc: &Incidence, offsets: Offsets, loose: Vec<u32>
 fn with_equal(alloc: Global, _inc: &Incidence, offsets: Offsets, reasons: Vec<Reason>) -> Found
     requires square { equations _inc.now ≡ _inc.now.unknowns }
     requires least { AreLeastOffsets _inc.now offsets }
-    requires reasons { AreReasonsOf _inc.now (by_place offsets.c.items) (by_number offsets.d.items) (by_place offsets.pairs.items) reasons.items }
+    requires reasons { AreReasonsOf _inc.now (c_of offsets) (d_of offsets) (pairs_of offsets) reasons.items }
     ensures { IsFoundOf _inc.now result }
 {
     Found {
@@ -254,7 +254,7 @@ fn square_report(
 ) -> Result<Report, NoMemory>
     requires square { equations inc.now ≡ inc.now.unknowns }
     requires least { AreLeastOffsets inc.now offsets }
-    requires reasons { AreReasonsOf inc.now (by_place offsets.c.items) (by_number offsets.d.items) (by_place offsets.pairs.items) reasons.items }
+    requires reasons { AreReasonsOf inc.now (c_of offsets) (d_of offsets) (pairs_of offsets) reasons.items }
     ensures on { IfOk result (λ r. IsReportOn m.now inc.now r) }
     ensures offsets { IfOk result (λ r. r.offsets ≡ Some offsets) }
 {

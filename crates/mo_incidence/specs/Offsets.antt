@@ -4,6 +4,7 @@
 use Rattle.std.specs.Prelude.{◌≡◌, ◌≢◌, ℕ, ◌+◌, ◌-◌, ◌<◌, ◌≤◌, List}
 use Rattle.std.proofs.Common.{get_or, zero, suc}
 use Rattle.mo_graph.specs.Counting.{sum_below}
+use Rattle.mo_incidence.specs.declared.findings.Offsets.{Offsets}
 use Rattle.mo_incidence.specs.Signature.{Signature, equations, row_len, unknown_at, order_at}
 use Rattle.mo_incidence.specs.Assignment.{Assigns, CoversAll}
 
@@ -39,6 +40,17 @@ by_place xs i = get_or xs i 0
 
 abbrev pub by_number : List ℕ → ℕ → ℕ
 by_number xs j = get_or xs (j - 1) 0
+
+-- how often the equation at a place is differentiated, the order of the highest derivative of an unknown, and the unknown of the equation
+-- at a place
+abbrev pub c_of : Offsets → ℕ → ℕ
+c_of offsets = by_place offsets.c.items
+
+abbrev pub d_of : Offsets → ℕ → ℕ
+d_of offsets = by_number offsets.d.items
+
+abbrev pub pairs_of : Offsets → ℕ → ℕ
+pairs_of offsets = by_place offsets.pairs.items
 
 -- h is at least the order of each entry, at its unknown
 pub record BoundsOrders (g : Signature) (h : ℕ → ℕ) : Type 0 where

@@ -2,7 +2,7 @@
 ghost use Rattle.std.specs.Prelude.{◌≡◌, ◌≢◌, ℕ, ◌+◌, ◌-◌, ◌<◌, ◌≤◌, ◌++◌, ◌∷◌, [], length, slice_index, IfSome, IfNone, IfOk, OnOk};
 ghost use Rattle.std.proofs.Common.{suc};
 ghost use Rattle.mo_incidence.specs.Signature.{equations, row_len, IsSound};
-ghost use Rattle.mo_incidence.specs.Offsets.{IsTight, by_place, by_number};
+ghost use Rattle.mo_incidence.specs.Offsets.{IsTight, by_place, by_number, c_of, d_of, pairs_of};
 ghost use Rattle.mo_incidence.specs.Assignment.{Assigns, CoversAll};
 ghost use Rattle.mo_incidence.specs.Blocks.{Needs};
 ghost use Rattle.mo_incidence.specs.steps.Needing.{IsNeed, AreOwners, HasNeeds};
@@ -105,10 +105,10 @@ fn list_needs(
 /// `NoMemory` is the only other answer.
 pub fn needs(alloc: Global, inc: &Incidence, offsets: &Offsets) -> Result<Edges, NoMemory>
     requires lengths { (length offsets.now.c.items ≡ equations inc.now) × (length offsets.now.d.items ≡ inc.now.unknowns) × (length offsets.now.pairs.items ≡ equations inc.now) }
-    requires tight { Assigns (IsTight inc.now (by_place offsets.now.c.items) (by_number offsets.now.d.items)) (equations inc.now) (by_place offsets.now.pairs.items) }
-    requires all { CoversAll inc.now (by_place offsets.now.pairs.items) }
-    ensures only { IfOk result (λ edges. (i k : ℕ) → Edge edges.sources.items edges.targets.items i k → Needs inc.now (by_place offsets.now.c.items) (by_number offsets.now.d.items) (by_place offsets.now.pairs.items) i k) }
-    ensures all { IfOk result (λ edges. (i k : ℕ) → Needs inc.now (by_place offsets.now.c.items) (by_number offsets.now.d.items) (by_place offsets.now.pairs.items) i k → Edge edges.sources.items edges.targets.items i k) }
+    requires tight { Assigns (IsTight inc.now (c_of offsets.now) (d_of offsets.now)) (equations inc.now) (pairs_of offsets.now) }
+    requires all { CoversAll inc.now (pairs_of offsets.now) }
+    ensures only { IfOk result (λ edges. (i k : ℕ) → Edge edges.sources.items edges.targets.items i k → Needs inc.now (c_of offsets.now) (d_of offsets.now) (pairs_of offsets.now) i k) }
+    ensures all { IfOk result (λ edges. (i k : ℕ) → Needs inc.now (c_of offsets.now) (d_of offsets.now) (pairs_of offsets.now) i k → Edge edges.sources.items edges.targets.items i k) }
     ensures graph { IfOk result (λ edges. IsGraph (equations inc.now) edges.sources.items edges.targets.items) }
 {
     let _equations = inc.equations();

@@ -7,7 +7,7 @@ use Rattle.mo_incidence.specs.declared.findings.Offsets.{Offsets}
 use Rattle.mo_incidence.specs.declared.findings.Deficit.{Deficit}
 use Rattle.mo_incidence.specs.Signature.{Signature, equations}
 use Rattle.mo_incidence.specs.Assignment.{ListsWhere, IsDeficit, IsUndetermined, IsDeficient, IsMentionedInDeficit}
-use Rattle.mo_incidence.specs.Offsets.{by_place, by_number, sum_unknowns}
+use Rattle.mo_incidence.specs.Offsets.{sum_unknowns, c_of, d_of, pairs_of}
 use Rattle.mo_incidence.specs.Reasons.{AreReasonsOf}
 use Rattle.mo_incidence.specs.Model.{incidence_of}
 use Rattle.mo_incidence.specs.Blocks.{Needs, AreBlocksInOrder, numbers_in}
@@ -24,23 +24,23 @@ module _ (g : Signature) (o p : Offsets) (a : AreLeastOffsets g o) (b : AreLeast
   same-c : o.c.items ≡ p.c.items
   same-c = same-numbers o.c.items p.c.items (a.equations_all ∙ sym b.equations_all) (λ i l.
       let il : i < equations g = omega (arith, a.equations_all, l) in
-      let under = (a.least.least.below (by_place p.c.items) (by_number p.d.items) b.least.admissible).equation i il in
-      let over = (b.least.least.below (by_place o.c.items) (by_number o.d.items) a.least.admissible).equation i il in
+      let under = (a.least.least.below (c_of p) (d_of p) b.least.admissible).equation i il in
+      let over = (b.least.least.below (c_of o) (d_of o) a.least.admissible).equation i il in
       omega (arith, under, over))
 
   same-d : o.d.items ≡ p.d.items
   same-d = same-numbers o.d.items p.d.items (a.unknowns_all ∙ sym b.unknowns_all) (λ i l.
       let il : suc i ≤ g.unknowns = omega (arith, a.unknowns_all, l) in
       let back : suc i - 1 ≡ i = omega arith in
-      let under = (a.least.least.below (by_place p.c.items) (by_number p.d.items) b.least.admissible).unknown (suc i) (omega arith) il in
-      let over = (b.least.least.below (by_place o.c.items) (by_number o.d.items) a.least.admissible).unknown (suc i) (omega arith) il in
+      let under = (a.least.least.below (c_of p) (d_of p) b.least.admissible).unknown (suc i) (omega arith) il in
+      let over = (b.least.least.below (c_of o) (d_of o) a.least.admissible).unknown (suc i) (omega arith) il in
       let low : get_or o.d.items i 0 ≤ get_or p.d.items i 0 = rw back at under in
       let high : get_or p.d.items i 0 ≤ get_or o.d.items i 0 = rw back at over in
       omega (arith, low, high))
 
   same-pairs : o.pairs.items ≡ p.pairs.items
   same-pairs = same-numbers o.pairs.items p.pairs.items (a.pairs_all ∙ sym b.pairs_all) (λ i l.
-      one-transversal g (by_place o.c.items) (by_number o.d.items) (by_place o.pairs.items) (by_place p.pairs.items) a.tight a.covers a.sequence
+      one-transversal g (c_of o) (d_of o) (pairs_of o) (pairs_of p) a.tight a.covers a.sequence
       (rw (same-c, same-d) b.tight) b.covers (rw (same-c, same-d) b.sequence) i (omega (arith, a.pairs_all, l)))
 
 -- ---- orders
@@ -59,32 +59,32 @@ module _ (g : Signature) (o p : Offsets) (c_is : o.c.items ≡ p.c.items) (d_is 
     (a : HasSquareParts g o r) (b : HasSquareParts g p s) where
   same-reason-lists : r.reasons.items ≡ s.reasons.items
   same-reason-lists =
-      let other : AreReasonsOf g (by_place o.c.items) (by_number o.d.items) (by_place o.pairs.items) s.reasons.items = rw (c_is, d_is, t_is) b.reasons in
-      a.reasons.listed ∙ (same-reasons g (by_place o.c.items) (by_number o.d.items) (by_place o.pairs.items) a.reasons.by other.by a.reasons.reason other.reason (equations g) (omega arith) ∙ sym other.listed)
+      let other : AreReasonsOf g (c_of o) (d_of o) (pairs_of o) s.reasons.items = rw (c_is, d_is, t_is) b.reasons in
+      a.reasons.listed ∙ (same-reasons g (c_of o) (d_of o) (pairs_of o) a.reasons.by other.by a.reasons.reason other.reason (equations g) (omega arith) ∙ sym other.listed)
 
   same-blocks : numbers_in r.blocks.0.items ≡ numbers_in s.blocks.0.items
   same-blocks =
-      let other : AreBlocksInOrder g (by_place o.c.items) (by_number o.d.items) (by_place o.pairs.items) (numbers_in s.blocks.0.items) = rw (c_is, d_is, t_is) b.blocks in
-      order-unique (Needs g (by_place o.c.items) (by_number o.d.items) (by_place o.pairs.items)) (equations g) (numbers_in r.blocks.0.items) (numbers_in s.blocks.0.items) a.blocks other
+      let other : AreBlocksInOrder g (c_of o) (d_of o) (pairs_of o) (numbers_in s.blocks.0.items) = rw (c_is, d_is, t_is) b.blocks in
+      order-unique (Needs g (c_of o) (d_of o) (pairs_of o)) (equations g) (numbers_in r.blocks.0.items) (numbers_in s.blocks.0.items) a.blocks other
 
   same-dummies : r.dummies.chosen.items ≡ s.dummies.chosen.items
   same-dummies =
-      let other : s.dummies.chosen.items ≡ dummies_of (by_place o.c.items) (by_number o.d.items) (by_place o.pairs.items) (equations g) = rw (c_is, d_is, t_is) b.dummies in
+      let other : s.dummies.chosen.items ≡ dummies_of (c_of o) (d_of o) (pairs_of o) (equations g) = rw (c_is, d_is, t_is) b.dummies in
       a.dummies ∙ sym other
 
   same-states : r.dummies.states.items ≡ s.dummies.states.items
   same-states =
-      let other : s.dummies.states.items ≡ states_of (by_place o.c.items) (by_number o.d.items) (by_place o.pairs.items) (equations g) g.unknowns = rw (c_is, d_is, t_is) b.states in
+      let other : s.dummies.states.items ≡ states_of (c_of o) (d_of o) (pairs_of o) (equations g) g.unknowns = rw (c_is, d_is, t_is) b.states in
       a.states ∙ sym other
 
   same-index : r.index ≡ s.index
   same-index =
-      let other : s.index ≡ index_of g (by_place o.c.items) (by_number o.d.items) = rw (c_is, d_is) b.index in
+      let other : s.index ≡ index_of g (c_of o) (d_of o) = rw (c_is, d_is) b.index in
       a.index ∙ sym other
 
   same-freedom : r.freedom ≡ s.freedom
   same-freedom =
-      let other : s.freedom + sum_below (by_place o.c.items) (equations g) ≡ sum_unknowns g (by_number o.d.items) = rw (c_is, d_is) b.freedom in
+      let other : s.freedom + sum_below (c_of o) (equations g) ≡ sum_unknowns g (d_of o) = rw (c_is, d_is) b.freedom in
       let one = a.freedom in
       omega (arith, one, other)
 
@@ -170,7 +170,7 @@ module _ (m : FlatModel) (r s : Report) (name : r.name ≡ s.name) (unknowns : r
 
   never-both : (deficit : Deficit) (k : ℕ) (o : Offsets) → k ≢ 0 → IsDeficit (incidence_of m) deficit.equations.items deficit.unknowns.items k → AreLeastOffsets (incidence_of m) o → ⊥
   never-both deficit k o some is least =
-      no-deficit (incidence_of m) (by_place o.c.items) (by_number o.d.items) (by_place o.pairs.items) least.tight least.covers deficit.equations.items deficit.unknowns.items k some is
+      no-deficit (incidence_of m) (c_of o) (d_of o) (pairs_of o) least.tight least.covers deficit.equations.items deficit.unknowns.items k some is
 
   found-same : IsRightFor (incidence_of m) r → IsRightFor (incidence_of m) s → SaySame r s
   found-same (singular deficit k some r_is a no_r orders_r loose_r none) (singular other l some' s_is b no_s orders_s loose_s none') =

@@ -9,7 +9,7 @@ use Rattle.mo_incidence.specs.declared.findings.Deficit.{Deficit}
 use Rattle.mo_incidence.specs.Counting.{sum_below}
 use Rattle.mo_incidence.specs.Signature.{Signature, equations, row_len, unknown_at, order_at}
 use Rattle.mo_incidence.specs.Assignment.{Assigns, CoversAll, ListsWhere, IsDeficit, IsUndetermined}
-use Rattle.mo_incidence.specs.Offsets.{IsTight, IsLeast, by_place, by_number, sum_unknowns}
+use Rattle.mo_incidence.specs.Offsets.{IsTight, IsLeast, by_place, sum_unknowns, c_of, d_of, pairs_of}
 use Rattle.mo_incidence.specs.Transversal.{IsLeastSequence}
 use Rattle.mo_incidence.specs.Reasons.{AreReasonsOf}
 use Rattle.mo_incidence.specs.Model.{incidence_of}
@@ -32,10 +32,10 @@ pub record AreLeastOffsets (g : Signature) (offsets : Offsets) : Type 0 where
   pub equations_all : length offsets.c.items ≡ equations g
   pub unknowns_all : length offsets.d.items ≡ g.unknowns
   pub pairs_all : length offsets.pairs.items ≡ equations g
-  pub least : IsLeast g (by_place offsets.c.items) (by_number offsets.d.items)
-  pub tight : Assigns (IsTight g (by_place offsets.c.items) (by_number offsets.d.items)) (equations g) (by_place offsets.pairs.items)
-  pub covers : CoversAll g (by_place offsets.pairs.items)
-  pub sequence : IsLeastSequence g (by_place offsets.c.items) (by_number offsets.d.items) (by_place offsets.pairs.items)
+  pub least : IsLeast g (c_of offsets) (d_of offsets)
+  pub tight : Assigns (IsTight g (c_of offsets) (d_of offsets)) (equations g) (pairs_of offsets)
+  pub covers : CoversAll g (pairs_of offsets)
+  pub sequence : IsLeastSequence g (c_of offsets) (d_of offsets) (pairs_of offsets)
 
 -- the orders at the pairs
 pub record AreOrdersAt (g : Signature) (pairs orders : List ℕ) : Type 0 where
@@ -44,12 +44,12 @@ pub record AreOrdersAt (g : Signature) (pairs orders : List ℕ) : Type 0 where
 
 -- what only square systems have
 pub record HasSquareParts (g : Signature) (offsets : Offsets) (r : Report) : Type 0 where
-  pub reasons : AreReasonsOf g (by_place offsets.c.items) (by_number offsets.d.items) (by_place offsets.pairs.items) r.reasons.items
-  pub blocks : AreBlocksInOrder g (by_place offsets.c.items) (by_number offsets.d.items) (by_place offsets.pairs.items) (numbers_in r.blocks.0.items)
-  pub dummies : r.dummies.chosen.items ≡ dummies_of (by_place offsets.c.items) (by_number offsets.d.items) (by_place offsets.pairs.items) (equations g)
-  pub states : r.dummies.states.items ≡ states_of (by_place offsets.c.items) (by_number offsets.d.items) (by_place offsets.pairs.items) (equations g) g.unknowns
-  pub index : r.index ≡ index_of g (by_place offsets.c.items) (by_number offsets.d.items)
-  pub freedom : r.freedom + sum_below (by_place offsets.c.items) (equations g) ≡ sum_unknowns g (by_number offsets.d.items)
+  pub reasons : AreReasonsOf g (c_of offsets) (d_of offsets) (pairs_of offsets) r.reasons.items
+  pub blocks : AreBlocksInOrder g (c_of offsets) (d_of offsets) (pairs_of offsets) (numbers_in r.blocks.0.items)
+  pub dummies : r.dummies.chosen.items ≡ dummies_of (c_of offsets) (d_of offsets) (pairs_of offsets) (equations g)
+  pub states : r.dummies.states.items ≡ states_of (c_of offsets) (d_of offsets) (pairs_of offsets) (equations g) g.unknowns
+  pub index : r.index ≡ index_of g (c_of offsets) (d_of offsets)
+  pub freedom : r.freedom + sum_below (c_of offsets) (equations g) ≡ sum_unknowns g (d_of offsets)
 
 pub record HasNoSquareParts (r : Report) : Type 0 where
   pub reasons : r.reasons.items ≡ []

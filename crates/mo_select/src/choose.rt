@@ -4,7 +4,7 @@ ghost use Rattle.std.proofs.Common.{suc};
 ghost use Rattle.mo_incidence.specs.Counting.{sum_below};
 ghost use Rattle.mo_incidence.specs.Signature.{equations};
 ghost use Rattle.mo_incidence.specs.Assignment.{Assigns, CoversAll};
-ghost use Rattle.mo_incidence.specs.Offsets.{IsTight, by_place, by_number, sum_unknowns};
+ghost use Rattle.mo_incidence.specs.Offsets.{IsTight, by_place, by_number, sum_unknowns, c_of, d_of, pairs_of};
 ghost use Rattle.mo_incidence.specs.Dummies.{states_to};
 ghost use Rattle.mo_select.specs.Levels.{levels_of};
 ghost use Rattle.mo_select.specs.Selection.{levels, IsStage, AreStages, AreNested, dummies_from};
@@ -106,13 +106,13 @@ pub fn select(
     off: &Offsets,
 ) -> Result<Selection, NoMemory>
     requires lengths { (length off.now.c.items ≡ equations inc.now) × (length off.now.d.items ≡ inc.now.unknowns) × (length off.now.pairs.items ≡ equations inc.now) }
-    requires tight { Assigns (IsTight inc.now (by_place off.now.c.items) (by_number off.now.d.items)) (equations inc.now) (by_place off.now.pairs.items) }
-    requires all { CoversAll inc.now (by_place off.now.pairs.items) }
-    ensures stages { IfOk result (λ selection. AreStages inc.now (by_place off.now.c.items) (by_number off.now.d.items) (by_number (levels_of m.now.vars)) selection.stages) }
+    requires tight { Assigns (IsTight inc.now (c_of off.now) (d_of off.now)) (equations inc.now) (pairs_of off.now) }
+    requires all { CoversAll inc.now (pairs_of off.now) }
+    ensures stages { IfOk result (λ selection. AreStages inc.now (c_of off.now) (d_of off.now) (by_number (levels_of m.now.vars)) selection.stages) }
     ensures nested { IfOk result (λ selection. AreNested selection.stages) }
-    ensures states { IfOk result (λ selection. selection.states ≡ states_to (dummies_from (by_number off.now.d.items) 1 selection.stages) (by_number off.now.d.items) inc.now.unknowns) }
-    ensures dummies_count { IfOk result (λ selection. length (dummies_from (by_number off.now.d.items) 1 selection.stages) ≡ sum_below (by_place off.now.c.items) (equations inc.now)) }
-    ensures states_count { IfOk result (λ selection. length selection.states + sum_below (by_place off.now.c.items) (equations inc.now) ≡ sum_unknowns inc.now (by_number off.now.d.items)) }
+    ensures states { IfOk result (λ selection. selection.states ≡ states_to (dummies_from (d_of off.now) 1 selection.stages) (d_of off.now) inc.now.unknowns) }
+    ensures dummies_count { IfOk result (λ selection. length (dummies_from (d_of off.now) 1 selection.stages) ≡ sum_below (c_of off.now) (equations inc.now)) }
+    ensures states_count { IfOk result (λ selection. length selection.states + sum_below (c_of off.now) (equations inc.now) ≡ sum_unknowns inc.now (d_of off.now)) }
 {
     let _equations = inc.equations();
     let level = levels_of(alloc, m.vars.as_slice())?;

@@ -9,7 +9,7 @@ use Rattle.mo_incidence.specs.declared.findings.Offsets.{Offsets}
 use Rattle.mo_incidence.specs.Counting.{sum_below}
 use Rattle.mo_incidence.specs.Signature.{Signature, equations, order_at, IsSound}
 use Rattle.mo_incidence.specs.Assignment.{Mentions, CanCoverAll, IsDeficit}
-use Rattle.mo_incidence.specs.Offsets.{by_place, by_number, after_reasons, sum_unknowns}
+use Rattle.mo_incidence.specs.Offsets.{by_place, by_number, after_reasons, sum_unknowns, c_of, d_of, pairs_of}
 use Rattle.mo_incidence.specs.Reasons.{IsReason, IsWithin, AreReasonsOf}
 use Rattle.mo_incidence.specs.Blocks.{Needs, AreBlocksInOrder, numbers_in}
 use Rattle.mo_incidence.specs.Dummies.{dummies_of, states_of}
@@ -100,32 +100,32 @@ module _ (g : Signature) (o p : Offsets) (c_is : o.c.items ≡ p.c.items) (d_is 
     (a : HasSquareParts g o r) (b : HasSquareParts g p s) where
   both_reasons : r.reasons.items ≡ s.reasons.items
   both_reasons =
-      let other : AreReasonsOf g (by_place o.c.items) (by_number o.d.items) (by_place o.pairs.items) s.reasons.items = rw (c_is, d_is, t_is) b.reasons in
-      a.reasons.listed ∙ (same-reasons g (by_place o.c.items) (by_number o.d.items) (by_place o.pairs.items) a.reasons.by other.by a.reasons.reason other.reason (equations g) (omega arith) ∙ sym other.listed)
+      let other : AreReasonsOf g (c_of o) (d_of o) (pairs_of o) s.reasons.items = rw (c_is, d_is, t_is) b.reasons in
+      a.reasons.listed ∙ (same-reasons g (c_of o) (d_of o) (pairs_of o) a.reasons.by other.by a.reasons.reason other.reason (equations g) (omega arith) ∙ sym other.listed)
 
   both_blocks : numbers_in r.blocks.0.items ≡ numbers_in s.blocks.0.items
   both_blocks =
-      let other : AreBlocksInOrder g (by_place o.c.items) (by_number o.d.items) (by_place o.pairs.items) (numbers_in s.blocks.0.items) = rw (c_is, d_is, t_is) b.blocks in
-      order-unique (Needs g (by_place o.c.items) (by_number o.d.items) (by_place o.pairs.items)) (equations g) (numbers_in r.blocks.0.items) (numbers_in s.blocks.0.items) a.blocks other
+      let other : AreBlocksInOrder g (c_of o) (d_of o) (pairs_of o) (numbers_in s.blocks.0.items) = rw (c_is, d_is, t_is) b.blocks in
+      order-unique (Needs g (c_of o) (d_of o) (pairs_of o)) (equations g) (numbers_in r.blocks.0.items) (numbers_in s.blocks.0.items) a.blocks other
 
   both_dummies : r.dummies.chosen.items ≡ s.dummies.chosen.items
   both_dummies =
-      let other : s.dummies.chosen.items ≡ dummies_of (by_place o.c.items) (by_number o.d.items) (by_place o.pairs.items) (equations g) = rw (c_is, d_is, t_is) b.dummies in
+      let other : s.dummies.chosen.items ≡ dummies_of (c_of o) (d_of o) (pairs_of o) (equations g) = rw (c_is, d_is, t_is) b.dummies in
       a.dummies ∙ sym other
 
   both_states : r.dummies.states.items ≡ s.dummies.states.items
   both_states =
-      let other : s.dummies.states.items ≡ states_of (by_place o.c.items) (by_number o.d.items) (by_place o.pairs.items) (equations g) g.unknowns = rw (c_is, d_is, t_is) b.states in
+      let other : s.dummies.states.items ≡ states_of (c_of o) (d_of o) (pairs_of o) (equations g) g.unknowns = rw (c_is, d_is, t_is) b.states in
       a.states ∙ sym other
 
   both_index : r.index ≡ s.index
   both_index =
-      let other : s.index ≡ index_of g (by_place o.c.items) (by_number o.d.items) = rw (c_is, d_is) b.index in
+      let other : s.index ≡ index_of g (c_of o) (d_of o) = rw (c_is, d_is) b.index in
       a.index ∙ sym other
 
   both_freedom : r.freedom ≡ s.freedom
   both_freedom =
-      let other : s.freedom + sum_below (by_place o.c.items) (equations g) ≡ sum_unknowns g (by_number o.d.items) = rw (c_is, d_is) b.freedom in
+      let other : s.freedom + sum_below (c_of o) (equations g) ≡ sum_unknowns g (d_of o) = rw (c_is, d_is) b.freedom in
       let one = a.freedom in
       omega (arith, one, other)
 

@@ -11,7 +11,7 @@ use Rattle.mo_incidence.specs.declared.findings.Reason.{Reason}
 use Rattle.mo_incidence.specs.Counting.{sum_below}
 use Rattle.mo_incidence.specs.Signature.{Signature, equations}
 use Rattle.mo_incidence.specs.Assignment.{IsDeficit, IsUndetermined, ListsWhere}
-use Rattle.mo_incidence.specs.Offsets.{by_place, by_number, sum_unknowns}
+use Rattle.mo_incidence.specs.Offsets.{sum_unknowns, c_of, d_of, pairs_of}
 use Rattle.mo_incidence.specs.Reasons.{AreReasonsOf}
 use Rattle.mo_incidence.specs.Blocks.{AreBlocksInOrder, numbers_in}
 use Rattle.mo_incidence.specs.Dummies.{dummies_of, states_of}
@@ -75,15 +75,15 @@ module _ (m : FlatModel) (g : Signature) (same : g ≡ incidence_of m) (blank : 
     }
 
     pub square_shown : (reasons : Vec Reason Global) (blocks : Blocks) (dummies : Dummies) (index freedom : ℕ) → equations g ≡ g.unknowns
-        → AreReasonsOf g (by_place offsets.c.items) (by_number offsets.d.items) (by_place offsets.pairs.items) reasons.items
-        → AreBlocksInOrder g (by_place offsets.c.items) (by_number offsets.d.items) (by_place offsets.pairs.items) (numbers_in blocks.0.items)
-        → dummies.chosen.items ≡ dummies_of (by_place offsets.c.items) (by_number offsets.d.items) (by_place offsets.pairs.items) (equations g)
-        → dummies.states.items ≡ states_of (by_place offsets.c.items) (by_number offsets.d.items) (by_place offsets.pairs.items) (equations g) g.unknowns
-        → index ≡ index_of g (by_place offsets.c.items) (by_number offsets.d.items)
-        → freedom ≡ length dummies.states.items → length dummies.states.items + sum_below (by_place offsets.c.items) (equations g) ≡ sum_unknowns g (by_number offsets.d.items)
+        → AreReasonsOf g (c_of offsets) (d_of offsets) (pairs_of offsets) reasons.items
+        → AreBlocksInOrder g (c_of offsets) (d_of offsets) (pairs_of offsets) (numbers_in blocks.0.items)
+        → dummies.chosen.items ≡ dummies_of (c_of offsets) (d_of offsets) (pairs_of offsets) (equations g)
+        → dummies.states.items ≡ states_of (c_of offsets) (d_of offsets) (pairs_of offsets) (equations g) g.unknowns
+        → index ≡ index_of g (c_of offsets) (d_of offsets)
+        → freedom ≡ length dummies.states.items → length dummies.states.items + sum_below (c_of offsets) (equations g) ≡ sum_unknowns g (d_of offsets)
         → IsSquareReport m p (record blank { orders = orders; offsets = Some offsets; reasons = reasons; blocks = blocks; dummies = dummies; index = index; freedom = freedom })
     square_shown reasons blocks dummies index freedom square are order chosen states_are index_is freedom_is counted =
-        let freedom_of : freedom + sum_below (by_place offsets.c.items) (equations (incidence_of m)) ≡ sum_unknowns (incidence_of m) (by_number offsets.d.items) = rw freedom_is (rw same at counted) in
+        let freedom_of : freedom + sum_below (c_of offsets) (equations (incidence_of m)) ≡ sum_unknowns (incidence_of m) (d_of offsets) = rw freedom_is (rw same at counted) in
         record {
           offsets = offsets;
           has = record {

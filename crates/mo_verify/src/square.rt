@@ -1,6 +1,6 @@
 //! The index and the freedom of a square system.
 ghost use Rattle.std.specs.Prelude.{◌≡◌, length, IfOk};
-ghost use Rattle.mo_incidence.specs.Offsets.{by_place, by_number};
+ghost use Rattle.mo_incidence.specs.Offsets.{by_place, by_number, c_of, d_of};
 ghost use Rattle.mo_incidence.specs.Dummies.{greatest};
 ghost use Rattle.mo_report.specs.Right.{has_zero, index_of};
 ghost use Rattle.mo_verify.specs.Finding.{HaveSizes};
@@ -39,7 +39,7 @@ fn has_zero(d: &[u32]) -> bool
 /// The structural index of a system with these offsets. `NoMemory` where it has more than 32 bits.
 pub(crate) fn index(inc: &Incidence, claims: &Claims) -> Result<u32, NoMemory>
     requires sizes { HaveSizes inc.now (printed_of claims.now) }
-    ensures { IfOk result (λ n. n ≡ index_of inc.now (by_place claims.now.offsets.c.items) (by_number claims.now.offsets.d.items)) }
+    ensures { IfOk result (λ n. n ≡ index_of inc.now (c_of claims.now.offsets) (d_of claims.now.offsets)) }
 {
     let _equations = inc.equations();
     let most = greatest(&claims.offsets.c);

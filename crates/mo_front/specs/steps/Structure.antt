@@ -6,7 +6,7 @@ use Rattle.mo_incidence.specs.declared.findings.Offsets.{Offsets}
 use Rattle.mo_incidence.specs.Assignment.{IsDeficit, IsUndetermined, ListsWhere}
 use Rattle.mo_incidence.specs.Reasons.{AreReasonsOf}
 use Rattle.mo_incidence.specs.Signature.{Signature, equations}
-use Rattle.mo_incidence.specs.Offsets.{by_place, by_number}
+use Rattle.mo_incidence.specs.Offsets.{c_of, d_of, pairs_of}
 use Rattle.mo_report.specs.declared.report.Report.{Report}
 use Rattle.mo_report.specs.Right.{AreLeastOffsets, IsRightFor, HasNoSquareParts}
 use Rattle.mo_front.specs.declared.structure.Found.{Found}
@@ -14,7 +14,7 @@ use Rattle.mo_report.specs.Size.{unknown_names}
 
 -- the order at which the unknown of the equation at place i stands in it: the difference of their offsets
 abbrev pub order_by_offsets : Offsets → ℕ → ℕ
-order_by_offsets offsets i = by_number offsets.d.items (by_place offsets.pairs.items i) - by_place offsets.c.items i
+order_by_offsets offsets i = d_of offsets (pairs_of offsets i) - c_of offsets i
 
 -- the report has the names of the model and what is found of the signature
 pub record IsReportOn (m : FlatModel) (g : Signature) (r : Report) : Type 0 where
@@ -47,4 +47,4 @@ pub data IsFoundOf (g : Signature) (f : Found) : Type 0 where
   fewer_equations : (offsets : Offsets) → equations g < g.unknowns → f.deficit ≡ None → f.offsets ≡ Some offsets → AreLeastOffsets g offsets
       → ListsWhere (IsUndetermined g) g.unknowns f.loose.items → IsFoundOf g f
   as_many : (offsets : Offsets) → equations g ≡ g.unknowns → f.deficit ≡ None → f.offsets ≡ Some offsets → AreLeastOffsets g offsets
-      → AreReasonsOf g (by_place offsets.c.items) (by_number offsets.d.items) (by_place offsets.pairs.items) f.reasons.items → IsFoundOf g f
+      → AreReasonsOf g (c_of offsets) (d_of offsets) (pairs_of offsets) f.reasons.items → IsFoundOf g f

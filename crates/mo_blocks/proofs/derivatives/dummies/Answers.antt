@@ -1,6 +1,6 @@
 use Rattle.std.proofs.Common.{◌≡◌, ◌∙◌, length, arith}
 use Rattle.mo_graph.proofs.Lists.{written-whole}
-use Rattle.mo_incidence.specs.Offsets.{by_place, by_number}
+use Rattle.mo_incidence.specs.Offsets.{c_of, d_of, pairs_of}
 use Rattle.mo_blocks.proofs.Counts.{count-dummies, count-states}
 use Rattle.mo_blocks.proofs.Dummying.{depth-low, states-there}
 use Rattle.mo_blocks.proofs.Staging.{own-dummies, highest-dummies, followed-dummies, chosen-here}
@@ -28,7 +28,7 @@ pub returns-clause-followed : goal.returns-clause-followed
 returns-clause-followed c = rw (chosen-here _ _ _ _ _ _ _ _ c.deref.ensures.value c.deref-2.ensures.value c.deref-3.ensures.value c.in_ok-chosen.ensures) (followed-dummies _ _ _ _ c.requires.tight c.requires.all)
 
 pub returns-clause-dummies_count : goal.returns-clause-dummies_count
-returns-clause-dummies_count c = rw (chosen-here _ _ _ _ _ _ _ _ c.deref.ensures.value c.deref-2.ensures.value c.deref-3.ensures.value c.in_ok-chosen.ensures) (count-dummies (by_place c.args.offsets.now.c.items) (by_number c.args.offsets.now.d.items) (by_place c.args.offsets.now.pairs.items) _)
+returns-clause-dummies_count c = rw (chosen-here _ _ _ _ _ _ _ _ c.deref.ensures.value c.deref-2.ensures.value c.deref-3.ensures.value c.in_ok-chosen.ensures) (count-dummies (c_of c.args.offsets.now) (d_of c.args.offsets.now) (pairs_of c.args.offsets.now) _)
 
 pub returns-clause-states_count : goal.returns-clause-states_count
 returns-clause-states_count c =

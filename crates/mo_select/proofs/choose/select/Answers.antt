@@ -1,4 +1,4 @@
-use Rattle.mo_incidence.specs.Offsets.{by_place, by_number}
+use Rattle.mo_incidence.specs.Offsets.{by_number, c_of, d_of}
 use Rattle.mo_select.specs.Levels.{levels_of}
 use Rattle.mo_select.specs.steps.Staging.{AreWhole}
 use Rattle.mo_select.proofs.LowLevels.{levels-low}
@@ -11,25 +11,25 @@ stages-requires-clause-low c = rw (c.deref-4.ensures.value, c.in_ok-level.ensure
 
 pub states-requires-clause-known : goal.states-requires-clause-known
 states-requires-clause-known c =
-    let whole : AreWhole c.args.inc.now (by_place c.args.off.now.c.items) (by_number c.args.off.now.d.items) (by_number (levels_of c.args.m.now.vars)) c.in_ok-stages.stages =
+    let whole : AreWhole c.args.inc.now (c_of c.args.off.now) (d_of c.args.off.now) (by_number (levels_of c.args.m.now.vars)) c.in_ok-stages.stages =
     rw (c.deref.ensures.value, c.deref-2.ensures.value, c.deref-4.ensures.value, c.in_ok-level.ensures, c.as_slice.ensures) at c.in_ok-stages.ensures in
     rw (c.as_slice-2.ensures, c.deref-5.ensures.value, c.requires.lengths.1) (chosen-known _ _ _ _ _ c.equations-equations.ensures.sound (levels-low c.args.m.now.vars) whole)
 
 pub states-requires-clause-nested : goal.states-requires-clause-nested
 states-requires-clause-nested c =
-    let whole : AreWhole c.args.inc.now (by_place c.args.off.now.c.items) (by_number c.args.off.now.d.items) (by_number (levels_of c.args.m.now.vars)) c.in_ok-stages.stages =
+    let whole : AreWhole c.args.inc.now (c_of c.args.off.now) (d_of c.args.off.now) (by_number (levels_of c.args.m.now.vars)) c.in_ok-stages.stages =
     rw (c.deref.ensures.value, c.deref-2.ensures.value, c.deref-4.ensures.value, c.in_ok-level.ensures, c.as_slice.ensures) at c.in_ok-stages.ensures in
     rw c.as_slice-2.ensures (stages-nested _ _ _ _ _ c.equations-equations.ensures.sound (levels-low c.args.m.now.vars) whole)
 
 pub returns-clause-stages : goal.returns-clause-stages
 returns-clause-stages c =
-    let whole : AreWhole c.args.inc.now (by_place c.args.off.now.c.items) (by_number c.args.off.now.d.items) (by_number (levels_of c.args.m.now.vars)) c.in_ok-stages.stages =
+    let whole : AreWhole c.args.inc.now (c_of c.args.off.now) (d_of c.args.off.now) (by_number (levels_of c.args.m.now.vars)) c.in_ok-stages.stages =
     rw (c.deref.ensures.value, c.deref-2.ensures.value, c.deref-4.ensures.value, c.in_ok-level.ensures, c.as_slice.ensures) at c.in_ok-stages.ensures in
     whole.stages_are
 
 pub returns-clause-nested : goal.returns-clause-nested
 returns-clause-nested c =
-    let whole : AreWhole c.args.inc.now (by_place c.args.off.now.c.items) (by_number c.args.off.now.d.items) (by_number (levels_of c.args.m.now.vars)) c.in_ok-stages.stages =
+    let whole : AreWhole c.args.inc.now (c_of c.args.off.now) (d_of c.args.off.now) (by_number (levels_of c.args.m.now.vars)) c.in_ok-stages.stages =
     rw (c.deref.ensures.value, c.deref-2.ensures.value, c.deref-4.ensures.value, c.in_ok-level.ensures, c.as_slice.ensures) at c.in_ok-stages.ensures in
     stages-nested _ _ _ _ _ c.equations-equations.ensures.sound (levels-low c.args.m.now.vars) whole
 
@@ -38,13 +38,13 @@ returns-clause-states c = rw (c.as_slice-2.ensures, c.deref-5.ensures.value, c.r
 
 pub returns-clause-dummies_count : goal.returns-clause-dummies_count
 returns-clause-dummies_count c =
-    let whole : AreWhole c.args.inc.now (by_place c.args.off.now.c.items) (by_number c.args.off.now.d.items) (by_number (levels_of c.args.m.now.vars)) c.in_ok-stages.stages =
+    let whole : AreWhole c.args.inc.now (c_of c.args.off.now) (d_of c.args.off.now) (by_number (levels_of c.args.m.now.vars)) c.in_ok-stages.stages =
     rw (c.deref.ensures.value, c.deref-2.ensures.value, c.deref-4.ensures.value, c.in_ok-level.ensures, c.as_slice.ensures) at c.in_ok-stages.ensures in
     dummies-count _ _ _ _ _ c.equations-equations.ensures.sound (levels-low c.args.m.now.vars) whole
 
 pub returns-clause-states_count : goal.returns-clause-states_count
 returns-clause-states_count c =
-    let whole : AreWhole c.args.inc.now (by_place c.args.off.now.c.items) (by_number c.args.off.now.d.items) (by_number (levels_of c.args.m.now.vars)) c.in_ok-stages.stages =
+    let whole : AreWhole c.args.inc.now (c_of c.args.off.now) (d_of c.args.off.now) (by_number (levels_of c.args.m.now.vars)) c.in_ok-stages.stages =
     rw (c.deref.ensures.value, c.deref-2.ensures.value, c.deref-4.ensures.value, c.in_ok-level.ensures, c.as_slice.ensures) at c.in_ok-stages.ensures in
     let states = rw (c.as_slice-2.ensures, c.deref-5.ensures.value, c.requires.lengths.1) at c.in_ok-states.ensures.states in
     let depths = rw (c.as_slice-2.ensures, c.deref-5.ensures.value, c.requires.lengths.1) at c.in_ok-states.ensures.depths in
