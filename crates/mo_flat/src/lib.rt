@@ -1,5 +1,13 @@
 //! The flat model: the types that the meaning of a class ends in and that the structure of a model begins with, and its
 //! printed text.
+//!
+//! - [`FlatModel`]: variables ([`FlatVar`]), equations ([`FlatEquation`]) and asserts ([`FlatAssert`]), with scalar expressions
+//!   ([`FlatExpr`]). [`flat_text`] prints it; [`flat_expr_text`] and [`write_equation_line`] print parts of it.
+//! - [`flat_nodes`]: how many nodes an expression has. [`role_of`]: what a variable is.
+//! - [`ArrayExpr`]: an expression over arrays of variables. [`Connects`]: connects with the leaves of their ends. [`Expanded`]: what
+//!   comes of instances, without connection sets.
+//!
+//! When these are sound is said in specs/Sound, specs/SoundArray and specs/SoundConnects, the text in specs/Text.
 #![tactic(auto)]
 
 mod array;

@@ -1,4 +1,6 @@
-//! Tests of mo_instance over texts.
+//! Tests of instances: texts with the instances of their model, or the rule that it breaks.
+//!
+//! They stand apart from `mo_instance`, so that this is proved without them.
 #![tactic(auto)]
 
 #[cfg(test)]

@@ -1,4 +1,8 @@
 //! Trees as source text, such that reading the text again gives the tree, places aside.
+//!
+//! - [`expr_text`]: the text of an expression. [`class_text`]: that of a class, with all that stands in it.
+//!
+//! Which pieces a tree has is defined in mo_pieces; specs/ReadAgain says what reading again gives.
 #![tactic(auto)]
 
 mod class;
