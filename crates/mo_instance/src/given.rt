@@ -13,8 +13,8 @@ ghost use Rattle.mo_instance.specs.Prefixes.{input_from, is_input as causal_is_i
 ghost use Rattle.mo_instance.specs.steps.Ways.{IsStep, input_way, long_way, short_way, step_seen, way_of_form, way_of_row};
 
 use crate::prefixes::is_input;
+use mo_bases::{first_base, leaf_base};
 use mo_names::walk_of;
-use mo_redeclare::{first_base, leaf_base};
 use mo_scope::Scopes;
 use mo_syntax::{Body, Causal, FrameId, NoMemory, Stop};
 use std::alloc::Global;

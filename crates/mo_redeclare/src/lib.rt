@@ -2,8 +2,7 @@
 //!
 //! - `compatible`: whether one class has what another one has, so that it may stand in its place.
 //! - `check_redeclared`: what the redeclarations among the sources of a frame break.
-//! - `prefix_of`, `dimension_count`: the declared prefixes of a component, and how many dimensions it has; `first_base` and `leaf_base`:
-//!   the bases that dimensions of a type are looked for in.
+//! - `prefix_of`, `dimension_count`: the declared prefixes of a component, and how many dimensions it has.
 //!
 //! The definitions stand in mo_scope. Each call keeps the frames that exist, after a refusal too.
 #![tactic(auto)]
@@ -21,5 +20,5 @@ mod spoken;
 
 pub use check::check_redeclared;
 pub use comparing::compatible;
-pub use dims::{dimension_count, first_base, leaf_base};
+pub use dims::dimension_count;
 pub use prefix::prefix_of;

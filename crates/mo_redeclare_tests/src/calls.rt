@@ -6,8 +6,9 @@ ghost use Rattle.mo_syntax.specs.SoundTree.{IsSoundTree};
 ghost use Rattle.mo_scope.specs.Worlds.{Grows, IsFrame};
 ghost use Rattle.mo_names.specs.Sights.{IsMember};
 
+use mo_bases::{first_base, leaf_base};
 use mo_names::{Reached, child_of_member, find_element};
-use mo_redeclare::{compatible, dimension_count, first_base, leaf_base, prefix_of};
+use mo_redeclare::{compatible, dimension_count, prefix_of};
 use mo_samples::tree;
 use mo_scope::{Member, Scopes, component_of, is_class};
 use mo_syntax::{Causal, ClassTree, FrameId, List, Place, Stop, Text};

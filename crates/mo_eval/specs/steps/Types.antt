@@ -38,11 +38,6 @@ Step = Option (List (Option Expr) × Frame)
 abbrev pub onward_seen : List Frame → Onward → List (Option Expr) × Frame
 onward_seen frames onward = (onward.subscripts.now, frame_in frames onward.base.0)
 
--- the base, if it is of leaf type
-abbrev pub base_if_leaf : Table → Outcome Frame → Option Frame
-base_if_leaf table (Ok base) = if is_leaf (walk_of table base) then Some base else None
-base_if_leaf table (Err broken) = None
-
 abbrev pub step_of_short : List (Option Expr) → Outcome Frame → Step
 step_of_short own (Ok base) = Some (own, base)
 step_of_short own (Err broken) = None

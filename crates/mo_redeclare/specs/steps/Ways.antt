@@ -42,11 +42,6 @@ Step = Option (ℕ × Frame)
 abbrev pub step_seen : List Frame → ℕ × FrameId → ℕ × Frame
 step_seen frames step = (step.0, frame_in frames step.1.0)
 
--- the base, if it is of leaf type
-abbrev pub base_if_leaf : Table → Outcome Frame → Option Frame
-base_if_leaf table (Ok base) = if is_leaf (walk_of table base) then Some base else None
-base_if_leaf table (Err broken) = None
-
 abbrev pub step_of_short : ℕ → Outcome Frame → Step
 step_of_short own (Ok base) = Some (own, base)
 step_of_short own (Err broken) = None

@@ -5,8 +5,8 @@ use Rattle.mo_syntax.specs.declared.meaning.FrameId.{FrameId}
 use Rattle.mo_scope.specs.Names.{clauses_of}
 use Rattle.mo_scope.specs.Worlds.{frame_at, table_in}
 use Rattle.mo_names.proofs.Later.{grows_trans}
-use Rattle.mo_redeclare.proofs.Counting.{leaf_found, leaf_passed, leaf_told}
-use Rattle.mo_redeclare.proofs.dims.leaf_base.Goals as goal
+use Rattle.mo_bases.proofs.Leaves.{leaf_found, leaf_passed, leaf_told}
+use Rattle.mo_bases.proofs.bases.leaf_base.Goals as goal
 
 pub returns-in-Some-clause-value : goal.returns-in-Some-clause-value
 returns-in-Some-clause-value c =

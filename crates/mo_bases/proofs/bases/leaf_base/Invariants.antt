@@ -2,7 +2,7 @@ use Rattle.std.proofs.Common.{◌≡◌, ◌≤◌, drop, length}
 use Rattle.mo_scope.specs.Names.{clauses_of}
 use Rattle.mo_scope.specs.Sizes.{leaf_base}
 use Rattle.mo_scope.specs.Worlds.{Grows, frame_at, table_in}
-use Rattle.mo_eval.proofs.types.leaf_base.Given as goal
+use Rattle.mo_bases.proofs.bases.leaf_base.Given as goal
 
 abbrev pub invariant-loop-clause : goal.invariant-loop-clause
 invariant-loop-clause l = record {
