@@ -10,7 +10,8 @@ pub(crate) fn is_blank(b: u8) -> bool
     b == b' ' || b == b'\t' || b == b'\n' || b == b'\r' || b == 0x0C
 }
 
-pub(crate) fn is_letter(b: u8) -> bool
+/// Whether it is a letter or `_`.
+pub fn is_letter(b: u8) -> bool
     ensures { result ≡ is_letter b }
 {
     b.is_ascii_alphabetic() || b == b'_'
@@ -28,7 +29,8 @@ pub(crate) fn is_word_byte(b: u8) -> bool
     is_letter(b) || is_digit(b)
 }
 
-pub(crate) fn is_escaped(b: u8) -> bool
+/// Whether it may follow a backslash in a string or a quoted identifier.
+pub fn is_escaped(b: u8) -> bool
     ensures { result ≡ is_escaped b }
 {
     b == b'\''
@@ -44,7 +46,8 @@ pub(crate) fn is_escaped(b: u8) -> bool
         || b == b'v'
 }
 
-pub(crate) fn is_quotable(b: u8) -> bool
+/// Whether it may stand in a quoted identifier as it is.
+pub fn is_quotable(b: u8) -> bool
     ensures { result ≡ is_quotable b }
 {
     b >= b' ' && b <= b'~' && b != b'\'' && b != b'\\'
@@ -74,16 +77,16 @@ pub(crate) fn is_sign(b: u8) -> bool
     b == b'+' || b == b'-'
 }
 
-// How many bytes from the front on are digits.
-pub(crate) fn digits_len(bytes: &[u8]) -> usize
+/// How many bytes from the front on are digits.
+pub fn digits_len(bytes: &[u8]) -> usize
     ensures value { result ≡ prefix_len is_digit bytes.now }
     ensures within { result ≤ length bytes.now }
 {
     bytes.iter().take_while(|b| is_digit(**b)).count()
 }
 
-// How many bytes from the front on may stand in an identifier.
-pub(crate) fn word_len(bytes: &[u8]) -> usize
+/// How many bytes from the front on may stand in an identifier.
+pub fn word_len(bytes: &[u8]) -> usize
     ensures value { result ≡ prefix_len is_word_byte bytes.now }
     ensures within { result ≤ length bytes.now }
 {

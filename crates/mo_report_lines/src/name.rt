@@ -6,8 +6,9 @@ ghost use Rattle.mo_lexer.specs.Spelling.{Spells};
 ghost use Rattle.mo_report_lines.specs.Grammar.{IsPart, IsName, IsDerivative};
 ghost use Rattle.mo_report_lines.specs.steps.Reading.{stops, in_part, in_name, closed, OpensTo, AreIndices, IsContentsEnd, BeginsOnly, BeginsNever};
 
-use crate::bytes::{after_word, begins_with, is_escaped, is_letter, is_quotable, word_len};
+use crate::bytes::{after_word, begins_with};
 use crate::number::after_numbers;
+use mo_lexer::{is_escaped, is_letter, is_quotable, word_len};
 use mo_tables::keyword;
 
 /// How many bytes from the front on may stand between quotes.

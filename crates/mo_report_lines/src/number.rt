@@ -6,7 +6,8 @@ ghost use Rattle.mo_lexer.specs.Spelling.{are_digits};
 ghost use Rattle.mo_report_lines.specs.Grammar.{IsNumber, AreNumbers};
 ghost use Rattle.mo_report_lines.specs.steps.Reading.{in_numbers, BeginsOnly, BeginsNever};
 
-use crate::bytes::{begins_with, digits_len};
+use crate::bytes::begins_with;
+use mo_lexer::digits_len;
 
 /// The greatest number of 32 bits.
 const GREATEST: u64 = 4_294_967_295;
