@@ -3,7 +3,7 @@
 //!
 //! - [`FlatModel`]: variables ([`FlatVar`]), equations ([`FlatEquation`]) and asserts ([`FlatAssert`]), with scalar expressions
 //!   ([`FlatExpr`]). [`flat_text`] prints it; [`flat_expr_text`] and [`write_equation_line`] print parts of it.
-//! - [`flat_nodes`]: how many nodes an expression has. [`role_of`]: what a variable is.
+//! - [`flat_nodes`]: how many nodes an expression has. [`role_of`]: what a variable is. [`name_of_attribute`]: an attribute by its number.
 //! - [`ArrayExpr`]: an expression over arrays of variables. [`Connects`]: connects with the leaves of their ends. [`Expanded`]: what
 //!   comes of instances, without connection sets.
 //!
@@ -28,3 +28,4 @@ pub use model::{FlatAssert, FlatEquation, FlatModel, FlatVar};
 pub use model_text::{flat_expr_text, flat_text, write_equation_line};
 pub use nodes::flat_nodes;
 pub use roles::role_of;
+pub use words::name_of_attribute;

@@ -119,7 +119,7 @@ const ATTRIBUTES: [&str; 10] = [
 ];
 
 /// The name of an attribute by its number, from 0, and nothing past the last.
-pub(crate) fn name_of_attribute(attribute: u8) -> &'static str
+pub fn name_of_attribute(attribute: u8) -> &'static str
     ensures { result.now ≡ attribute_name attribute }
 {
     match ATTRIBUTES.get(attribute as usize) {

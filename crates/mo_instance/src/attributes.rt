@@ -8,38 +8,15 @@ ghost use Rattle.mo_eval.specs.References.{kind_of_class as class_kind};
 ghost use Rattle.mo_instance.specs.Attributes.{attributes_of as numbers_of_attributes, is_attribute as is_attribute_name, kind_of_leaf as leaf_kind};
 ghost use Rattle.mo_instance.specs.steps.Instances.{is_attribute_of as names_attribute};
 
+use mo_flat::name_of_attribute;
 use mo_scope::Scopes;
 use mo_syntax::{ClassId, FrameId, Kind, Text};
-
-/// The names of attributes by their number.
-const ATTRIBUTES: [&str; 10] = [
-    "quantity",
-    "unit",
-    "displayUnit",
-    "min",
-    "max",
-    "start",
-    "fixed",
-    "nominal",
-    "unbounded",
-    "stateSelect",
-];
 
 const OF_REAL: [u8; 10] = [0, 1, 2, 3, 4, 5, 6, 7, 8, 9];
 
 const OF_ORDERED: [u8; 5] = [0, 3, 4, 5, 6];
 
 const OF_OTHERS: [u8; 3] = [0, 5, 6];
-
-/// The name of an attribute by its number, from 0, and nothing past the last.
-pub(crate) fn name_of_attribute(attribute: u8) -> &'static str
-    ensures { result.now ≡ attribute_name attribute }
-{
-    match ATTRIBUTES.get(attribute as usize) {
-        None => "",
-        Some(name) => name,
-    }
-}
 
 /// The attributes of a kind, by their numbers.
 pub(crate) fn attributes_of(kind: Kind) -> &'static [u8]

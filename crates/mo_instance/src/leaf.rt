@@ -16,8 +16,9 @@ ghost use Rattle.mo_instance.specs.Elements.{is_free as vary_is_free, is_real as
 ghost use Rattle.mo_scope.specs.Trees.{IsChosen, IsLeaf, attribute_in, chosen_in, leaf_in};
 ghost use Rattle.mo_instance.specs.steps.Sights.{around_seen};
 
-use crate::attributes::{attributes_of, kind_of_leaf, name_of_attribute};
+use crate::attributes::{attributes_of, kind_of_leaf};
 use crate::prefixes::{Around, is_free, role_of};
+use mo_flat::name_of_attribute;
 use mo_mods::{MergedEnv, MergedValue, merged_sources};
 use mo_names::Walk;
 use mo_scope::{Chosen, Leaf, Member, Scopes, copied, copied_scope};
