@@ -1,18 +1,17 @@
 //! The layers behind resolving, with what is wanted of the kind and of the dimensions.
-ghost use Rattle.std.specs.Prelude.{◌≡◌, ◌≤◌};
+ghost use Rattle.std.specs.Prelude.{◌≡◌};
 ghost use Rattle.mo_typing.specs.Dims.{are_equal as are_equal_dims};
 ghost use Rattle.mo_typing.specs.Outcome.{Gives};
-ghost use Rattle.mo_values.specs.Asked.{layered as layered_by, only_scalar as only_scalar_by, only_whole as only_whole_by};
+ghost use Rattle.mo_values.specs.Asked.{layered as layered_by, only_whole as only_whole_by};
 ghost use Rattle.mo_equations.specs.Equations.{vector_size as size_of_vector};
 ghost use Rattle.mo_equations.specs.Variables.{fits_sizes as sizes_fit};
 ghost use Rattle.mo_equations.specs.steps.Layers.{HasRule, fit_of, wanted_of};
 
-use crate::stops::answer;
 use mo_eval::fitted;
 use mo_flat::ArrayExpr;
 use mo_syntax::{Broken, Kind, Place, Stop, broken, rules};
-use mo_typing::shapes::is_scalar;
 use mo_typing::{accepts, dims_of, kind_of, subscripts};
+use mo_values::layers::{answer, only_scalar, only_truth};
 use std::alloc::Global;
 
 /// The kind that is wanted.
@@ -48,13 +47,7 @@ fn wanted(want: Want, place: Place, got: Kind) -> Result<(), Broken>
 {
     match want {
         Want::Accepted(kind) => accepts(kind, got, place),
-        Want::Condition => match got {
-            Kind::Truth => Ok(()),
-            Kind::Real => Err(broken(rules::CONDITION_NOT_BOOLEAN, place)),
-            Kind::Whole => Err(broken(rules::CONDITION_NOT_BOOLEAN, place)),
-            Kind::Str => Err(broken(rules::CONDITION_NOT_BOOLEAN, place)),
-            Kind::Enumeration(_) => Err(broken(rules::CONDITION_NOT_BOOLEAN, place)),
-        },
+        Want::Condition => only_truth(rules::CONDITION_NOT_BOOLEAN, place, got),
     }
 }
 
@@ -88,18 +81,6 @@ fn fits_sizes(place: Place, sizes: &[u32], dims: &[u32]) -> Result<(), Broken>
         Ok(())
     } else {
         Err(broken(rules::WRONG_SIZE, place))
-    }
-}
-
-fn only_scalar(rule: u8, place: Place, dims: &[u32]) -> Result<(), Broken>
-    requires low { 1 ≤ rule }
-    requires high { rule ≤ 46 }
-    ensures { result ≡ only_scalar_by rule place dims.now }
-{
-    if is_scalar(dims) {
-        Ok(())
-    } else {
-        Err(broken(rule, place))
     }
 }
 

@@ -28,7 +28,6 @@ mod made;
 mod paths;
 mod sections;
 mod standing;
-mod stops;
 mod table;
 mod values;
 mod variables;

@@ -16,12 +16,12 @@ ghost use Rattle.mo_equations.specs.steps.Ranges.{GivesNumbers, known_so, number
 use crate::desk::Desk;
 use crate::layers::{layered, range_size};
 use crate::standing::Asked;
-use crate::stops::answer;
 use mo_eval::{MOST_REFERENCES, Resolved, Scalar};
 use mo_flat::ArrayNode;
 use mo_scope::{ScopeAt, Scopes};
 use mo_syntax::{Broken, Expr, List, NoMemory, Place, Stop, broken, rules, stop};
 use mo_typing::indexing::range_element;
+use mo_values::layers::answer;
 use std::alloc::Global;
 
 /// What is known of an expression that is read for its value, where all references are left: what resolving it asks, its kinds, its

@@ -35,7 +35,8 @@ fn only_whole(place: Place, kind: Kind) -> Result<(), Broken>
     }
 }
 
-fn only_truth(rule: u8, place: Place, kind: Kind) -> Result<(), Broken>
+/// A Boolean, or the rule of that number at the place.
+pub fn only_truth(rule: u8, place: Place, kind: Kind) -> Result<(), Broken>
     requires low { 1 ≤ rule }
     requires high { rule ≤ 46 }
     ensures { result ≡ only_truth rule place kind }
@@ -49,7 +50,8 @@ fn only_truth(rule: u8, place: Place, kind: Kind) -> Result<(), Broken>
     }
 }
 
-fn only_scalar(rule: u8, place: Place, dims: &[u32]) -> Result<(), Broken>
+/// The dimensions of a scalar, or the rule of that number at the place.
+pub fn only_scalar(rule: u8, place: Place, dims: &[u32]) -> Result<(), Broken>
     requires low { 1 ≤ rule }
     requires high { rule ≤ 46 }
     ensures { result ≡ only_scalar rule place dims.now }
