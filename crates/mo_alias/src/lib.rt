@@ -1,5 +1,8 @@
 //! Alias elimination: unknowns that equations say are others, or minus others, and the model without them.
 //!
+//! Begin with `src/find.rt` and `src/trees.rt`; the definition to read first is `specs/Aliases.antt`. What this crate may not know ends
+//! its paragraph in docs/ARCHITECTURE.md.
+//!
 //! - [`aliases`] finds which unknowns are others, which equations say no more than that, and which contradict those before them.
 //! - [`without_aliases`] makes the model without them.
 //! - [`aliases_text`] writes both.

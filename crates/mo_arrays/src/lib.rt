@@ -1,5 +1,8 @@
 //! Elements of array expressions (Modelica Language Specification 3.5, section 8.3.1 and chapter 10).
 //!
+//! Begin with `src/equations.rt`; the definition to read first is `specs/Elements.antt`. What this crate may not know ends its paragraph
+//! in docs/ARCHITECTURE.md.
+//!
 //! - [`element`]: the scalar expression at an index of an array expression, or rule 32 at a subscript that lies outside;
 //!   [`element_at`]: the same where the subscripts were asked before.
 //! - [`checked_sides`]: the dimensions of an equation between two array expressions, or the first rule that it breaks.

@@ -1,5 +1,8 @@
 //! Checks of what the analyses of an incidence found. Each accepts any lists, and its yes is evidence by itself.
 //!
+//! Begin with `src/least.rt`; the definition to read first is `specs/Reasons.antt`. What this crate may not know ends its paragraph in
+//! docs/ARCHITECTURE.md.
+//!
 //! - [`deficit_holds`]: the listed equations mention fewer unknowns than they are, so no assignment covers all equations.
 //! - [`offsets_hold`]: the listed offsets and pairs are admissible.
 //! - [`least_holds`]: the listed reasons show them to be the least.

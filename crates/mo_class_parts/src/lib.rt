@@ -1,5 +1,8 @@
 //! What the readers of classes, modifications, equations and statements make of their parts, and what they choose by.
 //!
+//! Begin with `src/arguments.rt`; the definition to read first is `crates/mo_grammar/specs/Language.antt`. What this crate may not know
+//! ends its paragraph in docs/ARCHITECTURE.md.
+//!
 //! - `arguments`: arguments of modifiers, and components.
 //! - `members`: what prefixes say, and what is made of elements and of calls.
 //! - `names`: the texts of names.

@@ -1,5 +1,8 @@
 //! The equations of instances (Modelica Language Specification 3.5, chapters 8, 9 and 10).
 //!
+//! Begin with `src/whole.rt`, `src/variables.rt` and `src/sections.rt`; the definitions to read first are `specs/Expansion.antt` and
+//! `specs/Equations.antt`. What this crate may not know ends its paragraph in docs/ARCHITECTURE.md.
+//!
 //! - [`expand`]: the variables of a tree of instances, its equations, asserts and connects ([`Expansion`]), or the first rule that is
 //!   broken on the way.
 //! - [`MOST_UNKNOWNS`], [`MOST_EQUATIONS`], [`MOST_NODES`]: how large a flat model may be; [`MOST_TURNS`]: how many turns loops may take.

@@ -1,5 +1,8 @@
 //! Values and sizes of expressions (Modelica Language Specification 3.5, chapters 3, 4 and 10).
 //!
+//! Begin with `src/resolve.rt` and `src/reader.rt`; the definitions to read first are `specs/Values.antt` and `specs/Resolving.antt`.
+//! What this crate may not know ends its paragraph in docs/ARCHITECTURE.md.
+//!
 //! - [`Value`]: what is known of an expression before a simulation.
 //! - [`Scalar`]: a value that is decided.
 //! - [`Reckoned`]: what an operation gives.

@@ -1,4 +1,7 @@
 //! The flat model: the types that the meaning of a class ends in and that the structure of a model begins with, and its
+//!
+//! Begin with `src/model.rt` (the types) and `src/model_text.rt`; the definition to read first is `specs/Text.antt`. What this crate may
+//! not know ends its paragraph in docs/ARCHITECTURE.md.
 //! printed text.
 //!
 //! - [`FlatModel`]: variables ([`FlatVar`]), equations ([`FlatEquation`]) and asserts ([`FlatAssert`]), with scalar expressions

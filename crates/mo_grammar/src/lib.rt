@@ -1,5 +1,8 @@
 //! What tokens spell: the grammar of the profile as data, and its laws, proved once for every production.
 //!
+//! Begin with `src/laws.rt` (the laws) and `src/reading.rt` (the readers' tools); the definition to read first is `specs/Language.antt`.
+//! What this crate may not know ends its paragraph in docs/ARCHITECTURE.md.
+//!
 //! The definitions stand in `specs/`. `Grammar` says what a grammar is, and what tokens spell and begin by it; `Symbols`,
 //! `Expressions`, `Classes` and `Productions` hold the grammar of the profile, one entry a production; `Reading` reads by a
 //! grammar from left to right and has the test that a grammar passes; `Language` names what other crates cite. The laws hold

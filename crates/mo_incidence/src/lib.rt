@@ -1,5 +1,8 @@
 //! The incidence of a flat model: which unknowns stand in which equations, and at which highest order.
 //!
+//! Begin with `src/model.rt` and `src/table.rt`; the definition to read first is `specs/Signature.antt`. What this crate may not know
+//! ends its paragraph in docs/ARCHITECTURE.md.
+//!
 //! - [`incidence`] is the incidence of a flat model.
 //! - [`Incidence`] holds the entries row by row; [`Incidence::from_rows`] makes one from given rows.
 //! - [`needs`] says which equations need which, by given offsets.

@@ -1,5 +1,8 @@
 //! The instances of a class (Modelica Language Specification 3.5, sections 4.4, 4.8, 5.4, 5.6, 7.2 and 7.3).
 //!
+//! Begin with `src/walk.rt` and `src/checks.rt`; the definitions to read first are `specs/Instances.antt` and `specs/Checks.antt`. What
+//! this crate may not know ends its paragraph in docs/ARCHITECTURE.md.
+//!
 //! - `instantiate`: the asked class and all its components, each before its parts, or the first rule that is broken on the way.
 //! - `InstanceTree`, `Instance`, `Leaf`, `Chosen`: what it answers.
 //!

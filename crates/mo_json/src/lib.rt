@@ -1,5 +1,8 @@
 //! Reports on the structure of a model as JSON (RFC 8259).
 //!
+//! Begin with `src/whole.rt`; the definition to read first is `specs/Values.antt`. What this crate may not know ends its paragraph in
+//! docs/ARCHITECTURE.md.
+//!
 //! - [`report_value`] is the value of a report.
 //! - [`report_json`] is its compact text.
 //!

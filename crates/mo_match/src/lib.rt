@@ -1,5 +1,8 @@
 //! A largest assignment of unknowns to the equations of an incidence, and what it leaves out.
 //!
+//! Begin with `src/largest.rt`; the definition to read first is `crates/mo_incidence/specs/Assignment.antt`. What this crate may not know
+//! ends its paragraph in docs/ARCHITECTURE.md.
+//!
 //! - [`Work`] is room for the analyses of an incidence with given counts, and holds what they found.
 //! - [`assign`] finds an assignment that no other covers more equations than, and the deficit: the equations that some largest
 //!   assignment leaves out, with the unknowns that they mention. It reads the incidence through a counted view alone.

@@ -1,5 +1,8 @@
 //! The names in the paths of instances and flat models: they are names that the files declare, and printed paths differ where paths do.
 //!
+//! Begin with `src/stated.rt` (the laws); the definition to read first is `specs/Laws.antt`. What this crate may not know ends its
+//! paragraph in docs/ARCHITECTURE.md.
+//!
 //! specs/Identifiers has identifiers as a test of names, specs/Delimited what tells where a name ends in a printed path, specs/Named what a
 //! named path is, and specs/Laws the statements.
 //!

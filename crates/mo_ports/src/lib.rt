@@ -1,5 +1,8 @@
 //! The outside of the program: what it reads, what it writes, what fails, and the counter of its steps.
 //!
+//! Begin with `src/shelf.rt`, `src/sink.rt` and `src/read.rt`; the definition to read first is `specs/Contents.antt`. What this crate may
+//! not know ends its paragraph in docs/ARCHITECTURE.md.
+//!
 //! - `Shelf`: bytes by name. `MemoryShelf` and `QuietShelf` hold them, `FileShelf` reads the files of the system.
 //!   `read_all` reads the whole of one name.
 //! - `Sink`: where bytes go. `MemorySink` and `QuietSink` keep them, `StdSink` hands them to a writer of the system.

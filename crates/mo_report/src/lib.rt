@@ -1,5 +1,8 @@
 //! Reports on the structure of a model, and their text.
 //!
+//! Begin with `src/lines.rt`; the definition to read first is `specs/Right.antt`. What this crate may not know ends its paragraph in
+//! docs/ARCHITECTURE.md.
+//!
 //! - [`Report`]: what the analyses of an incidence found, with the names of the unknowns.
 //! - [`report_text`] writes it line by line.
 //! - [`report_fits`]: whether the derivatives in it stay within its limit.

@@ -1,5 +1,8 @@
 //! The lines of printed reports: which forms they have, and what they say.
 //!
+//! Begin with `src/line.rt` and `src/text.rt`; the definitions to read first are `specs/Grammar.antt` and `specs/Lines.antt`. What this
+//! crate may not know ends its paragraph in docs/ARCHITECTURE.md.
+//!
 //! - [`first_unreadable`] finds the first line of a text that has no form of a report's line.
 //! - [`first_difference`] finds the first line at which two texts differ.
 //! - [`equation_line`] and [`unknown_line`] read the lines that hold offsets.

@@ -1,5 +1,8 @@
 //! Dummy derivatives and states by the attribute stateSelect, with the evidence that no choice is better.
 //!
+//! Begin with `src/choose.rt`; the definition to read first is `specs/Selection.antt`. What this crate may not know ends its paragraph in
+//! docs/ARCHITECTURE.md.
+//!
 //! - [`select`] chooses the dummy derivatives of a square system, stage after stage, and lists the states that they leave.
 //! - [`one_selection`] is the law that two selections of one system say the same.
 //! - [`Selection`] holds the stages and the states; a [`Stage`] the chosen unknowns with their equations, and for each level how many of

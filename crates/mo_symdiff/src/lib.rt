@@ -1,5 +1,8 @@
 //! Symbolic derivatives of flat expressions.
 //!
+//! Begin with `src/differentiate.rt` and `src/reduce.rt`; the definition to read first is `specs/Derivative.antt`. What this crate may
+//! not know ends its paragraph in docs/ARCHITECTURE.md.
+//!
 //! - [`derivative`]: the derivative with respect to time, by the rules of calculus node for node.
 //! - [`expand_der`]: an expression with the derivatives in it carried out.
 //! - [`reduced`]: a model whose equations are carried out and followed by their derivatives; [`reduced_text`] prints it.
