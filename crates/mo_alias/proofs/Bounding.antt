@@ -12,9 +12,9 @@ use Rattle.mo_alias.specs.Numbers.{numbers_among, numbers_from}
 use Rattle.mo_alias.specs.Recognized.{alias_of, aliases_in, is_zero_node, pair_of, positive, said_by, signed_node, two_terms, unknown_in, unknown_node, with_sign}
 
 -- a number among the unknowns is at most how many there are
-number-low : (n m : ℕ) (vars : List FlatVar) (v : ℕ) → get_or (numbers_from n vars) v 0 ≤ n + length (unknowns_from m vars)
-number-low n m [] v = omega arith
-number-low n m (x ∷ vs) v = by (is_unknown_role (Some x.role)) v (λ w. number-low (n + 1) (m + 1) vs w) (λ w. number-low n (m + 1) vs w)
+number_low : (n m : ℕ) (vars : List FlatVar) (v : ℕ) → get_or (numbers_from n vars) v 0 ≤ n + length (unknowns_from m vars)
+number_low n m [] v = omega arith
+number_low n m (x ∷ vs) v = by (is_unknown_role (Some x.role)) v (λ w. number_low (n + 1) (m + 1) vs w) (λ w. number_low n (m + 1) vs w)
   where
     by : (b : Bool) (v : ℕ) → ((w : ℕ) → get_or (numbers_from (n + 1) vs) w 0 ≤ n + 1 + length (unknowns_from (m + 1) vs))
         → ((w : ℕ) → get_or (numbers_from n vs) w 0 ≤ n + length (unknowns_from (m + 1) vs))
@@ -24,124 +24,124 @@ number-low n m (x ∷ vs) v = by (is_unknown_role (Some x.role)) v (λ w. number
     by false zero e f = omega arith
     by false (suc w) e f = f w
 
-pub number-within : (vars : List FlatVar) (v : ℕ) → get_or (numbers_among vars) v 0 ≤ length (unknown_numbers vars)
-number-within vars zero = omega arith
-number-within vars (suc v) = let l = number-low 0 1 vars v in omega (arith, l)
+pub number_within : (vars : List FlatVar) (v : ℕ) → get_or (numbers_among vars) v 0 ≤ length (unknown_numbers vars)
+number_within vars zero = omega arith
+number_within vars (suc v) = let l = number_low 0 1 vars v in omega (arith, l)
 
 -- what holds of the numbers of unknowns holds of both
 module _ (numbers : List ℕ) (P : ℕ → Type 0) (holds : (v : ℕ) → 0 < get_or numbers v 0 → P (get_or numbers v 0)) where
-  positive-has : (x : ℕ) → (0 < x → P x) → IfSome (positive x) P
-  positive-has zero h = tt
-  positive-has (suc x) h = h (omega arith)
+  positive_has : (x : ℕ) → (0 < x → P x) → IfSome (positive x) P
+  positive_has zero h = tt
+  positive_has (suc x) h = h (omega arith)
 
-  with-has : (minus : Bool) (o : Option ℕ) → IfSome o P → IfSome (with_sign minus o) (λ p. P p.1)
-  with-has minus None h = tt
-  with-has minus (Some u) h = h
+  with_has : (minus : Bool) (o : Option ℕ) → IfSome o P → IfSome (with_sign minus o) (λ p. P p.1)
+  with_has minus None h = tt
+  with_has minus (Some u) h = h
 
-  pair-has : (a b : Option (Bool × ℕ)) → IfSome a (λ p. P p.1) → IfSome b (λ p. P p.1) → IfSome (pair_of a b) (λ (p : (Bool × ℕ) × (Bool × ℕ)). P p.0.1 × P p.1.1)
-  pair-has None None h k = tt
-  pair-has None (Some q) h k = tt
-  pair-has (Some p) None h k = tt
-  pair-has (Some p) (Some q) h k = (h, k)
+  pair_has : (a b : Option (Bool × ℕ)) → IfSome a (λ p. P p.1) → IfSome b (λ p. P p.1) → IfSome (pair_of a b) (λ (p : (Bool × ℕ) × (Bool × ℕ)). P p.0.1 × P p.1.1)
+  pair_has None None h k = tt
+  pair_has None (Some q) h k = tt
+  pair_has (Some p) None h k = tt
+  pair_has (Some p) (Some q) h k = (h, k)
 
-  said-has : (opposite : Bool) (o : Option ((Bool × ℕ) × (Bool × ℕ))) → IfSome o (λ p. P p.0.1 × P p.1.1) → IfSome (option_map (said_by opposite) o) (λ a. P a.left × P a.right)
-  said-has opposite None h = tt
-  said-has opposite (Some p) h = h
+  said_has : (opposite : Bool) (o : Option ((Bool × ℕ) × (Bool × ℕ))) → IfSome o (λ p. P p.0.1 × P p.1.1) → IfSome (option_map (said_by opposite) o) (λ a. P a.left × P a.right)
+  said_has opposite None h = tt
+  said_has opposite (Some p) h = h
 
-  unknown-has : (node : FlatExpr-F FlatExpr) → IfSome (unknown_node numbers node) P
-  unknown-has (FlatExpr-F.Var variable zero) = positive-has (get_or numbers variable 0) (holds variable)
-  unknown-has (FlatExpr-F.Var variable (suc k)) = tt
-  unknown-has (FlatExpr-F.Sum terms) = tt
-  unknown-has (FlatExpr-F.Whole i) = tt
-  unknown-has (FlatExpr-F.Decimal x) = tt
-  unknown-has (FlatExpr-F.Str x) = tt
-  unknown-has (FlatExpr-F.Truth b) = tt
-  unknown-has (FlatExpr-F.Literal x) = tt
-  unknown-has FlatExpr-F.Time = tt
-  unknown-has (FlatExpr-F.Der f) = tt
-  unknown-has (FlatExpr-F.Product fs) = tt
-  unknown-has (FlatExpr-F.Power a b) = tt
-  unknown-has (FlatExpr-F.Call k fs) = tt
-  unknown-has (FlatExpr-F.Relation op a b) = tt
-  unknown-has (FlatExpr-F.Not f) = tt
-  unknown-has (FlatExpr-F.All fs) = tt
-  unknown-has (FlatExpr-F.Any fs) = tt
-  unknown-has (FlatExpr-F.If bs f) = tt
+  unknown_has : (node : FlatExpr-F FlatExpr) → IfSome (unknown_node numbers node) P
+  unknown_has (FlatExpr-F.Var variable zero) = positive_has (get_or numbers variable 0) (holds variable)
+  unknown_has (FlatExpr-F.Var variable (suc k)) = tt
+  unknown_has (FlatExpr-F.Sum terms) = tt
+  unknown_has (FlatExpr-F.Whole i) = tt
+  unknown_has (FlatExpr-F.Decimal x) = tt
+  unknown_has (FlatExpr-F.Str x) = tt
+  unknown_has (FlatExpr-F.Truth b) = tt
+  unknown_has (FlatExpr-F.Literal x) = tt
+  unknown_has FlatExpr-F.Time = tt
+  unknown_has (FlatExpr-F.Der f) = tt
+  unknown_has (FlatExpr-F.Product fs) = tt
+  unknown_has (FlatExpr-F.Power a b) = tt
+  unknown_has (FlatExpr-F.Call k fs) = tt
+  unknown_has (FlatExpr-F.Relation op a b) = tt
+  unknown_has (FlatExpr-F.Not f) = tt
+  unknown_has (FlatExpr-F.All fs) = tt
+  unknown_has (FlatExpr-F.Any fs) = tt
+  unknown_has (FlatExpr-F.If bs f) = tt
 
-  signed-has : (node : FlatExpr-F FlatExpr) → IfSome (signed_node numbers node) (λ p. P p.1)
-  signed-has (FlatExpr-F.Sum []) = tt
-  signed-has (FlatExpr-F.Sum ((minus, e) ∷ [])) = with-has minus (unknown_in numbers e) (unknown-has (out-FlatExpr e))
-  signed-has (FlatExpr-F.Sum (a ∷ b ∷ more)) = tt
-  signed-has (FlatExpr-F.Var variable order) = with-has false (unknown_node numbers (FlatExpr-F.Var variable order)) (unknown-has (FlatExpr-F.Var variable order))
-  signed-has (FlatExpr-F.Whole i) = tt
-  signed-has (FlatExpr-F.Decimal x) = tt
-  signed-has (FlatExpr-F.Str x) = tt
-  signed-has (FlatExpr-F.Truth b) = tt
-  signed-has (FlatExpr-F.Literal x) = tt
-  signed-has FlatExpr-F.Time = tt
-  signed-has (FlatExpr-F.Der f) = tt
-  signed-has (FlatExpr-F.Product fs) = tt
-  signed-has (FlatExpr-F.Power a b) = tt
-  signed-has (FlatExpr-F.Call k fs) = tt
-  signed-has (FlatExpr-F.Relation op a b) = tt
-  signed-has (FlatExpr-F.Not f) = tt
-  signed-has (FlatExpr-F.All fs) = tt
-  signed-has (FlatExpr-F.Any fs) = tt
-  signed-has (FlatExpr-F.If bs f) = tt
+  signed_has : (node : FlatExpr-F FlatExpr) → IfSome (signed_node numbers node) (λ p. P p.1)
+  signed_has (FlatExpr-F.Sum []) = tt
+  signed_has (FlatExpr-F.Sum ((minus, e) ∷ [])) = with_has minus (unknown_in numbers e) (unknown_has (out-FlatExpr e))
+  signed_has (FlatExpr-F.Sum (a ∷ b ∷ more)) = tt
+  signed_has (FlatExpr-F.Var variable order) = with_has false (unknown_node numbers (FlatExpr-F.Var variable order)) (unknown_has (FlatExpr-F.Var variable order))
+  signed_has (FlatExpr-F.Whole i) = tt
+  signed_has (FlatExpr-F.Decimal x) = tt
+  signed_has (FlatExpr-F.Str x) = tt
+  signed_has (FlatExpr-F.Truth b) = tt
+  signed_has (FlatExpr-F.Literal x) = tt
+  signed_has FlatExpr-F.Time = tt
+  signed_has (FlatExpr-F.Der f) = tt
+  signed_has (FlatExpr-F.Product fs) = tt
+  signed_has (FlatExpr-F.Power a b) = tt
+  signed_has (FlatExpr-F.Call k fs) = tt
+  signed_has (FlatExpr-F.Relation op a b) = tt
+  signed_has (FlatExpr-F.Not f) = tt
+  signed_has (FlatExpr-F.All fs) = tt
+  signed_has (FlatExpr-F.Any fs) = tt
+  signed_has (FlatExpr-F.If bs f) = tt
 
-  two-has : (node : FlatExpr-F FlatExpr) → IfSome (two_terms numbers node) (λ p. P p.0.1 × P p.1.1)
-  two-has (FlatExpr-F.Sum []) = tt
-  two-has (FlatExpr-F.Sum (a ∷ [])) = tt
-  two-has (FlatExpr-F.Sum ((minus, e) ∷ (other, f) ∷ [])) =
-      pair-has (with_sign minus (unknown_in numbers e)) (with_sign other (unknown_in numbers f))
-      (with-has minus (unknown_in numbers e) (unknown-has (out-FlatExpr e))) (with-has other (unknown_in numbers f) (unknown-has (out-FlatExpr f)))
-  two-has (FlatExpr-F.Sum (a ∷ b ∷ c ∷ more)) = tt
-  two-has (FlatExpr-F.Var variable order) = tt
-  two-has (FlatExpr-F.Whole i) = tt
-  two-has (FlatExpr-F.Decimal x) = tt
-  two-has (FlatExpr-F.Str x) = tt
-  two-has (FlatExpr-F.Truth b) = tt
-  two-has (FlatExpr-F.Literal x) = tt
-  two-has FlatExpr-F.Time = tt
-  two-has (FlatExpr-F.Der f) = tt
-  two-has (FlatExpr-F.Product fs) = tt
-  two-has (FlatExpr-F.Power a b) = tt
-  two-has (FlatExpr-F.Call k fs) = tt
-  two-has (FlatExpr-F.Relation op a b) = tt
-  two-has (FlatExpr-F.Not f) = tt
-  two-has (FlatExpr-F.All fs) = tt
-  two-has (FlatExpr-F.Any fs) = tt
-  two-has (FlatExpr-F.If bs f) = tt
+  two_has : (node : FlatExpr-F FlatExpr) → IfSome (two_terms numbers node) (λ p. P p.0.1 × P p.1.1)
+  two_has (FlatExpr-F.Sum []) = tt
+  two_has (FlatExpr-F.Sum (a ∷ [])) = tt
+  two_has (FlatExpr-F.Sum ((minus, e) ∷ (other, f) ∷ [])) =
+      pair_has (with_sign minus (unknown_in numbers e)) (with_sign other (unknown_in numbers f))
+      (with_has minus (unknown_in numbers e) (unknown_has (out-FlatExpr e))) (with_has other (unknown_in numbers f) (unknown_has (out-FlatExpr f)))
+  two_has (FlatExpr-F.Sum (a ∷ b ∷ c ∷ more)) = tt
+  two_has (FlatExpr-F.Var variable order) = tt
+  two_has (FlatExpr-F.Whole i) = tt
+  two_has (FlatExpr-F.Decimal x) = tt
+  two_has (FlatExpr-F.Str x) = tt
+  two_has (FlatExpr-F.Truth b) = tt
+  two_has (FlatExpr-F.Literal x) = tt
+  two_has FlatExpr-F.Time = tt
+  two_has (FlatExpr-F.Der f) = tt
+  two_has (FlatExpr-F.Product fs) = tt
+  two_has (FlatExpr-F.Power a b) = tt
+  two_has (FlatExpr-F.Call k fs) = tt
+  two_has (FlatExpr-F.Relation op a b) = tt
+  two_has (FlatExpr-F.Not f) = tt
+  two_has (FlatExpr-F.All fs) = tt
+  two_has (FlatExpr-F.Any fs) = tt
+  two_has (FlatExpr-F.If bs f) = tt
 
-  either-has : (b : Bool) (x y : Option Alias) → IfSome x (λ a. P a.left × P a.right) → IfSome y (λ a. P a.left × P a.right) → IfSome (if b then x else y) (λ a. P a.left × P a.right)
-  either-has true x y h k = h
-  either-has false x y h k = k
+  either_has : (b : Bool) (x y : Option Alias) → IfSome x (λ a. P a.left × P a.right) → IfSome y (λ a. P a.left × P a.right) → IfSome (if b then x else y) (λ a. P a.left × P a.right)
+  either_has true x y h k = h
+  either_has false x y h k = k
 
-  alias-has : (q : FlatEquation) → IfSome (alias_of numbers q) (λ a. P a.left × P a.right)
-  alias-has q =
+  alias_has : (q : FlatEquation) → IfSome (alias_of numbers q) (λ a. P a.left × P a.right)
+  alias_has q =
       let left = out-FlatExpr q.left in
       let right = out-FlatExpr q.right in
-      either-has (is_zero_node left) (option_map (said_by true) (two_terms numbers right))
+      either_has (is_zero_node left) (option_map (said_by true) (two_terms numbers right))
       (if is_zero_node right then option_map (said_by true) (two_terms numbers left) else option_map (said_by false) (pair_of (signed_node numbers left) (signed_node numbers right)))
-      (said-has true (two_terms numbers right) (two-has right))
-      (either-has (is_zero_node right) (option_map (said_by true) (two_terms numbers left)) (option_map (said_by false) (pair_of (signed_node numbers left) (signed_node numbers right)))
-      (said-has true (two_terms numbers left) (two-has left))
-      (said-has false (pair_of (signed_node numbers left) (signed_node numbers right)) (pair-has (signed_node numbers left) (signed_node numbers right) (signed-has left) (signed-has right))))
+      (said_has true (two_terms numbers right) (two_has right))
+      (either_has (is_zero_node right) (option_map (said_by true) (two_terms numbers left)) (option_map (said_by false) (pair_of (signed_node numbers left) (signed_node numbers right)))
+      (said_has true (two_terms numbers left) (two_has left))
+      (said_has false (pair_of (signed_node numbers left) (signed_node numbers right)) (pair_has (signed_node numbers left) (signed_node numbers right) (signed_has left) (signed_has right))))
 
-  each-has : (qs : List FlatEquation) (e : ℕ) (a : Alias) → get_or (map (alias_of numbers) qs) e None ≡ Some a → P a.left × P a.right
-  each-has [] e a is = absurd (let g : None ≡ Some a = is in cc)
-  each-has (q ∷ qs) zero a is = subst (λ (w : Option Alias). IfSome w (λ (b : Alias). P b.left × P b.right)) is (alias-has q)
-  each-has (q ∷ qs) (suc e) a is = each-has qs e a is
+  each_has : (qs : List FlatEquation) (e : ℕ) (a : Alias) → get_or (map (alias_of numbers) qs) e None ≡ Some a → P a.left × P a.right
+  each_has [] e a is = absurd (let g : None ≡ Some a = is in cc)
+  each_has (q ∷ qs) zero a is = subst (λ (w : Option Alias). IfSome w (λ (b : Alias). P b.left × P b.right)) is (alias_has q)
+  each_has (q ∷ qs) (suc e) a is = each_has qs e a is
 
 -- both sides are numbers of unknowns
-pub aliases-known : (m : FlatModel) (e : ℕ) (a : Alias) → get_or (aliases_in m) e None ≡ Some a
+pub aliases_known : (m : FlatModel) (e : ℕ) (a : Alias) → get_or (aliases_in m) e None ≡ Some a
     → ((0 < a.left) × (a.left ≤ length (unknown_numbers m.vars))) × ((0 < a.right) × (a.right ≤ length (unknown_numbers m.vars)))
-aliases-known m e a is =
-    each-has (numbers_among m.vars) (λ u. (0 < u) × (u ≤ length (unknown_numbers m.vars))) (λ v p. (p, number-within m.vars v)) m.equations e a is
+aliases_known m e a is =
+    each_has (numbers_among m.vars) (λ u. (0 < u) × (u ≤ length (unknown_numbers m.vars))) (λ v p. (p, number_within m.vars v)) m.equations e a is
 
-pub aliases-within : (m : FlatModel) → AreWithin (aliases_in m) (length (unknown_numbers m.vars) + 1)
-aliases-within m e a is =
-    let l = aliases-known m e a is in
+pub aliases_within : (m : FlatModel) → AreWithin (aliases_in m) (length (unknown_numbers m.vars) + 1)
+aliases_within m e a is =
+    let l = aliases_known m e a is in
     let left = l.0.1 in
     let right = l.1.1 in
     (omega (arith, left), omega (arith, right))

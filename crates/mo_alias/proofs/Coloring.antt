@@ -8,9 +8,9 @@ use Rattle.mo_alias.specs.Chains.{Chain, IsLink, IsLinkBelow, IsNew, link, none,
 use Rattle.mo_alias.specs.steps.Marking.{IsMarked}
 use Rattle.mo_alias.specs.Recognized.{sign_product}
 use Rattle.mo_alias.specs.steps.Stretches.{AreDistinct}
-use Rattle.mo_alias.proofs.Linking.{roots-at}
-use Rattle.mo_alias.proofs.Marking.{closed-apart, no-alias, root-joins}
-use Rattle.mo_alias.proofs.Stretching.{below-less, distinct-head, distinct-tail}
+use Rattle.mo_alias.proofs.Linking.{roots_at}
+use Rattle.mo_alias.proofs.Marking.{closed_apart, no_alias, root_joins}
+use Rattle.mo_alias.proofs.Stretching.{below_less, distinct_head, distinct_tail}
 
 -- two colours that change at one link alone
 pub record AreColours (said : List (Option Alias)) (n e : ℕ) (colour : ℕ → Bool) : Type 0 where
@@ -23,12 +23,12 @@ within root r u = eqb (root u) r
 abbrev flipped : (ℕ → ℕ) → (ℕ → Bool) → Bool → ℕ → ℕ → Bool
 flipped root colour turn r u = if eqb (root u) r then sign_product turn (colour u) else colour u
 
-flip-same : (turn a b : Bool) → a ≡ b → sign_product turn a ≡ sign_product turn b
-flip-same turn a b e = ap (sign_product turn) e
+flip_same : (turn a b : Bool) → a ≡ b → sign_product turn a ≡ sign_product turn b
+flip_same turn a b e = ap (sign_product turn) e
 
-flip-not : (turn a b : Bool) → a ≡ not b → sign_product turn a ≡ not (sign_product turn b)
-flip-not false a b e = e
-flip-not true a b e = ap not e
+flip_not : (turn a b : Bool) → a ≡ not b → sign_product turn a ≡ not (sign_product turn b)
+flip_not false a b e = e
+flip_not true a b e = ap not e
 
 difference : (a b : Bool) → a ≡ sign_product (sign_product a b) b
 difference false false = refl
@@ -38,26 +38,26 @@ difference true true = refl
 
 module _ (said : List (Option Alias)) where
   -- what the ends of an equation are by its alias
-  ends-of : (k : ℕ) (a : Alias) → get_or said k None ≡ Some a → (Q : ℕ → ℕ → Type 0) → Q a.left a.right → Q a.right a.left → (u v : ℕ) (minus : Bool) → Says said k u v minus → Q u v
-  ends-of k a is Q lr rl u v minus (forth b s l r m) =
+  ends_of : (k : ℕ) (a : Alias) → get_or said k None ≡ Some a → (Q : ℕ → ℕ → Type 0) → Q a.left a.right → Q a.right a.left → (u v : ℕ) (minus : Bool) → Says said k u v minus → Q u v
+  ends_of k a is Q lr rl u v minus (forth b s l r m) =
       let same : a ≡ b = (let f : Some a ≡ Some b = sym is ∙ s in cc) in
       subst (λ p. Q p v) l (subst (λ q. Q b.left q) r (subst (λ (x : Alias). Q x.left x.right) same lr))
-  ends-of k a is Q lr rl u v minus (back b s r l m) =
+  ends_of k a is Q lr rl u v minus (back b s r l m) =
       let same : a ≡ b = (let f : Some a ≡ Some b = sym is ∙ s in cc) in
       subst (λ p. Q p v) r (subst (λ q. Q b.right q) l (subst (λ (x : Alias). Q x.right x.left) same rl))
 
   -- at the link itself: the tree of its left unknown, and the rest
-  first-colours : (e : ℕ) → IsLink said e → (root : ℕ → ℕ) (sign : ℕ → Bool) → IsMarked said e root sign → (colour : ℕ → Bool) × AreColours said (suc e) e colour
-  first-colours e new root sign marked = (
+  first_colours : (e : ℕ) → IsLink said e → (root : ℕ → ℕ) (sign : ℕ → Bool) → IsMarked said e root sign → (colour : ℕ → Bool) × AreColours said (suc e) e colour
+  first_colours e new root sign marked = (
     within root (root new.alias.left),
     record {
       kept = λ f u v minus below s ne. kept-by f u v minus s ne below;
-      turned = λ u v minus s. ends-of e new.alias new.is (λ p q. within root (root new.alias.left) p ≡ not (within root (root new.alias.left) q)) (left-is ∙ ap not (sym right-is)) (right-is ∙ ap not (sym left-is)) u v minus s;
+      turned = λ u v minus s. ends_of e new.alias new.is (λ p q. within root (root new.alias.left) p ≡ not (within root (root new.alias.left) q)) (left-is ∙ ap not (sym right-is)) (right-is ∙ ap not (sym left-is)) u v minus s;
     },
   )
     where
       apart : root new.alias.right ≡ root new.alias.left → ⊥
-      apart same = let j = root-joins said e root sign marked new.alias.left new.alias.right (sym same) in new.apart _ j.0 j.1
+      apart same = let j = root_joins said e root sign marked new.alias.left new.alias.right (sym same) in new.apart _ j.0 j.1
 
       left-is : within root (root new.alias.left) new.alias.left ≡ true
       left-is = eq-eqb (root new.alias.left) (root new.alias.left) refl
@@ -95,13 +95,13 @@ module _ (said : List (Option Alias)) where
 
       same-after : (u v : ℕ) → root u ≡ root v → colour u ≡ colour v → after u ≡ after v
       same-after u v r c = elim (cases_eq (root u) (root a.right)) [
-        | inl here ↦ after-in u here ∙ flip-same (sign_product (colour a.left) (colour a.right)) (colour u) (colour v) c ∙ sym (after-in v (sym r ∙ here))
+        | inl here ↦ after-in u here ∙ flip_same (sign_product (colour a.left) (colour a.right)) (colour u) (colour v) c ∙ sym (after-in v (sym r ∙ here))
         | inr out ↦ after-out u out ∙ c ∙ sym (after-out v (λ f. out (r ∙ f)))
       ]
 
       not-after : (u v : ℕ) → root u ≡ root v → colour u ≡ not (colour v) → after u ≡ not (after v)
       not-after u v r c = elim (cases_eq (root u) (root a.right)) [
-        | inl here ↦ after-in u here ∙ flip-not (sign_product (colour a.left) (colour a.right)) (colour u) (colour v) c ∙ ap not (sym (after-in v (sym r ∙ here)))
+        | inl here ↦ after-in u here ∙ flip_not (sign_product (colour a.left) (colour a.right)) (colour u) (colour v) c ∙ ap not (sym (after-in v (sym r ∙ here)))
         | inr out ↦ after-out u out ∙ c ∙ ap not (sym (after-out v (λ f. out (r ∙ f))))
       ]
 
@@ -116,28 +116,28 @@ module _ (said : List (Option Alias)) where
         where
           kept-by : (f u v : ℕ) (minus : Bool) → Says said f u v minus → (f ≡ e → ⊥) → IsLinkBelow said k f ⊎ (f ≡ k) × IsNew said (IsLinkBelow said k) k → after u ≡ after v
           kept-by f u v minus s ne (inl below) = same-after u v (one-place f u v minus below s) (colours.kept f u v minus below s ne)
-          kept-by f u v minus s ne (inr at) = ends-of k a is (λ p q. after p ≡ after q) ends-after (sym ends-after) u v minus (subst (λ w. Says said w u v minus) at.0 s)
+          kept-by f u v minus s ne (inr at) = ends_of k a is (λ p q. after p ≡ after q) ends-after (sym ends-after) u v minus (subst (λ w. Says said w u v minus) at.0 s)
 
   -- two colours for each link
-  pub colours-at : (n e : ℕ) → IsLinkBelow said n e → (colour : ℕ → Bool) × AreColours said n e colour
-  colours-at zero e below = absurd below
-  colours-at (suc k) e (inr at) =
-      let r = roots-at said k in
-      let c = first-colours k at.1 r.0 r.1 r.2 in
+  pub colours_at : (n e : ℕ) → IsLinkBelow said n e → (colour : ℕ → Bool) × AreColours said n e colour
+  colours_at zero e below = absurd below
+  colours_at (suc k) e (inr at) =
+      let r = roots_at said k in
+      let c = first_colours k at.1 r.0 r.1 r.2 in
       (c.0, subst (λ w. AreColours said (suc k) w c.0) (sym at.0) c.1)
-  colours-at (suc k) e (inl below) = let before = colours-at k e below in let r = roots-at said k in next before.0 before.1 r.0 r.1 r.2 (get_or said k None) refl
+  colours_at (suc k) e (inl below) = let before = colours_at k e below in let r = roots_at said k in next before.0 before.1 r.0 r.1 r.2 (get_or said k None) refl
     where
       low : e < k
-      low = below-less said k e below
+      low = below_less said k e below
 
       joining : (colour : ℕ → Bool) → AreColours said k e colour → (root : ℕ → ℕ) (sign : ℕ → Bool) → IsMarked said k root sign → (a : Alias) → get_or said k None ≡ Some a
           → (root a.left ≡ root a.right) ⊎ (root a.left ≡ root a.right → ⊥) → (colour : ℕ → Bool) × AreColours said (suc k) e colour
-      joining colour colours root sign marked a is (inl same) = (colour, still-colours e k low colour colours (closed-apart said k root sign marked a is same))
+      joining colour colours root sign marked a is (inl same) = (colour, still-colours e k low colour colours (closed_apart said k root sign marked a is same))
       joining colour colours root sign marked a is (inr apart) = (_, next-colours e k low colour colours below root sign marked a is apart)
 
       next : (colour : ℕ → Bool) → AreColours said k e colour → (root : ℕ → ℕ) (sign : ℕ → Bool) → IsMarked said k root sign → (o : Option Alias) → get_or said k None ≡ o
           → (colour : ℕ → Bool) × AreColours said (suc k) e colour
-      next colour colours root sign marked None is = (colour, still-colours e k low colour colours (no-alias said k is))
+      next colour colours root sign marked None is = (colour, still-colours e k low colour colours (no_alias said k is))
       next colour colours root sign marked (Some a) is = joining colour colours root sign marked a is (cases_eq (root a.left) (root a.right))
 
   module _ (n e : ℕ) (colour : ℕ → Bool) (colours : AreColours said n e colour) where
@@ -151,14 +151,14 @@ module _ (said : List (Option Alias)) where
     colour-turned : (u v : ℕ) (minus : Bool) (es : List ℕ) → Chain said (IsLinkBelow said n) u v minus es → AreDistinct es → Contains es e → colour u ≡ not (colour v)
     colour-turned u v minus es none d h = absurd (let l = h.1 in omega (arith, l))
     colour-turned u v minus es (link {v = w} {minus = m} {rest = r} {es = rs} g p s c) d (zero, l, same) =
-        colours.turned u w m (subst (λ z. Says said z u w m) same s) ∙ ap not (colour-kept w v r rs c (λ h. distinct-head g rs d (subst (λ z. Contains rs z) (sym same) h)))
+        colours.turned u w m (subst (λ z. Says said z u w m) same s) ∙ ap not (colour-kept w v r rs c (λ h. distinct_head g rs d (subst (λ z. Contains rs z) (sym same) h)))
     colour-turned u v minus es (link {v = w} {minus = m} {rest = r} {es = rs} g p s c) d (suc k, l, same) =
-        colours.kept g u w m p s (λ f. distinct-head g rs d (subst (λ z. Contains rs z) (sym f) (k, omega (arith, l), same)))
-        ∙ colour-turned w v r rs c (distinct-tail g rs d) (k, omega (arith, l), same)
+        colours.kept g u w m p s (λ f. distinct_head g rs d (subst (λ z. Contains rs z) (sym f) (k, omega (arith, l), same)))
+        ∙ colour-turned w v r rs c (distinct_tail g rs d) (k, omega (arith, l), same)
 
-  has-or : (xs : List ℕ) (x : ℕ) → Contains xs x ⊎ (Contains xs x → ⊥)
-  has-or [] x = inr (λ h. let l = h.1 in omega (arith, l))
-  has-or (y ∷ xs) x = by (cases_eq y x) (has-or xs x)
+  has_or : (xs : List ℕ) (x : ℕ) → Contains xs x ⊎ (Contains xs x → ⊥)
+  has_or [] x = inr (λ h. let l = h.1 in omega (arith, l))
+  has_or (y ∷ xs) x = by (cases_eq y x) (has_or xs x)
     where
       by : (y ≡ x) ⊎ (y ≡ x → ⊥) → Contains xs x ⊎ (Contains xs x → ⊥) → Contains (y ∷ xs) x ⊎ (Contains (y ∷ xs) x → ⊥)
       by (inl e) h = inl (0, omega arith, e)
@@ -169,19 +169,19 @@ module _ (said : List (Option Alias)) where
           out (zero, l, f) = e f
           out (suc k, l, f) = never (k, omega (arith, l), f)
 
-  not-itself : (b : Bool) → b ≡ not b → ⊥
-  not-itself true f = true≢false f
-  not-itself false f = true≢false (sym f)
+  not_itself : (b : Bool) → b ≡ not b → ⊥
+  not_itself true f = true≢false f
+  not_itself false f = true≢false (sym f)
 
-  pub same-links : (n u v : ℕ) (minus other : Bool) (es fs : List ℕ) → Chain said (IsLinkBelow said n) u v minus es → AreDistinct es → Chain said (IsLinkBelow said n) u v other fs → (e : ℕ) → Contains es e → Contains fs e
-  same-links n u v minus other es fs c d g e h = elim (has-or fs e) [
+  pub same_links : (n u v : ℕ) (minus other : Bool) (es fs : List ℕ) → Chain said (IsLinkBelow said n) u v minus es → AreDistinct es → Chain said (IsLinkBelow said n) u v other fs → (e : ℕ) → Contains es e → Contains fs e
+  same_links n u v minus other es fs c d g e h = elim (has_or fs e) [
     | inl there ↦ there
     | inr absent ↦ absurd (
         let below = chain-below n u v minus es c e h in
-        let k = colours-at n e below in
+        let k = colours_at n e below in
         let turned = colour-turned n e k.0 k.1 u v minus es c d h in
         let kept = colour-kept n e k.0 k.1 u v other fs g absent in
-        not-itself (k.0 v) (sym kept ∙ turned))
+        not_itself (k.0 v) (sym kept ∙ turned))
   ]
     where
       chain-below : (n u v : ℕ) (minus : Bool) (es : List ℕ) → Chain said (IsLinkBelow said n) u v minus es → (e : ℕ) → Contains es e → IsLinkBelow said n e

@@ -12,28 +12,28 @@ use Rattle.mo_alias.specs.declared.found.Gone.{Gone}
 use Rattle.mo_alias.specs.Numbers.{number_among, numbers_among, numbers_from, variable_of}
 use Rattle.mo_alias.specs.steps.Placing.{flag_at, place_at, place_by, stays_by}
 use Rattle.mo_alias.specs.Without.{gone_at, is_absent, is_kept, kept_from, kept_to, place, place_of, stays, without, without_by}
-use Rattle.mo_alias.proofs.Bounding.{number-within}
+use Rattle.mo_alias.proofs.Bounding.{number_within}
 
-numbers-length : (n : ℕ) (vars : List FlatVar) → length (numbers_from n vars) ≡ length vars
-numbers-length n [] = refl
-numbers-length n (v ∷ vs) = by (is_unknown_role (Some v.role)) (numbers-length (n + 1) vs) (numbers-length n vs)
+numbers_length : (n : ℕ) (vars : List FlatVar) → length (numbers_from n vars) ≡ length vars
+numbers_length n [] = refl
+numbers_length n (v ∷ vs) = by (is_unknown_role (Some v.role)) (numbers_length (n + 1) vs) (numbers_length n vs)
   where
     by : (b : Bool) → length (numbers_from (n + 1) vs) ≡ length vs → length (numbers_from n vs) ≡ length vs
         → length (if b then (n + 1) ∷ numbers_from (n + 1) vs else 0 ∷ numbers_from n vs) ≡ suc (length vs)
     by true e f = ap suc e
     by false e f = ap suc f
 
-pub all-numbers : (vars : List FlatVar) → length (numbers_among vars) ≡ length vars + 1
-all-numbers vars = let e = numbers-length 0 vars in omega (arith, e)
+pub all_numbers : (vars : List FlatVar) → length (numbers_among vars) ≡ length vars + 1
+all_numbers vars = let e = numbers_length 0 vars in omega (arith, e)
 
-pub known-low : (vars : List FlatVar) (numbers : List ℕ) (count : ℕ) (said : List (Option Gone)) → numbers ≡ numbers_among vars → count ≡ length (unknown_numbers vars)
+pub known_low : (vars : List FlatVar) (numbers : List ℕ) (count : ℕ) (said : List (Option Gone)) → numbers ≡ numbers_among vars → count ≡ length (unknown_numbers vars)
     → length said ≡ count + 1 → (v : ℕ) → get_or numbers v 0 < length said
-known-low vars numbers count said is all size v = rw is (let l = number-within vars v in omega (arith, l, all, size))
+known_low vars numbers count said is all size v = rw is (let l = number_within vars v in omega (arith, l, all, size))
 
 -- an unknown is one of the variables
-variable-low : (m : ℕ) (vars : List FlatVar) (u : ℕ) → get_or (unknowns_from (m + 1) vars) u 0 ≤ m + length vars
-variable-low m [] u = omega arith
-variable-low m (x ∷ vs) u = by (is_unknown_role (Some x.role)) u (λ w. variable-low (m + 1) vs w)
+variable_low : (m : ℕ) (vars : List FlatVar) (u : ℕ) → get_or (unknowns_from (m + 1) vars) u 0 ≤ m + length vars
+variable_low m [] u = omega arith
+variable_low m (x ∷ vs) u = by (is_unknown_role (Some x.role)) u (λ w. variable_low (m + 1) vs w)
   where
     by : (b : Bool) (u : ℕ) → ((w : ℕ) → get_or (unknowns_from (m + 1 + 1) vs) w 0 ≤ m + 1 + length vs)
         → get_or (if b then (m + 1) ∷ unknowns_from (m + 1 + 1) vs else unknowns_from (m + 1 + 1) vs) u 0 ≤ m + suc (length vs)
@@ -41,19 +41,19 @@ variable-low m (x ∷ vs) u = by (is_unknown_role (Some x.role)) u (λ w. variab
     by true (suc w) e = let l = e w in omega (arith, l)
     by false u e = let l = e u in omega (arith, l)
 
-pub kept-to-same : (keep other : ℕ → Bool) (n : ℕ) → ((k : ℕ) → k ≤ n → keep k ≡ other k) → kept_to keep n ≡ kept_to other n
-kept-to-same keep other zero same = refl
-kept-to-same keep other (suc n) same =
-    rw (same (suc n) (omega arith), kept-to-same keep other n (λ k l. same k (omega (arith, l)))) refl
+pub kept_to_same : (keep other : ℕ → Bool) (n : ℕ) → ((k : ℕ) → k ≤ n → keep k ≡ other k) → kept_to keep n ≡ kept_to other n
+kept_to_same keep other zero same = refl
+kept_to_same keep other (suc n) same =
+    rw (same (suc n) (omega arith), kept_to_same keep other n (λ k l. same k (omega (arith, l)))) refl
 
-pub kept-from-same : {A : Type 0} (keep other : ℕ → Bool) (n : ℕ) (xs : List A) → ((k : ℕ) → k < n + length xs → keep k ≡ other k) → kept_from keep n xs ≡ kept_from other n xs
-kept-from-same keep other n [] same = refl
-kept-from-same keep other n (x ∷ xs) same =
-    rw (same n (omega arith), kept-from-same keep other (n + 1) xs (λ k l. same k (omega (arith, l)))) refl
+pub kept_from_same : {A : Type 0} (keep other : ℕ → Bool) (n : ℕ) (xs : List A) → ((k : ℕ) → k < n + length xs → keep k ≡ other k) → kept_from keep n xs ≡ kept_from other n xs
+kept_from_same keep other n [] same = refl
+kept_from_same keep other n (x ∷ xs) same =
+    rw (same n (omega arith), kept_from_same keep other (n + 1) xs (λ k l. same k (omega (arith, l)))) refl
 
-pub variable-within : (vars : List FlatVar) (u : ℕ) → variable_of vars u ≤ length vars
-variable-within vars zero = omega arith
-variable-within vars (suc u) = let l = variable-low 0 vars u in omega (arith, l)
+pub variable_within : (vars : List FlatVar) (u : ℕ) → variable_of vars u ≤ length vars
+variable_within vars zero = omega arith
+variable_within vars (suc u) = let l = variable_low 0 vars u in omega (arith, l)
 
 module _ (vars : List FlatVar) (gone : List Gone) (numbers : List ℕ) (said : List (Option Gone)) (flags : List Bool) (new variables : List ℕ) (table : List (Bool × ℕ))
     (numbers-is : numbers ≡ numbers_among vars) (variables-is : variables ≡ 0 ∷ unknown_numbers vars)
@@ -63,52 +63,52 @@ module _ (vars : List FlatVar) (gone : List Gone) (numbers : List ℕ) (said : L
     (table-length : length table ≡ length numbers)
     (table-is : (v : ℕ) → v < length numbers → place_at table v ≡ place_by new variables (get_or said (get_or numbers v 0) None) v) where
   size : length numbers ≡ length vars + 1
-  size = ap length numbers-is ∙ all-numbers vars
+  size = ap length numbers-is ∙ all_numbers vars
 
-  said-of : (v : ℕ) → get_or said (get_or numbers v 0) None ≡ gone_at gone (number_among vars v)
-  said-of v = rw numbers-is (said-is (number_among vars v) (number-within vars v))
+  said_of : (v : ℕ) → get_or said (get_or numbers v 0) None ≡ gone_at gone (number_among vars v)
+  said_of v = rw numbers-is (said-is (number_among vars v) (number_within vars v))
 
-  pub flag-is : (v : ℕ) → v ≤ length vars → flag_at flags v ≡ stays vars gone v
-  flag-is v l = flags-is v (omega (arith, size, l)) ∙ ap is_absent (said-of v)
+  pub flag_is : (v : ℕ) → v ≤ length vars → flag_at flags v ≡ stays vars gone v
+  flag_is v l = flags-is v (omega (arith, size, l)) ∙ ap is_absent (said_of v)
 
-  new-number-is : (v : ℕ) → v ≤ length vars → get_or new v 0 ≡ kept_to (stays vars gone) v
-  new-number-is v l =
-      new-is v (omega (arith, size, flags-length, l)) ∙ kept-to-same (flag_at flags) (stays vars gone) v (λ k below. flag-is k (omega (arith, below, l)))
+  new_number_is : (v : ℕ) → v ≤ length vars → get_or new v 0 ≡ kept_to (stays vars gone) v
+  new_number_is v l =
+      new-is v (omega (arith, size, flags-length, l)) ∙ kept_to_same (flag_at flags) (stays vars gone) v (λ k below. flag_is k (omega (arith, below, l)))
 
-  by-what-is-said : (o : Option Gone) (v : ℕ) → v ≤ length vars → place_by new variables o v ≡ place_of vars gone o v
-  by-what-is-said None v l = ap (λ (n : ℕ). (false, n)) (new-number-is v l)
-  by-what-is-said (Some g) v l =
-      ap (λ (n : ℕ). (g.minus, n)) (ap (λ (vs : List ℕ). get_or new (get_or vs g.of 0) 0) variables-is ∙ new-number-is (variable_of vars g.of) (variable-within vars g.of))
+  by_what_is_said : (o : Option Gone) (v : ℕ) → v ≤ length vars → place_by new variables o v ≡ place_of vars gone o v
+  by_what_is_said None v l = ap (λ (n : ℕ). (false, n)) (new_number_is v l)
+  by_what_is_said (Some g) v l =
+      ap (λ (n : ℕ). (g.minus, n)) (ap (λ (vs : List ℕ). get_or new (get_or vs g.of 0) 0) variables-is ∙ new_number_is (variable_of vars g.of) (variable_within vars g.of))
 
-  place-at-is : (v : ℕ) → place_at table v ≡ place vars gone v
-  place-at-is v = elim (cases_lt (length vars) v) [
+  place_at_is : (v : ℕ) → place_at table v ≡ place vars gone v
+  place_at_is v = elim (cases_lt (length vars) v) [
     | inl above ↦ get_or_past table v (false, v) (omega (arith, table-length, size, above)) ∙ sym (rw (lt-ltb (length vars) v above) refl)
     | inr below ↦
-        table-is v (omega (arith, size, below)) ∙ ap (λ (o : Option Gone). place_by new variables o v) (said-of v)
-        ∙ by-what-is-said (gone_at gone (number_among vars v)) v below ∙ sym (rw (le-ltb (length vars) v below) refl)
+        table-is v (omega (arith, size, below)) ∙ ap (λ (o : Option Gone). place_by new variables o v) (said_of v)
+        ∙ by_what_is_said (gone_at gone (number_among vars v)) v below ∙ sym (rw (le-ltb (length vars) v below) refl)
   ]
 
-  pub places-are : place_at table ≡ place vars gone
-  places-are = λ i v. place-at-is v i
+  pub places_are : place_at table ≡ place vars gone
+  places_are = λ i v. place_at_is v i
 
-pub without-same : (m : FlatModel) (a : Aliases) (places : ℕ → Bool × ℕ) (flags out : List Bool) → places ≡ place m.vars a.gone
+pub without_same : (m : FlatModel) (a : Aliases) (places : ℕ → Bool × ℕ) (flags out : List Bool) → places ≡ place m.vars a.gone
     → ((v : ℕ) → v ≤ length m.vars → flag_at flags v ≡ stays m.vars a.gone v)
     → ((i : ℕ) → i ≤ length m.equations → flag_at out i ≡ list_any (nat_eq i) a.dropped)
     → without_by places (flag_at flags) (λ i. not (flag_at out i)) m ≡ without m a
-without-same m a places flags out p f o =
+without_same m a places flags out p f o =
     let vs : kept_from (flag_at flags) 1 m.vars ≡ kept_from (stays m.vars a.gone) 1 m.vars =
-    kept-from-same (flag_at flags) (stays m.vars a.gone) 1 m.vars (λ k l. f k (omega (arith, l))) in
+    kept_from_same (flag_at flags) (stays m.vars a.gone) 1 m.vars (λ k l. f k (omega (arith, l))) in
     let es : kept_from (λ i. not (flag_at out i)) 1 m.equations ≡ kept_from (is_kept a.dropped) 1 m.equations =
-    kept-from-same (λ i. not (flag_at out i)) (is_kept a.dropped) 1 m.equations (λ k l. ap not (o k (omega (arith, l)))) in
+    kept_from_same (λ i. not (flag_at out i)) (is_kept a.dropped) 1 m.equations (λ k l. ap not (o k (omega (arith, l)))) in
     rw (vs, es, p) refl
 
 -- where the tables are made by lists that are equal
-pub without-made : (m : FlatModel) (a : Aliases) (places : ℕ → Bool × ℕ) (flags out : List Bool) (vs : List FlatVar) (gs : List Gone) (ds : List ℕ) (n : ℕ)
+pub without_made : (m : FlatModel) (a : Aliases) (places : ℕ → Bool × ℕ) (flags out : List Bool) (vs : List FlatVar) (gs : List Gone) (ds : List ℕ) (n : ℕ)
     → vs ≡ m.vars → gs ≡ a.gone → ds ≡ a.dropped → n ≡ length m.equations → places ≡ place vs gs
     → ((v : ℕ) → v ≤ length vs → flag_at flags v ≡ stays vs gs v)
     → ((i : ℕ) → i ≤ n → flag_at out i ≡ list_any (nat_eq i) ds)
     → without_by places (flag_at flags) (λ i. not (flag_at out i)) m ≡ without m a
-without-made m a places flags out vs gs ds n v_is g_is d_is n_is p f o =
+without_made m a places flags out vs gs ds n v_is g_is d_is n_is p f o =
     let size : length vs ≡ length m.vars = ap length v_is in
-    without-same m a places flags out (p ∙ (λ i. place (v_is i) (g_is i))) (λ v l. f v (omega (arith, l, size)) ∙ (λ i. stays (v_is i) (g_is i) v))
+    without_same m a places flags out (p ∙ (λ i. place (v_is i) (g_is i))) (λ v l. f v (omega (arith, l, size)) ∙ (λ i. stays (v_is i) (g_is i) v))
     (λ k l. o k (omega (arith, l, n_is)) ∙ ap (list_any (nat_eq k)) d_is)

@@ -8,7 +8,7 @@ use Rattle.std.specs.List.Sorted.{IsStrictlyIncreasing}
 use Rattle.std.specs.BTreeSet.{BTreeSet, IsEmpty, Updates}
 use Rattle.std.specs.Ordering.{nat_cmp}
 use Rattle.mo_graph.specs.steps.Placing.{Has}
-use Rattle.mo_graph.proofs.Ready.{has-either, has-new, has-none}
+use Rattle.mo_graph.proofs.Ready.{has_either, has_new, has_none}
 use Rattle.mo_alias.specs.declared.alias.Alias.{Alias}
 use Rattle.mo_alias.specs.declared.classify.Finding.{Finding}
 use Rattle.mo_alias.specs.declared.trees.Trees.{Trees}
@@ -18,20 +18,20 @@ use Rattle.mo_alias.specs.steps.Climbing.{top}
 use Rattle.mo_alias.specs.steps.Findings.{AreFindings, IsFinding}
 use Rattle.mo_alias.specs.steps.Forests.{AreRooted, AreTrees, AreWithin, IsForest, Reaches, since_in}
 use Rattle.mo_alias.specs.steps.Stretches.{IsListed, IsOpen, IsStretch}
-use Rattle.mo_alias.proofs.Linking.{marked-nothing}
-use Rattle.mo_alias.proofs.Marking.{one-root, one-sign}
-use Rattle.mo_alias.proofs.Stretching.{chain-low}
+use Rattle.mo_alias.proofs.Linking.{marked_nothing}
+use Rattle.mo_alias.proofs.Marking.{one_root, one_sign}
+use Rattle.mo_alias.proofs.Stretching.{chain_low}
 
-pub both-ok : {T E : Type 0} {P Q R : T → Type 0} (r : Result T E) → ((x : T) → P x → Q x → R x) → IfOk r P → IfOk r Q → IfOk r R
-both-ok (Ok x) f p q = f x p q
-both-ok (Err e) f p q = q
+pub both_ok : {T E : Type 0} {P Q R : T → Type 0} (r : Result T E) → ((x : T) → P x → Q x → R x) → IfOk r P → IfOk r Q → IfOk r R
+both_ok (Ok x) f p q = f x p q
+both_ok (Err e) f p q = q
 
-pub at-none : (said : List (Option Alias)) (at : ℕ) (x : Option Alias) → x ≡ get_or said at x → x ≡ None → get_or said at None ≡ None
-at-none said at x e none = subst (λ w. get_or said at w ≡ w) none (sym e)
+pub at_none : (said : List (Option Alias)) (at : ℕ) (x : Option Alias) → x ≡ get_or said at x → x ≡ None → get_or said at None ≡ None
+at_none said at x e none = subst (λ w. get_or said at w ≡ w) none (sym e)
 
 -- no equation was taken
-pub forest-begin : (said : List (Option Alias)) (t : Trees) → AreTrees t → ((u : ℕ) → since_in t u ≡ 18446744073709551615) → IsForest said t 0
-forest-begin said t trees roots = record {
+pub forest_begin : (said : List (Option Alias)) (t : Trees) → AreTrees t → ((u : ℕ) → since_in t u ≡ 18446744073709551615) → IsForest said t 0
+forest_begin said t trees roots = record {
   early = omega arith;
   trees = trees;
   once = λ u v l e. absurd (let r = roots u in omega (arith, r, l));
@@ -41,16 +41,16 @@ forest-begin said t trees roots = record {
 }
   where
     none : AreRooted said t 0
-    none = record { root = λ u. u; sign = λ u. false; marked = marked-nothing said; climbs = λ u. top (omega arith) }
+    none = record { root = λ u. u; sign = λ u. false; marked = marked_nothing said; climbs = λ u. top (omega arith) }
 
     rooted-to : (at : ℕ) → at ≤ 0 → AreRooted said t at
     rooted-to at l = let e : 0 ≡ at = omega (arith, l) in subst (λ w. AreRooted said t w) e none
 
-pub findings-none : (said : List (Option Alias)) (fs : List Finding) → fs ≡ [] → AreFindings said 0 fs
-findings-none said fs e = (ap length e, λ k l. absurd (omega (arith, l)))
+pub findings_none : (said : List (Option Alias)) (fs : List Finding) → fs ≡ [] → AreFindings said 0 fs
+findings_none said fs e = (ap length e, λ k l. absurd (omega (arith, l)))
 
-pub findings-put : (said : List (Option Alias)) (n : ℕ) (fs : List Finding) (f : Finding) → AreFindings said n fs → IsFinding said n f → AreFindings said (n + 1) (fs ++ f ∷ [])
-findings-put said n fs f (size, all) is = (let s = length-append fs (f ∷ []) in omega (arith, s, size), λ e l. at e l)
+pub findings_put : (said : List (Option Alias)) (n : ℕ) (fs : List Finding) (f : Finding) → AreFindings said n fs → IsFinding said n f → AreFindings said (n + 1) (fs ++ f ∷ [])
+findings_put said n fs f (size, all) is = (let s = length-append fs (f ∷ []) in omega (arith, s, size), λ e l. at e l)
   where
     at : (e : ℕ) → e < n + 1 → IsFinding said e (get_or (fs ++ f ∷ []) e Finding.Other)
     at e l = elim (cases_eq e (length fs)) [
@@ -65,15 +65,15 @@ findings-put said n fs f (size, all) is = (let s = length-append fs (f ∷ []) i
     ]
 
 module _ (said : List (Option Alias)) (t : Trees) (n : ℕ) (forest : IsForest said t n) (at : ℕ) (low : at < n) (a : Alias) (is : get_or said at None ≡ Some a) (contradicts : Contradicts said at) where
-  pub loop-chain : IsJoined said at a.left a.right (not a.minus)
-  loop-chain =
+  pub loop_chain : IsJoined said at a.left a.right (not a.minus)
+  loop_chain =
       let same : contradicts.alias ≡ a = (let f : Some contradicts.alias ≡ Some a = sym contradicts.is ∙ is in cc) in
       subst (λ (w : Alias). IsJoined said at w.left w.right (not w.minus)) same contradicts.chain
 
-  pub loop-open : AreWithin said (length t.parent.items) → IsOpen t n (record { one = a.left; other = a.right; below = at })
-  loop-open within =
+  pub loop_open : AreWithin said (length t.parent.items) → IsOpen t n (record { one = a.left; other = a.right; below = at })
+  loop_open within =
       let r = forest.rooted at (omega (arith, low)) in
-      let same = one-root said at r.root r.sign r.marked a.left a.right (not a.minus) loop-chain in
+      let same = one_root said at r.root r.sign r.marked a.left a.right (not a.minus) loop_chain in
       record {
         early = omega (arith, low);
         one = (within at a is).0;
@@ -90,8 +90,8 @@ module _ (said : List (Option Alias)) (t : Trees) (n : ℕ) (forest : IsForest s
   module _ (empty before set : BTreeSet ℕ) (made : List ℕ) (number : ℕ) (none : IsEmpty empty) (numbered : number ≡ at + 1) (up : Updates nat_cmp empty before number true)
       (put : (links : List ℕ) × IsStretch said (record { one = a.left; other = a.right; below = at }) links × ((x : ℕ) → (Has set x → IsListed before links x) × (IsListed before links x → Has set x)))
       (ascending : IsStrictlyIncreasing made) (members : (x : ℕ) → (Has set x → Contains made x) × (Contains made x → Has set x)) (size : n ≡ length said) where
-    pub loop-is : IsLoop said (at + 1) made
-    loop-is = record {
+    pub loop_is : IsLoop said (at + 1) made
+    loop_is = record {
       alias = a;
       is = subst (λ w. get_or said w None ≡ Some a) back is;
       links = put.0;
@@ -109,18 +109,18 @@ module _ (said : List (Option Alias)) (t : Trees) (n : ℕ) (forest : IsForest s
         back = omega arith
 
         sign : put.1.minus ≡ not a.minus
-        sign = let r = forest.rooted at (omega (arith, low)) in one-sign said at r.root r.sign r.marked a.left a.right put.1.minus (not a.minus) (put.0, put.1.chain) loop-chain
+        sign = let r = forest.rooted at (omega (arith, low)) in one_sign said at r.root r.sign r.marked a.left a.right put.1.minus (not a.minus) (put.0, put.1.chain) loop_chain
 
         first-by : (x : ℕ) → Has empty x ⊎ (x ≡ number) → (0 < x) × (x ≤ length said) × ((x ≡ at + 1) ⊎ Contains put.0 (x - 1))
-        first-by x (inl h) = absurd (has-none empty x none h)
+        first-by x (inl h) = absurd (has_none empty x none h)
         first-by x (inr e) = (omega (arith, e, numbered), omega (arith, e, numbered, low, size), inl (e ∙ numbered))
 
         only-by : (x : ℕ) → IsListed before put.0 x → (0 < x) × (x ≤ length said) × ((x ≡ at + 1) ⊎ Contains put.0 (x - 1))
-        only-by x (inl h) = first-by x (has-either empty before number up x h)
+        only-by x (inl h) = first-by x (has_either empty before number up x h)
         only-by x (inr (p, m)) =
-            let less = chain-low said at a.left a.right put.1.minus put.0 put.1.chain (x - 1) m in
+            let less = chain_low said at a.left a.right put.1.minus put.0 put.1.chain (x - 1) m in
             (p, omega (arith, less, low, size), inr m)
 
         all-by : (x : ℕ) → 0 < x → (x ≡ at + 1) ⊎ Contains put.0 (x - 1) → IsListed before put.0 x
-        all-by x p (inl e) = inl (subst (λ w. Has before w) (numbered ∙ sym e) (has-new empty before number up))
+        all-by x p (inl e) = inl (subst (λ w. Has before w) (numbered ∙ sym e) (has_new empty before number up))
         all-by x p (inr m) = inr (p, m)

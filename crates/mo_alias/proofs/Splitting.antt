@@ -5,7 +5,7 @@ use Rattle.std.proofs.lemmas.Bool.{cases_lt}
 use Rattle.std.specs.BTreeSet.{BTreeSet, Updates}
 use Rattle.std.specs.Ordering.{nat_cmp}
 use Rattle.mo_graph.specs.steps.Placing.{Has}
-use Rattle.mo_graph.proofs.Ready.{has-either, has-new, has-old}
+use Rattle.mo_graph.proofs.Ready.{has_either, has_new, has_old}
 use Rattle.mo_alias.specs.declared.alias.Alias.{Alias}
 use Rattle.mo_alias.specs.declared.chain.Stretch.{Stretch}
 use Rattle.mo_alias.specs.declared.trees.Latest.{Latest}
@@ -15,104 +15,104 @@ use Rattle.mo_alias.specs.Chains as chains
 use Rattle.mo_alias.specs.steps.Forests.{AreRooted, AreWithin, ends_in, first, HaveRoot, IsForest, IsLatest, minus_in, parent_in, Reaches, second, since_in}
 use Rattle.mo_alias.specs.steps.Stretches.{AreLeft, AreOpen, AreSame, AreStretches, IsListed, IsOpen, IsStretch, weight, weight_of}
 use Rattle.mo_alias.specs.steps.Stretches as stretches
-use Rattle.mo_alias.proofs.Chaining.{says-back}
-use Rattle.mo_alias.proofs.Climbing.{climbs-one}
-use Rattle.mo_alias.proofs.Latest.{later-root}
-use Rattle.mo_alias.proofs.Stretching.{distinct-none, member-append, member-left, member-right, stretch-joined, weight-less, weight-put, weight-some}
+use Rattle.mo_alias.proofs.Chaining.{says_back}
+use Rattle.mo_alias.proofs.Climbing.{climbs_one}
+use Rattle.mo_alias.proofs.Latest.{later_root}
+use Rattle.mo_alias.proofs.Stretching.{distinct_none, member_append, member_left, member_right, stretch_joined, weight_less, weight_put, weight_some}
 
 -- ---- lists of stretches, from their ends
 
-pub waiting-put : (t : Trees) (n : ℕ) (ws : List Stretch) (w : Stretch) → AreOpen t n ws → IsOpen t n w → AreOpen t n (ws ++ w ∷ [])
-waiting-put t n ws w stretches.AreOpen.none o = stretches.AreOpen.more o stretches.AreOpen.none
-waiting-put t n ws w (stretches.AreOpen.more {stretches = os} p ps) o = stretches.AreOpen.more p (waiting-put t n os w ps o)
+pub waiting_put : (t : Trees) (n : ℕ) (ws : List Stretch) (w : Stretch) → AreOpen t n ws → IsOpen t n w → AreOpen t n (ws ++ w ∷ [])
+waiting_put t n ws w stretches.AreOpen.none o = stretches.AreOpen.more o stretches.AreOpen.none
+waiting_put t n ws w (stretches.AreOpen.more {stretches = os} p ps) o = stretches.AreOpen.more p (waiting_put t n os w ps o)
 
-pub waiting-last : (t : Trees) (n : ℕ) (ws : List Stretch) (w : Stretch) → AreOpen t n (ws ++ w ∷ []) → AreOpen t n ws × IsOpen t n w
-waiting-last t n [] w (stretches.AreOpen.more o os) = (stretches.AreOpen.none, o)
-waiting-last t n (x ∷ ws) w (stretches.AreOpen.more o os) = let h = waiting-last t n ws w os in (stretches.AreOpen.more o h.0, h.1)
+pub waiting_last : (t : Trees) (n : ℕ) (ws : List Stretch) (w : Stretch) → AreOpen t n (ws ++ w ∷ []) → AreOpen t n ws × IsOpen t n w
+waiting_last t n [] w (stretches.AreOpen.more o os) = (stretches.AreOpen.none, o)
+waiting_last t n (x ∷ ws) w (stretches.AreOpen.more o os) = let h = waiting_last t n ws w os in (stretches.AreOpen.more o h.0, h.1)
 
 module _ (said : List (Option Alias)) where
-  pub stretches-put : (ws : List Stretch) (w : Stretch) (others links : List ℕ) → AreStretches said ws others → IsStretch said w links → AreStretches said (ws ++ w ∷ []) (others ++ links)
-  stretches-put ws w others links stretches.AreStretches.none s = subst (λ z. AreStretches said (w ∷ []) z) (append-nil links) (stretches.AreStretches.more s stretches.AreStretches.none)
-  stretches-put ws w others links (stretches.AreStretches.more {stretch = x} {stretches = xs} {links = ls} {others = os} p ps) s =
-      subst (λ z. AreStretches said (x ∷ (xs ++ w ∷ [])) z) (sym (append_assoc ls os links)) (stretches.AreStretches.more p (stretches-put xs w os links ps s))
+  pub stretches_put : (ws : List Stretch) (w : Stretch) (others links : List ℕ) → AreStretches said ws others → IsStretch said w links → AreStretches said (ws ++ w ∷ []) (others ++ links)
+  stretches_put ws w others links stretches.AreStretches.none s = subst (λ z. AreStretches said (w ∷ []) z) (append-nil links) (stretches.AreStretches.more s stretches.AreStretches.none)
+  stretches_put ws w others links (stretches.AreStretches.more {stretch = x} {stretches = xs} {links = ls} {others = os} p ps) s =
+      subst (λ z. AreStretches said (x ∷ (xs ++ w ∷ [])) z) (sym (append_assoc ls os links)) (stretches.AreStretches.more p (stretches_put xs w os links ps s))
 
-  pub stretches-last : (ws : List Stretch) (w : Stretch) (all : List ℕ) → AreStretches said (ws ++ w ∷ []) all
+  pub stretches_last : (ws : List Stretch) (w : Stretch) (all : List ℕ) → AreStretches said (ws ++ w ∷ []) all
       → (others : List ℕ) × (links : List ℕ) × AreStretches said ws others × IsStretch said w links × (all ≡ others ++ links)
-  stretches-last [] w all (stretches.AreStretches.more {links = ls} p stretches.AreStretches.none) = ([], ls, stretches.AreStretches.none, p, append-nil ls)
-  stretches-last (x ∷ ws) w all (stretches.AreStretches.more {links = ls} {others = os} p ps) =
-      let h = stretches-last ws w os ps in
+  stretches_last [] w all (stretches.AreStretches.more {links = ls} p stretches.AreStretches.none) = ([], ls, stretches.AreStretches.none, p, append-nil ls)
+  stretches_last (x ∷ ws) w all (stretches.AreStretches.more {links = ls} {others = os} p ps) =
+      let h = stretches_last ws w os ps in
       (ls ++ h.0, h.1, stretches.AreStretches.more p h.2, h.3, ap (λ z. ls ++ z) h.4 ∙ sym (append_assoc ls h.0 h.1))
 
-  empty-stretch : (w : Stretch) → w.one ≡ w.other → IsStretch said w []
-  empty-stretch w e = record {
+  empty_stretch : (w : Stretch) → w.one ≡ w.other → IsStretch said w []
+  empty_stretch w e = record {
     minus = false;
     chain = subst (λ z. Chain said (IsLinkBelow said w.below) w.one z false []) e chains.Chain.none;
-    once = distinct-none;
+    once = distinct_none;
   }
 
   -- ---- what is left
 
   module _ (whole : Stretch) (old : BTreeSet ℕ) where
-    pub left-init : AreLeft said whole old (whole ∷ []) old
-    left-init links s = by (stretches-last [] whole links s)
+    pub left_init : AreLeft said whole old (whole ∷ []) old
+    left_init links s = by (stretches_last [] whole links s)
       where
         by : (others : List ℕ) × (ls : List ℕ) × AreStretches said [] others × IsStretch said whole ls × (links ≡ others ++ ls) → (all : List ℕ) × IsStretch said whole all × AreSame old links old all
         by (others, ls, stretches.AreStretches.none, p, e) = (ls, p, λ x. (λ h. subst (λ z. IsListed old z x) e h, λ h. subst (λ z. IsListed old z x) (sym e) h))
 
-    pub left-done : (set : BTreeSet ℕ) → AreLeft said whole old [] set → (links : List ℕ) × IsStretch said whole links × ((x : ℕ) → (Has set x → IsListed old links x) × (IsListed old links x → Has set x))
-    left-done set left = let h = left [] stretches.AreStretches.none in (h.0, h.1, λ x. ((λ m. (h.2 x).0 (inl m)), (λ m. out x ((h.2 x).1 m))))
+    pub left_done : (set : BTreeSet ℕ) → AreLeft said whole old [] set → (links : List ℕ) × IsStretch said whole links × ((x : ℕ) → (Has set x → IsListed old links x) × (IsListed old links x → Has set x))
+    left_done set left = let h = left [] stretches.AreStretches.none in (h.0, h.1, λ x. ((λ m. (h.2 x).0 (inl m)), (λ m. out x ((h.2 x).1 m))))
       where
         out : (x : ℕ) → IsListed set [] x → Has set x
         out x (inl m) = m
         out x (inr (p, m)) = absurd (let l = m.1 in omega (arith, l))
 
-    pub left-skip : (ws : List Stretch) (w : Stretch) (set : BTreeSet ℕ) → w.one ≡ w.other → AreLeft said whole old (ws ++ w ∷ []) set → AreLeft said whole old ws set
-    left-skip ws w set e left links s =
-        let h = left (links ++ []) (stretches-put ws w links [] s (empty-stretch w e)) in
+    pub left_skip : (ws : List Stretch) (w : Stretch) (set : BTreeSet ℕ) → w.one ≡ w.other → AreLeft said whole old (ws ++ w ∷ []) set → AreLeft said whole old ws set
+    left_skip ws w set e left links s =
+        let h = left (links ++ []) (stretches_put ws w links [] s (empty_stretch w e)) in
         (h.0, h.1, subst (λ z. AreSame set z old h.0) (append-nil links) h.2)
 
     module _ (ws : List Stretch) (w a b : Stretch) (set next : BTreeSet ℕ) (at : ℕ) (up : Updates nat_cmp set next (at + 1) true)
         (joined : (xs ys : List ℕ) → IsStretch said a xs → IsStretch said b ys → IsStretch said w (xs ++ at ∷ ys)) where
       into : (others xs ys : List ℕ) (x : ℕ) → IsListed next ((others ++ xs) ++ ys) x → IsListed set (others ++ (xs ++ at ∷ ys)) x
-      into others xs ys x (inl has) = by (has-either set next (at + 1) up x has)
+      into others xs ys x (inl has) = by (has_either set next (at + 1) up x has)
         where
           by : Has set x ⊎ (x ≡ at + 1) → IsListed set (others ++ (xs ++ at ∷ ys)) x
           by (inl h) = inl h
           by (inr e) =
               let less : x - 1 ≡ at = omega (arith, e) in
-              inr (omega (arith, e), member-right others (xs ++ at ∷ ys) (x - 1) (member-right xs (at ∷ ys) (x - 1) (0, omega arith, sym less)))
-      into others xs ys x (inr (p, m)) = by (member-append (others ++ xs) ys (x - 1) m)
+              inr (omega (arith, e), member_right others (xs ++ at ∷ ys) (x - 1) (member_right xs (at ∷ ys) (x - 1) (0, omega arith, sym less)))
+      into others xs ys x (inr (p, m)) = by (member_append (others ++ xs) ys (x - 1) m)
         where
           inner : Contains others (x - 1) ⊎ Contains xs (x - 1) → IsListed set (others ++ (xs ++ at ∷ ys)) x
-          inner (inl h) = inr (p, member-left others (xs ++ at ∷ ys) (x - 1) h)
-          inner (inr h) = inr (p, member-right others (xs ++ at ∷ ys) (x - 1) (member-left xs (at ∷ ys) (x - 1) h))
+          inner (inl h) = inr (p, member_left others (xs ++ at ∷ ys) (x - 1) h)
+          inner (inr h) = inr (p, member_right others (xs ++ at ∷ ys) (x - 1) (member_left xs (at ∷ ys) (x - 1) h))
 
           by : Contains (others ++ xs) (x - 1) ⊎ Contains ys (x - 1) → IsListed set (others ++ (xs ++ at ∷ ys)) x
-          by (inl h) = inner (member-append others xs (x - 1) h)
-          by (inr h) = inr (p, member-right others (xs ++ at ∷ ys) (x - 1) (member-right xs (at ∷ ys) (x - 1) (suc h.0, omega (arith, h.1), h.2)))
+          by (inl h) = inner (member_append others xs (x - 1) h)
+          by (inr h) = inr (p, member_right others (xs ++ at ∷ ys) (x - 1) (member_right xs (at ∷ ys) (x - 1) (suc h.0, omega (arith, h.1), h.2)))
 
       from : (others xs ys : List ℕ) (x : ℕ) → IsListed set (others ++ (xs ++ at ∷ ys)) x → IsListed next ((others ++ xs) ++ ys) x
-      from others xs ys x (inl has) = inl (has-old set next (at + 1) up x has)
-      from others xs ys x (inr (p, m)) = by (member-append others (xs ++ at ∷ ys) (x - 1) m)
+      from others xs ys x (inl has) = inl (has_old set next (at + 1) up x has)
+      from others xs ys x (inr (p, m)) = by (member_append others (xs ++ at ∷ ys) (x - 1) m)
         where
           last : Contains (at ∷ ys) (x - 1) → IsListed next ((others ++ xs) ++ ys) x
-          last (zero, l, e) = let is : x ≡ at + 1 = omega (arith, p, e) in inl (subst (λ z. Has next z) (sym is) (has-new set next (at + 1) up))
-          last (suc k, l, e) = inr (p, member-right (others ++ xs) ys (x - 1) (k, omega (arith, l), e))
+          last (zero, l, e) = let is : x ≡ at + 1 = omega (arith, p, e) in inl (subst (λ z. Has next z) (sym is) (has_new set next (at + 1) up))
+          last (suc k, l, e) = inr (p, member_right (others ++ xs) ys (x - 1) (k, omega (arith, l), e))
 
           inner : Contains xs (x - 1) ⊎ Contains (at ∷ ys) (x - 1) → IsListed next ((others ++ xs) ++ ys) x
-          inner (inl h) = inr (p, member-left (others ++ xs) ys (x - 1) (member-right others xs (x - 1) h))
+          inner (inl h) = inr (p, member_left (others ++ xs) ys (x - 1) (member_right others xs (x - 1) h))
           inner (inr h) = last h
 
           by : Contains others (x - 1) ⊎ Contains (xs ++ at ∷ ys) (x - 1) → IsListed next ((others ++ xs) ++ ys) x
-          by (inl h) = inr (p, member-left (others ++ xs) ys (x - 1) (member-left others xs (x - 1) h))
-          by (inr h) = inner (member-append xs (at ∷ ys) (x - 1) h)
+          by (inl h) = inr (p, member_left (others ++ xs) ys (x - 1) (member_left others xs (x - 1) h))
+          by (inr h) = inner (member_append xs (at ∷ ys) (x - 1) h)
 
-      pub left-split : AreLeft said whole old (ws ++ w ∷ []) set → AreLeft said whole old ((ws ++ a ∷ []) ++ b ∷ []) next
-      left-split left links s =
-          let two = stretches-last (ws ++ a ∷ []) b links s in
-          let one = stretches-last ws a two.0 two.2 in
+      pub left_split : AreLeft said whole old (ws ++ w ∷ []) set → AreLeft said whole old ((ws ++ a ∷ []) ++ b ∷ []) next
+      left_split left links s =
+          let two = stretches_last (ws ++ a ∷ []) b links s in
+          let one = stretches_last ws a two.0 two.2 in
           let is : links ≡ (one.0 ++ one.1) ++ two.1 = two.4 ∙ ap (λ z. z ++ two.1) one.4 in
-          let h = left (one.0 ++ (one.1 ++ at ∷ two.1)) (stretches-put ws w one.0 (one.1 ++ at ∷ two.1) one.2 (joined one.1 two.1 one.3 two.3)) in (
+          let h = left (one.0 ++ (one.1 ++ at ∷ two.1)) (stretches_put ws w one.0 (one.1 ++ at ∷ two.1) one.2 (joined one.1 two.1 one.3 two.3)) in (
             h.0,
             h.1,
             λ x. (
@@ -141,16 +141,16 @@ module _ (said : List (Option Alias)) where
     before-below u v s z ne l c d = elim (cases_lt latest.at below) [
       | inl less ↦ less
       | inr high ↦ absurd (
-          let h = later-root t forest.trees below latest.at one other high (omega (arith, l)) joined in
-          let x = climbs-one (parent_in t) (since_in t) (minus_in t) latest.at one u h.root s h.sign c h.above in
-          let y = climbs-one (parent_in t) (since_in t) (minus_in t) latest.at other v h.root z h.other_sign d h.other_above in
+          let h = later_root t forest.trees below latest.at one other high (omega (arith, l)) joined in
+          let x = climbs_one (parent_in t) (since_in t) (minus_in t) latest.at one u h.root s h.sign c h.above in
+          let y = climbs_one (parent_in t) (since_in t) (minus_in t) latest.at other v h.root z h.other_sign d h.other_above in
           ne (x.0 ∙ sym y.0))
     ]
 
     two-roots : (u v near far : ℕ) (s z : Bool) → (u ≡ v → ⊥) → Reaches t latest.at near u s → Reaches t latest.at far v z → (r : AreRooted said t latest.at) → r.root near ≡ r.root far → ⊥
     two-roots u v near far s z ne c d r e =
-        let x = climbs-one (parent_in t) (since_in t) (minus_in t) latest.at near u (r.root near) s (r.sign near) c (r.climbs near) in
-        let y = climbs-one (parent_in t) (since_in t) (minus_in t) latest.at far v (r.root far) z (r.sign far) d (r.climbs far) in
+        let x = climbs_one (parent_in t) (since_in t) (minus_in t) latest.at near u (r.root near) s (r.sign near) c (r.climbs near) in
+        let y = climbs_one (parent_in t) (since_in t) (minus_in t) latest.at far v (r.root far) z (r.sign far) d (r.climbs far) in
         ne (x.0 ∙ e ∙ sym y.0)
 
     pub is-split : IsLatest t one other latest → IsSplit t one other below latest
@@ -177,7 +177,7 @@ module _ (said : List (Option Alias)) where
           low = before-below (parent_in t u) u s z ne l c d;
           link = subst (λ w. IsLink said w) at k.link;
           minus = k.minus;
-          says = says-back said latest.at latest.far latest.near k.minus
+          says = says_back said latest.at latest.far latest.near k.minus
               (subst (λ w. Says said w latest.far latest.near k.minus) at (subst (λ w. Says said (since_in t u) latest.far w k.minus) near (subst (λ w. Says said (since_in t u) w (ends_in t u).1 k.minus) far k.says)));
           near_joined = record { root = parent_in t u; sign = s; other_sign = k.other_sign; above = c; other_above = nu };
           far_joined = record { root = u; sign = k.sign; other_sign = z; above = fu; other_above = d };
@@ -200,64 +200,64 @@ module _ (said : List (Option Alias)) where
       both-joined l xs ys =
           let low = split.low in
           let r = forest.rooted latest.at (omega (arith, low, l)) in
-          stretch-joined said latest.at below split.low split.link one latest.near latest.far other split.minus split.says r.root r.sign r.marked (split.apart r) xs ys
+          stretch_joined said latest.at below split.low split.link one latest.near latest.far other split.minus split.says r.root r.sign r.marked (split.apart r) xs ys
 
 -- ---- the turns of the loop
 
 module _ (said : List (Option Alias)) (t : Trees) (n : ℕ) (forest : IsForest said t n) (within : AreWithin said (length t.parent.items)) (whole : Stretch) (old : BTreeSet ℕ) where
-  pub turn-begin : (items : List Stretch) → items ≡ [] ++ whole ∷ [] → IsOpen t n whole → AreOpen t n items × AreLeft said whole old items old
-  turn-begin items e o = subst (λ z. AreOpen t n z × AreLeft said whole old z old) (sym e) (stretches.AreOpen.more o stretches.AreOpen.none, left-init said whole old)
+  pub turn_begin : (items : List Stretch) → items ≡ [] ++ whole ∷ [] → IsOpen t n whole → AreOpen t n items × AreLeft said whole old items old
+  turn_begin items e o = subst (λ z. AreOpen t n z × AreLeft said whole old z old) (sym e) (stretches.AreOpen.more o stretches.AreOpen.none, left_init said whole old)
 
   module _ (items rest : List Stretch) (w : Stretch) (set : BTreeSet ℕ) (e : items ≡ rest ++ w ∷ []) (before : AreOpen t n items × AreLeft said whole old items set) where
     before-last : AreOpen t n (rest ++ w ∷ []) × AreLeft said whole old (rest ++ w ∷ []) set
     before-last = subst (λ z. AreOpen t n z × AreLeft said whole old z set) e before
 
-    pub turn-open : IsOpen t n w
-    turn-open = (waiting-last t n rest w before-last.0).1
+    pub turn_open : IsOpen t n w
+    turn_open = (waiting_last t n rest w before-last.0).1
 
-    pub turn-joined : HaveRoot t 18446744073709551615 w.one w.other
-    turn-joined =
-        let low = turn-open.early in
+    pub turn_joined : HaveRoot t 18446744073709551615 w.one w.other
+    turn_joined =
+        let low = turn_open.early in
         let high = forest.early in
-        later-root t forest.trees w.below 18446744073709551615 w.one w.other (omega (arith, low, high)) (omega arith) turn-open.joined
+        later_root t forest.trees w.below 18446744073709551615 w.one w.other (omega (arith, low, high)) (omega arith) turn_open.joined
 
-    pub turn-skip : w.one ≡ w.other → AreOpen t n rest × AreLeft said whole old rest set
-    turn-skip same = ((waiting-last t n rest w before-last.0).0, left-skip said whole old rest w set same before-last.1)
+    pub turn_skip : w.one ≡ w.other → AreOpen t n rest × AreLeft said whole old rest set
+    turn_skip same = ((waiting_last t n rest w before-last.0).0, left_skip said whole old rest w set same before-last.1)
 
-    pub turn-skip-less : weight rest < weight items
-    turn-skip-less =
-        let more = weight-put rest w in
-        let some = weight-some w.below in
+    pub turn_skip_less : weight rest < weight items
+    turn_skip_less =
+        let more = weight_put rest w in
+        let some = weight_some w.below in
         let is : weight items ≡ weight (rest ++ w ∷ []) = ap weight e in
         omega (arith, more, some, is)
 
     module _ (latest : Latest) (is-latest : IsLatest t w.one w.other latest) (after : List Stretch)
         (f : after ≡ (rest ++ (record { one = w.one; other = latest.near; below = latest.at }) ∷ []) ++ (record { one = latest.far; other = w.other; below = latest.at }) ∷ []) where
       split : IsSplit said t w.one w.other w.below latest
-      split = is-split said t n forest w.one w.other w.below turn-open.joined latest is-latest
+      split = is-split said t n forest w.one w.other w.below turn_open.joined latest is-latest
 
-      pub turn-split : (next : BTreeSet ℕ) (number : ℕ) → number ≡ latest.at + 1 → Updates nat_cmp set next number true → AreOpen t n after × AreLeft said whole old after next
-      turn-split next number is up = subst (λ z. AreOpen t n z × AreLeft said whole old z next) (sym f) (
-        waiting-put t n (rest ++ (record { one = w.one; other = latest.near; below = latest.at }) ∷ []) (record { one = latest.far; other = w.other; below = latest.at })
-            (waiting-put t n rest (record { one = w.one; other = latest.near; below = latest.at }) (waiting-last t n rest w before-last.0).0
-            (near-open said t n forest w.one w.other w.below turn-open.joined latest split within turn-open.early turn-open.one))
-            (far-open said t n forest w.one w.other w.below turn-open.joined latest split within turn-open.early turn-open.other),
-        left-split said whole old rest w (record { one = w.one; other = latest.near; below = latest.at }) (record { one = latest.far; other = w.other; below = latest.at }) set next latest.at
+      pub turn_split : (next : BTreeSet ℕ) (number : ℕ) → number ≡ latest.at + 1 → Updates nat_cmp set next number true → AreOpen t n after × AreLeft said whole old after next
+      turn_split next number is up = subst (λ z. AreOpen t n z × AreLeft said whole old z next) (sym f) (
+        waiting_put t n (rest ++ (record { one = w.one; other = latest.near; below = latest.at }) ∷ []) (record { one = latest.far; other = w.other; below = latest.at })
+            (waiting_put t n rest (record { one = w.one; other = latest.near; below = latest.at }) (waiting_last t n rest w before-last.0).0
+            (near-open said t n forest w.one w.other w.below turn_open.joined latest split within turn_open.early turn_open.one))
+            (far-open said t n forest w.one w.other w.below turn_open.joined latest split within turn_open.early turn_open.other),
+        left_split said whole old rest w (record { one = w.one; other = latest.near; below = latest.at }) (record { one = latest.far; other = w.other; below = latest.at }) set next latest.at
             (subst (λ z. Updates nat_cmp set next z true) is up)
-            (both-joined said t n forest w.one w.other w.below turn-open.joined latest split within turn-open.early) before-last.1,
+            (both-joined said t n forest w.one w.other w.below turn_open.joined latest split within turn_open.early) before-last.1,
       )
 
-      pub turn-split-less : weight after < weight items
-      turn-split-less =
-          let more = weight-put rest w in
-          let one = weight-put rest (record { one = w.one; other = latest.near; below = latest.at }) in
-          let two = weight-put (rest ++ (record { one = w.one; other = latest.near; below = latest.at }) ∷ []) (record { one = latest.far; other = w.other; below = latest.at }) in
-          let less = weight-less latest.at w.below split.low in
+      pub turn_split_less : weight after < weight items
+      turn_split_less =
+          let more = weight_put rest w in
+          let one = weight_put rest (record { one = w.one; other = latest.near; below = latest.at }) in
+          let two = weight_put (rest ++ (record { one = w.one; other = latest.near; below = latest.at }) ∷ []) (record { one = latest.far; other = w.other; below = latest.at }) in
+          let less = weight_less latest.at w.below split.low in
           let is : weight items ≡ weight (rest ++ w ∷ []) = ap weight e in
           let then : weight after ≡ weight ((rest ++ (record { one = w.one; other = latest.near; below = latest.at }) ∷ []) ++ (record { one = latest.far; other = w.other; below = latest.at }) ∷ []) = ap weight f in
           omega (arith, more, one, two, less, is, then)
 
-pub turn-done : (said : List (Option Alias)) (whole : Stretch) (old : BTreeSet ℕ) (items : List Stretch) (set : BTreeSet ℕ) → (0 < length items → false ≡ true) → AreLeft said whole old items set
+pub turn_done : (said : List (Option Alias)) (whole : Stretch) (old : BTreeSet ℕ) (items : List Stretch) (set : BTreeSet ℕ) → (0 < length items → false ≡ true) → AreLeft said whole old items set
     → (links : List ℕ) × IsStretch said whole links × ((x : ℕ) → (Has set x → IsListed old links x) × (IsListed old links x → Has set x))
-turn-done said whole old [] set none left = left-done said whole old set left
-turn-done said whole old (w ∷ ws) set none left = absurd (true≢false (sym (none (omega arith))))
+turn_done said whole old [] set none left = left_done said whole old set left
+turn_done said whole old (w ∷ ws) set none left = absurd (true≢false (sym (none (omega arith))))

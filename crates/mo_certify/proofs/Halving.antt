@@ -16,8 +16,8 @@ module _ (g : Signature) (i : ℕ) (sound : IsSound g) (l : i < equations g) whe
         | inr e ↦ let before = rises n k (omega (arith, e.1)) (omega arith) in omega (arith, before, step)
       ]
 
-  pub one-entry : (k n : ℕ) → k < row_len g i → n < row_len g i → unknown_at g i k ≡ unknown_at g i n → n ≡ k
-  one-entry k n kl nl same = elim (cases_lt k n) [
+  pub one_entry : (k n : ℕ) → k < row_len g i → n < row_len g i → unknown_at g i k ≡ unknown_at g i n → n ≡ k
+  one_entry k n kl nl same = elim (cases_lt k n) [
     | inl h ↦ absurd (let up = rises n k h nl in omega (arith, up, same))
     | inr h ↦ elim (cases_lt n k) [
       | inl h' ↦ absurd (let up = rises k n h' kl in omega (arith, up, same))
@@ -33,8 +33,8 @@ pub record IsBetween (g : Signature) (i u low high : ℕ) : Type 0 where
   pub after : (n : ℕ) → high ≤ n → n < row_len g i → u < unknown_at g i n
 
 module _ (g : Signature) (i u low high : ℕ) (sound : IsSound g) (l : i < equations g) (between : IsBetween g i u low high) (middle : ℕ) (above : low ≤ middle) (below : middle < high) where
-  pub between-up : unknown_at g i middle < u → IsBetween g i u (middle + 1) high
-  between-up less = record {
+  pub between_up : unknown_at g i middle < u → IsBetween g i u (middle + 1) high
+  between_up less = record {
     order = omega arith;
     within = between.within;
     before = λ n nl. elim (eqb_tells n middle) [
@@ -44,8 +44,8 @@ module _ (g : Signature) (i u low high : ℕ) (sound : IsSound g) (l : i < equat
     after = between.after;
   }
 
-  pub between-down : u < unknown_at g i middle → IsBetween g i u low middle
-  between-down more = record {
+  pub between_down : u < unknown_at g i middle → IsBetween g i u low middle
+  between_down more = record {
     order = above;
     within = omega (arith, between.within);
     before = between.before;
@@ -55,8 +55,8 @@ module _ (g : Signature) (i u low high : ℕ) (sound : IsSound g) (l : i < equat
     ];
   }
 
-pub between-none : (g : Signature) (i u low high : ℕ) → IsBetween g i u low high → high ≤ low → (n : ℕ) → n < row_len g i → unknown_at g i n ≡ u → ⊥
-between-none g i u low high between over n nl is = elim (cases_lt n low) [
+pub between_none : (g : Signature) (i u low high : ℕ) → IsBetween g i u low high → high ≤ low → (n : ℕ) → n < row_len g i → unknown_at g i n ≡ u → ⊥
+between_none g i u low high between over n nl is = elim (cases_lt n low) [
   | inl h ↦ let b = between.before n h in omega (arith, b, is)
   | inr h ↦ let a = between.after n (omega arith) nl in omega (arith, a, is)
 ]

@@ -7,14 +7,14 @@ use Rattle.mo_scope.specs.Frames.{Indexed, indexed_eq, numbers_eq}
 use Rattle.mo_equations.specs.Leaves.{path_text}
 use Rattle.mo_equations.specs.steps.Tables.{first_place, place_among, place_of_text}
 
-false-is-true : {A : Type 0} → false ≡ true → A
-false-is-true eq = absurd (no eq)
+false_is_true : {A : Type 0} → false ≡ true → A
+false_is_true eq = absurd (no eq)
   where
     no : false ≡ true → ⊥
     no eq = cc
 
-none-is-some : {A B : Type 0} (a : A) → None ≡ Some a → B
-none-is-some a eq = absurd (no eq)
+none_is_some : {A B : Type 0} (a : A) → None ≡ Some a → B
+none_is_some a eq = absurd (no eq)
   where
     no : None ≡ Some a → ⊥
     no eq = cc
@@ -68,7 +68,7 @@ placed_old paths all path text other n before after are is there same held =
     same ∙ held ∙ at (place_of_text paths other) refl ∙ sym (first_more (λ one. bytes_eq (path_text one) other) paths path) ∙ ap (λ xs. place_of_text xs other) (sym are)
   where
     none : (b : Bool) → bytes_eq text other ≡ b → place_of_text paths other ≡ None → None ≡ (if bytes_eq text other then Some (length paths) else None)
-    none true alike empty = none-is-some n (sym empty ∙ ap (place_of_text paths) (sym ((bytes_eq-Decides text other).0 alike)) ∙ there)
+    none true alike empty = none_is_some n (sym empty ∙ ap (place_of_text paths) (sym ((bytes_eq-Decides text other).0 alike)) ∙ there)
     none false apart empty = rw apart refl
 
     at : (found : Option ℕ) → place_of_text paths other ≡ found → found ≡ or_place found (if bytes_eq (path_text path) other then Some (length paths) else None)
@@ -79,12 +79,12 @@ placed_old paths all path text other n before after are is there same held =
 
 both_true : (a b : Bool) → (a && b) ≡ true → (a ≡ true) × (b ≡ true)
 both_true true b h = (refl, h)
-both_true false b h = false-is-true h
+both_true false b h = false_is_true h
 
 pub same_paths : (a b : Indexed) → indexed_eq a b ≡ true → a ≡ b
 same_paths [] [] h = refl
-same_paths [] (y ∷ ys) h = false-is-true h
-same_paths (x ∷ xs) [] h = false-is-true h
+same_paths [] (y ∷ ys) h = false_is_true h
+same_paths (x ∷ xs) [] h = false_is_true h
 same_paths (x ∷ xs) (y ∷ ys) h =
     let whole = both_true (bytes_eq x.0 y.0 && numbers_eq x.1 y.1) (indexed_eq xs ys) h in
     let parts = both_true (bytes_eq x.0 y.0) (numbers_eq x.1 y.1) whole.0 in
@@ -108,22 +108,22 @@ no_text_no_path (x ∷ xs) path h = at (indexed_eq x path) refl (no_text_no_path
   where
     mapped : (found : Option ℕ) → option_map (λ k. k + 1) found ≡ None → found ≡ None
     mapped None e = refl
-    mapped (Some k) e = none-is-some (k + 1) (sym e)
+    mapped (Some k) e = none_is_some (k + 1) (sym e)
 
     rest : (b : Bool) → bytes_eq (path_text x) (path_text path) ≡ b → place_of_text xs (path_text path) ≡ None
-    rest true is = none-is-some 0 (sym (rw is at h))
+    rest true is = none_is_some 0 (sym (rw is at h))
     rest false is = mapped (place_of_text xs (path_text path)) (rw is at h)
 
     at : (b : Bool) → indexed_eq x path ≡ b → (place_of_text xs (path_text path) ≡ None → place_among xs path ≡ None) → place_among (x ∷ xs) path ≡ None
     at true is more =
         let one : bytes_eq (path_text x) (path_text path) ≡ true = ap (λ (p : Indexed). bytes_eq (path_text x) (path_text p)) (sym (same_paths x path is)) ∙ bytes_same (path_text x) in
-        none-is-some 0 (sym (rw one at h))
+        none_is_some 0 (sym (rw one at h))
     at false is more = rw (is, more (rest (bytes_eq (path_text x) (path_text path)) refl)) refl
 
 -- the first path of a text is the first one that is this one, where it is this one
 pub path_of_text : (paths : List Indexed) (path found : Indexed) (k : ℕ) → place_of_text paths (path_text path) ≡ Some k → slice_get paths k ≡ Some found
     → indexed_eq found path ≡ true → place_among paths path ≡ Some k
-path_of_text [] path found k h at same = none-is-some k h
+path_of_text [] path found k h at same = none_is_some k h
 path_of_text (x ∷ xs) path found k h at same = here (bytes_eq (path_text x) (path_text path)) refl (λ n is there. path_of_text xs path found n is there same)
   where
     some_one : (a b : ℕ) → Some a ≡ Some b → a ≡ b
@@ -141,13 +141,13 @@ path_of_text (x ∷ xs) path found k h at same = here (bytes_eq (path_text x) (p
         held (Some n) = n
 
     later : (m : Option ℕ) → place_of_text xs (path_text path) ≡ m → option_map (λ n. n + 1) m ≡ Some k → (n : ℕ) × (place_of_text xs (path_text path) ≡ Some n) × (n + 1 ≡ k)
-    later None is e = none-is-some k e
+    later None is e = none_is_some k e
     later (Some n) is e = (n, is, some_one (n + 1) k e)
 
     apart : (b : Bool) → indexed_eq x path ≡ b → bytes_eq (path_text x) (path_text path) ≡ false → indexed_eq x path ≡ false
     apart true is differs =
         let one : bytes_eq (path_text x) (path_text path) ≡ true = ap (λ (p : Indexed). bytes_eq (path_text x) (path_text p)) (sym (same_paths x path is)) ∙ bytes_same (path_text x) in
-        false-is-true (sym differs ∙ one)
+        false_is_true (sym differs ∙ one)
     apart false is differs = is
 
     here : (b : Bool) → bytes_eq (path_text x) (path_text path) ≡ b → ((n : ℕ) → place_of_text xs (path_text path) ≡ Some n → slice_get xs n ≡ Some found → place_among xs path ≡ Some n) → place_among (x ∷ xs) path ≡ Some k
@@ -164,6 +164,6 @@ path_of_text (x ∷ xs) path found k h at same = here (bytes_eq (path_text x) (p
 
 -- the path at a place, as it is seen
 pub seen_at : {A B : Type 0} (f : A → B) (xs : List A) (k : ℕ) (x : A) → slice_get xs k ≡ Some x → slice_get (map f xs) k ≡ Some (f x)
-seen_at f [] k x h = none-is-some x h
+seen_at f [] k x h = none_is_some x h
 seen_at {A} {B} f (y ∷ ys) zero x h = ap (option_map f) h
 seen_at f (y ∷ ys) (suc k) x h = seen_at f ys k x h

@@ -14,7 +14,7 @@ use Rattle.mo_scope.specs.Parts.{Picked, held, picked_here}
 use Rattle.mo_scope.specs.Rows.{Table}
 use Rattle.mo_scope.specs.Sights.{picked_in}
 use Rattle.mo_scope.specs.Worlds.{AreFrames, IsFrame, SourceEntry, World, frame_at, frame_in, frames_of, source_in, sources_in}
-use Rattle.mo_scope.proofs.Numbered.{is_no_top, length-frames_from}
+use Rattle.mo_scope.proofs.Numbered.{is_no_top, length_frames_from}
 use Rattle.mo_syntax.specs.declared.meaning.Kind.{Kind}
 use Rattle.mo_syntax.specs.declared.place.Place.{Place}
 use Rattle.mo_typing.specs.Kinds.{accepts}
@@ -70,7 +70,7 @@ frames_counted : (world : World) → length (frames_of world) ≡ length world.e
 unfolding frames_of
 frames_counted world =
     let from_zero : zero + length world.entries ≡ length world.entries = omega arith in
-    length-frames_from [] world.entries ∙ from_zero
+    length_frames_from [] world.entries ∙ from_zero
 
 -- a number whose frame is not the top
 is_numbered : (world : World) (n : ℕ) → is_top (frame_at world n) ≡ false → IsFrame world n

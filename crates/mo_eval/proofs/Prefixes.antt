@@ -152,5 +152,5 @@ known_grows read before [] = omega arith
 known_grows read before (v ∷ vs) =
     known_grows read (before ++ known_of_virtual read before v ∷ []) vs ∙ omega (arith, length-append before (known_of_virtual read before v ∷ []))
 
-pub length-known : (read : Element → Outcome Known) (vs : List Virtual) → length (known_of_virtuals read vs) ≡ length vs
-length-known read vs = known_grows read [] vs ∙ omega arith
+pub length_known : (read : Element → Outcome Known) (vs : List Virtual) → length (known_of_virtuals read vs) ≡ length vs
+length_known read vs = known_grows read [] vs ∙ omega arith

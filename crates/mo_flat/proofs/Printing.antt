@@ -44,19 +44,19 @@ pub at_If : (vars : List FlatVar) (branches : List (FlatExpr × FlatExpr)) (othe
 at_If vars branches other = text_at vars (If branches other) (FlatExpr-F.If branches other) (outs-If branches other)
 
 -- one more part of a row
-in_row-push : {B : Type 0} (part : Bool → B → List ℕ) (ys : List B) (y : B) → in_row part (ys ++ y ∷ []) ≡ in_row part ys ++ part (eqb (length ys) 0) y
-in_row-push part [] y = append-nil (part true y)
-in_row-push part (x ∷ xs) y =
+in_row_push : {B : Type 0} (part : Bool → B → List ℕ) (ys : List B) (y : B) → in_row part (ys ++ y ∷ []) ≡ in_row part ys ++ part (eqb (length ys) 0) y
+in_row_push part [] y = append-nil (part true y)
+in_row_push part (x ∷ xs) y =
     let not_nil : false ≡ eqb (suc (length xs)) 0 = grind (arith, common_steps) in
     ap (λ t. part true x ++ t) (flat_map-append (part false) xs (y ∷ []) ∙ ap (λ t. flat_map (part false) xs ++ t) (append-nil (part false y))) ∙ sym (append_assoc (part true x) _ _)
     ∙ ap (λ b. (part true x ++ flat_map (part false) xs) ++ part b y) not_nil
 
-in_row-more : {A B : Type 0} (part : Bool → B → List ℕ) (h : A → B) (xs : List A) (i : ℕ) (d : A) → i < length xs →
+in_row_more : {A B : Type 0} (part : Bool → B → List ℕ) (h : A → B) (xs : List A) (i : ℕ) (d : A) → i < length xs →
     in_row part (map h (take (i + 1) xs)) ≡ in_row part (map h (take i xs)) ++ part (eqb i 0) (h (get_or xs i d))
-in_row-more part h xs i d l =
+in_row_more part h xs i d l =
     let counted : length (map h (take i xs)) ≡ i = length-map (take i xs) h ∙ length-take-le i xs (omega arith) in
     ap (λ ys. in_row part (map h ys)) (take_more xs i d l) ∙ ap (in_row part) (map-append h (take i xs) (get_or xs i d ∷ []))
-    ∙ in_row-push part (map h (take i xs)) (h (get_or xs i d)) ∙ ap (λ n. in_row part (map h (take i xs)) ++ part (eqb n 0) (h (get_or xs i d))) counted
+    ∙ in_row_push part (map h (take i xs)) (h (get_or xs i d)) ∙ ap (λ n. in_row part (map h (take i xs)) ++ part (eqb n 0) (h (get_or xs i d))) counted
 
 -- a turn of a loop that writes a row
 pub row_step : {A B : Type 0} (part : Bool → B → List ℕ) (h : A → B) (xs : List A) (i : ℕ) (d x : A) (first : Bool) (old before after : List ℕ) →
@@ -64,7 +64,7 @@ pub row_step : {A B : Type 0} (part : Bool → B → List ℕ) (h : A → B) (xs
     after ≡ old ++ in_row part (map h (take (i + 1) xs))
 row_step part h xs i d x first old before after l is f b a =
     a ∙ ap (λ t. t ++ part first (h x)) b ∙ append_assoc old _ _ ∙
-    ap (λ t. old ++ t) (ap (λ q. in_row part (map h (take i xs)) ++ part q (h x)) f ∙ ap (λ y. in_row part (map h (take i xs)) ++ part (eqb i 0) (h y)) is ∙ sym (in_row-more part h xs i d l))
+    ap (λ t. old ++ t) (ap (λ q. in_row part (map h (take i xs)) ++ part q (h x)) f ∙ ap (λ y. in_row part (map h (take i xs)) ++ part (eqb i 0) (h y)) is ∙ sym (in_row_more part h xs i d l))
 
 -- after a first part the next is not the first
 pub not_first : (i : ℕ) → false ≡ eqb (i + 1) 0
@@ -81,21 +81,21 @@ abbrev pub repeated : ℕ → List ℕ → List ℕ
 repeated zero s = []
 repeated (suc k) s = s ++ repeated k s
 
-pub repeated-more : (k : ℕ) (s : List ℕ) → repeated (k + 1) s ≡ repeated k s ++ s
-repeated-more zero s = append-nil s
-repeated-more (suc k) s =
-    let e : repeated (suc k) s ≡ repeated k s ++ s = ap (λ n. repeated n s) (sym (add-one k)) ∙ repeated-more k s in
+pub repeated_more : (k : ℕ) (s : List ℕ) → repeated (k + 1) s ≡ repeated k s ++ s
+repeated_more zero s = append-nil s
+repeated_more (suc k) s =
+    let e : repeated (suc k) s ≡ repeated k s ++ s = ap (λ n. repeated n s) (sym (add-one k)) ∙ repeated_more k s in
     ap (λ n. repeated n s) (add-one (suc k)) ∙ ap (λ t. s ++ t) e ∙ sym (append_assoc s (repeated k s) s)
 
 around : (a o n c b : List ℕ) → (a ++ ((o ++ n) ++ c)) ++ b ≡ ((a ++ o) ++ n) ++ (c ++ b)
 around a o n c b = simp append_assoc
 
 -- the text by its opening marks, its name and its closing marks
-pub derivative_text-repeated : (k : ℕ) (name : List ℕ) → derivative_text k name ≡ repeated k (codes "der(") ++ name ++ repeated k (codes ")")
-derivative_text-repeated zero name = sym (append-nil name)
-derivative_text-repeated (suc k) name =
-    let e : repeated (suc k) (codes ")") ≡ repeated k (codes ")") ++ codes ")" = ap (λ n. repeated n (codes ")")) (sym (add-one k)) ∙ repeated-more k (codes ")") in
-    let h = derivative_text-repeated k name in
+pub derivative_text_repeated : (k : ℕ) (name : List ℕ) → derivative_text k name ≡ repeated k (codes "der(") ++ name ++ repeated k (codes ")")
+derivative_text_repeated zero name = sym (append-nil name)
+derivative_text_repeated (suc k) name =
+    let e : repeated (suc k) (codes ")") ≡ repeated k (codes ")") ++ codes ")" = ap (λ n. repeated n (codes ")")) (sym (add-one k)) ∙ repeated_more k (codes ")") in
+    let h = derivative_text_repeated k name in
     rw (e, h) (around (codes "der(") (repeated k (codes "der(")) name (repeated k (codes ")")) (codes ")"))
 
 -- five pieces one after another

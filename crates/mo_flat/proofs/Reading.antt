@@ -21,28 +21,28 @@ loosened vars e t (suc k) w v h s =
     let same : v ≡ suc (k + w) = omega arith in
     loosened vars e t k w (k + w) refl (tighter (subst (λ n. Spells vars (phrase n e) t) same s))
 
-node_level-map : {A B : Type 0} (h : A → B) (n : FlatExpr-F A) → node_level (map-FlatExpr A B h n) ≡ node_level n
-node_level-map h (FlatExpr-F.Whole n) = refl
-node_level-map h (FlatExpr-F.Decimal t) = refl
-node_level-map h (FlatExpr-F.Str t) = refl
-node_level-map h (FlatExpr-F.Truth b) = refl
-node_level-map h (FlatExpr-F.Literal t) = refl
-node_level-map h FlatExpr-F.Time = refl
-node_level-map h (FlatExpr-F.Var n k) = refl
-node_level-map h (FlatExpr-F.Der a) = refl
-node_level-map h (FlatExpr-F.Sum ts) = refl
-node_level-map h (FlatExpr-F.Product fs) = refl
-node_level-map h (FlatExpr-F.Power a b) = refl
-node_level-map h (FlatExpr-F.Call f args) = refl
-node_level-map h (FlatExpr-F.Relation op a b) = refl
-node_level-map h (FlatExpr-F.Not a) = refl
-node_level-map h (FlatExpr-F.All ps) = refl
-node_level-map h (FlatExpr-F.Any ps) = refl
-node_level-map h (FlatExpr-F.If bs o) = refl
+node_level_map : {A B : Type 0} (h : A → B) (n : FlatExpr-F A) → node_level (map-FlatExpr A B h n) ≡ node_level n
+node_level_map h (FlatExpr-F.Whole n) = refl
+node_level_map h (FlatExpr-F.Decimal t) = refl
+node_level_map h (FlatExpr-F.Str t) = refl
+node_level_map h (FlatExpr-F.Truth b) = refl
+node_level_map h (FlatExpr-F.Literal t) = refl
+node_level_map h FlatExpr-F.Time = refl
+node_level_map h (FlatExpr-F.Var n k) = refl
+node_level_map h (FlatExpr-F.Der a) = refl
+node_level_map h (FlatExpr-F.Sum ts) = refl
+node_level_map h (FlatExpr-F.Product fs) = refl
+node_level_map h (FlatExpr-F.Power a b) = refl
+node_level_map h (FlatExpr-F.Call f args) = refl
+node_level_map h (FlatExpr-F.Relation op a b) = refl
+node_level_map h (FlatExpr-F.Not a) = refl
+node_level_map h (FlatExpr-F.All ps) = refl
+node_level_map h (FlatExpr-F.Any ps) = refl
+node_level_map h (FlatExpr-F.If bs o) = refl
 
 -- the level that an expression is printed with is that of its node
 pub printed_level : (vars : List FlatVar) (e : FlatExpr) → (printed vars e).level ≡ level_of e
-printed_level vars e = ap (λ p. p.level) (opened vars e (out-FlatExpr e) refl) ∙ node_level-map (printed vars) (out-FlatExpr e)
+printed_level vars e = ap (λ p. p.level) (opened vars e (out-FlatExpr e) refl) ∙ node_level_map (printed vars) (out-FlatExpr e)
 
 operand_by : (vars : List FlatVar) (e : FlatExpr) (w : ℕ) (b : Bool) → nat_lt (printed vars e).level w ≡ b → w ≤ 8 → IsRead vars e →
     Spells vars (phrase w e) (if b then codes "(" ++ expr_text vars e ++ codes ")" else expr_text vars e)

@@ -23,24 +23,24 @@ abbrev pub Each : {A : Type 0} → (A → Type 0) → List A → Type 0
 Each P [] = Unit {0}
 Each P (x ∷ xs) = P x × Each P xs
 
-pub each-true : {A B : Type 0} (P : A → Type 0) (h : A → B) (test : B → Bool) → ((a : A) → P a → test (h a) ≡ true) → (xs : List A) → Each P xs → list_all test (map h xs) ≡ true
-each-true P h test holds [] e = refl
-each-true P h test holds (x ∷ xs) e = rw (holds x e.0) (each-true P h test holds xs e.1)
+pub each_true : {A B : Type 0} (P : A → Type 0) (h : A → B) (test : B → Bool) → ((a : A) → P a → test (h a) ≡ true) → (xs : List A) → Each P xs → list_all test (map h xs) ≡ true
+each_true P h test holds [] e = refl
+each_true P h test holds (x ∷ xs) e = rw (holds x e.0) (each_true P h test holds xs e.1)
 
-both-true : (a b : Bool) → a ≡ true → b ≡ true → (a && b) ≡ true
-both-true a b p q = rw (p, q) refl
+both_true : (a b : Bool) → a ≡ true → b ≡ true → (a && b) ≡ true
+both_true a b p q = rw (p, q) refl
 
-nonempty-mapped : {A B : Type 0} (h : A → B) (xs : List A) → is_nonempty (map h xs) ≡ is_nonempty xs
-nonempty-mapped h [] = refl
-nonempty-mapped h (x ∷ xs) = refl
+nonempty_mapped : {A B : Type 0} (h : A → B) (xs : List A) → is_nonempty (map h xs) ≡ is_nonempty xs
+nonempty_mapped h [] = refl
+nonempty_mapped h (x ∷ xs) = refl
 
-multiplied-mapped : {A B : Type 0} (h : A → B) (xs : List (Bool × A)) → begins_multiplied (map (λ x. (x.0, h x.1)) xs) ≡ begins_multiplied xs
-multiplied-mapped h [] = refl
-multiplied-mapped h (x ∷ xs) = refl
+multiplied_mapped : {A B : Type 0} (h : A → B) (xs : List (Bool × A)) → begins_multiplied (map (λ x. (x.0, h x.1)) xs) ≡ begins_multiplied xs
+multiplied_mapped h [] = refl
+multiplied_mapped h (x ∷ xs) = refl
 
-length-mapped : {A B : Type 0} (h : A → B) (xs : List A) → length (map h xs) ≡ length xs
-length-mapped h [] = refl
-length-mapped h (x ∷ xs) = ap (λ n. suc n) (length-mapped h xs)
+length_mapped : {A B : Type 0} (h : A → B) (xs : List A) → length (map h xs) ≡ length xs
+length_mapped h [] = refl
+length_mapped h (x ∷ xs) = ap (λ n. suc n) (length_mapped h xs)
 
 module _ (vars : List FlatVar) where
   shaped_at : (e : FlatExpr) (node : FlatExpr-F FlatExpr) → out-FlatExpr e ≡ node → is_shaped vars e ≡ shape_node vars (map-FlatExpr FlatExpr Bool (is_shaped vars) node)
@@ -52,36 +52,36 @@ module _ (vars : List FlatVar) where
   ordered_at : (e : FlatExpr) (node : FlatExpr-F FlatExpr) (around : ℕ) → out-FlatExpr e ≡ node → orders_at e around ≡ orders_node 65535 (map-FlatExpr FlatExpr (ℕ → Bool) orders_at node) around
   ordered_at e node around h = ap (λ f. f around) (fold_out-FlatExpr (ℕ → Bool) (orders_node 65535) e) ∙ ap (λ n. orders_node 65535 (map-FlatExpr FlatExpr (ℕ → Bool) orders_at n) around) h
 
-  number-numeric : (kinds : List (Option FlatKind)) → list_all is_numeric kinds ≡ true → is_numeric (number_kind kinds) ≡ true
-  number-numeric kinds all = at (list_all is_whole kinds) (list_all is_numeric kinds) all
+  number_numeric : (kinds : List (Option FlatKind)) → list_all is_numeric kinds ≡ true → is_numeric (number_kind kinds) ≡ true
+  number_numeric kinds all = at (list_all is_whole kinds) (list_all is_numeric kinds) all
     where
       at : (a b : Bool) → b ≡ true → is_numeric (if a then Some whole else where_holds b real) ≡ true
       at true b is = refl
       at false b is = rw is refl
 
-  pub good-Whole : (left : ℕ) (n : ℤ) → IsGood vars left (Whole n)
-  good-Whole left n = record {
+  pub good_Whole : (left : ℕ) (n : ℤ) → IsGood vars left (Whole n)
+  good_Whole left n = record {
     shaped = shaped_at (Whole n) (FlatExpr-F.Whole n) (outs-Whole n);
     numeric = ap is_numeric (kind_at (Whole n) (FlatExpr-F.Whole n) (outs-Whole n));
     orders = λ around l. ordered_at (Whole n) (FlatExpr-F.Whole n) around (outs-Whole n);
   }
 
-  pub good-Decimal : (left : ℕ) (text : List ℕ) → IsGood vars left (Decimal text)
-  good-Decimal left text = record {
+  pub good_Decimal : (left : ℕ) (text : List ℕ) → IsGood vars left (Decimal text)
+  good_Decimal left text = record {
     shaped = shaped_at (Decimal text) (FlatExpr-F.Decimal text) (outs-Decimal text);
     numeric = ap is_numeric (kind_at (Decimal text) (FlatExpr-F.Decimal text) (outs-Decimal text));
     orders = λ around l. ordered_at (Decimal text) (FlatExpr-F.Decimal text) around (outs-Decimal text);
   }
 
-  pub good-Time : (left : ℕ) → IsGood vars left Time
-  good-Time left = record {
+  pub good_Time : (left : ℕ) → IsGood vars left Time
+  good_Time left = record {
     shaped = shaped_at Time FlatExpr-F.Time outs-Time;
     numeric = ap is_numeric (kind_at Time FlatExpr-F.Time outs-Time);
     orders = λ around l. ordered_at Time FlatExpr-F.Time around outs-Time;
   }
 
-  pub good-Var : (left n : ℕ) → (nat_le 1 n && nat_le n (length vars)) ≡ true → is_numeric (option_map (λ v. flat_kind v.kind) (variable_at vars n)) ≡ true → IsGood vars left (Var n 0)
-  good-Var left n within kind = record {
+  pub good_Var : (left n : ℕ) → (nat_le 1 n && nat_le n (length vars)) ≡ true → is_numeric (option_map (λ v. flat_kind v.kind) (variable_at vars n)) ≡ true → IsGood vars left (Var n 0)
+  good_Var left n within kind = record {
     shaped = shaped_at (Var n 0) (FlatExpr-F.Var n 0) (outs-Var n 0) ∙ within;
     numeric = ap is_numeric (kind_at (Var n 0) (FlatExpr-F.Var n 0) (outs-Var n 0)) ∙ kind;
     orders = λ around l. ordered_at (Var n 0) (FlatExpr-F.Var n 0) around (outs-Var n 0) ∙ low around l;
@@ -90,33 +90,33 @@ module _ (vars : List FlatVar) where
       low : (around : ℕ) → left + around < 65535 → nat_lt (0 + around) 65535 ≡ true
       low around l = grind arith
 
-  pub good-Der : (left : ℕ) (e : FlatExpr) → IsGood vars left e → IsGood vars (suc left) (Der e)
-  good-Der left e g = record {
+  pub good_Der : (left : ℕ) (e : FlatExpr) → IsGood vars left e → IsGood vars (suc left) (Der e)
+  good_Der left e g = record {
     shaped = shaped_at (Der e) (FlatExpr-F.Der e) (outs-Der e) ∙ g.shaped;
     numeric = ap is_numeric (kind_at (Der e) (FlatExpr-F.Der e) (outs-Der e)) ∙ ap (λ b. is_numeric (where_holds b real)) g.numeric;
     orders = λ around l. ordered_at (Der e) (FlatExpr-F.Der e) around (outs-Der e) ∙ g.orders (around + 1) (omega (arith, l));
   }
 
-  pub good-Sum : (left : ℕ) (ts : List (Bool × FlatExpr)) → is_nonempty ts ≡ true → Each (λ t. IsGood vars left t.1) ts → IsGood vars left (Sum ts)
-  good-Sum left ts some each = record {
+  pub good_Sum : (left : ℕ) (ts : List (Bool × FlatExpr)) → is_nonempty ts ≡ true → Each (λ t. IsGood vars left t.1) ts → IsGood vars left (Sum ts)
+  good_Sum left ts some each = record {
     shaped = shaped_at (Sum ts) (FlatExpr-F.Sum ts) (outs-Sum ts)
-        ∙ both-true _ _ (nonempty-mapped _ ts ∙ some) (each-true {A = Bool × FlatExpr} {B = Bool × Bool} (λ t. IsGood vars left t.1) (λ t. (t.0, is_shaped vars t.1)) (λ t. t.1) (λ t g. g.shaped) ts each);
-    numeric = ap is_numeric (kind_at (Sum ts) (FlatExpr-F.Sum ts) (outs-Sum ts)) ∙ number-numeric (map {A = Bool × Option FlatKind} (λ t. t.1) (map (λ t. (t.0, kind_of vars t.1)) ts)) (numbers ts each);
+        ∙ both_true _ _ (nonempty_mapped _ ts ∙ some) (each_true {A = Bool × FlatExpr} {B = Bool × Bool} (λ t. IsGood vars left t.1) (λ t. (t.0, is_shaped vars t.1)) (λ t. t.1) (λ t g. g.shaped) ts each);
+    numeric = ap is_numeric (kind_at (Sum ts) (FlatExpr-F.Sum ts) (outs-Sum ts)) ∙ number_numeric (map {A = Bool × Option FlatKind} (λ t. t.1) (map (λ t. (t.0, kind_of vars t.1)) ts)) (numbers ts each);
     orders = λ around l. ordered_at (Sum ts) (FlatExpr-F.Sum ts) around (outs-Sum ts)
-        ∙ each-true {A = Bool × FlatExpr} {B = Bool × (ℕ → Bool)} (λ t. IsGood vars left t.1) (λ t. (t.0, orders_at t.1)) (λ t. t.1 around) (λ t g. g.orders around l) ts each;
+        ∙ each_true {A = Bool × FlatExpr} {B = Bool × (ℕ → Bool)} (λ t. IsGood vars left t.1) (λ t. (t.0, orders_at t.1)) (λ t. t.1 around) (λ t g. g.orders around l) ts each;
   }
     where
       numbers : (ts : List (Bool × FlatExpr)) → Each (λ t. IsGood vars left t.1) ts → list_all is_numeric (map {A = Bool × Option FlatKind} (λ t. t.1) (map (λ t. (t.0, kind_of vars t.1)) ts)) ≡ true
       numbers [] e = refl
       numbers (t ∷ ts) e = rw e.0.numeric (numbers ts e.1)
 
-  pub good-Product : (left : ℕ) (fs : List (Bool × FlatExpr)) → begins_multiplied fs ≡ true → Each (λ f. IsGood vars left f.1) fs → IsGood vars left (Product fs)
-  good-Product left fs first each = record {
+  pub good_Product : (left : ℕ) (fs : List (Bool × FlatExpr)) → begins_multiplied fs ≡ true → Each (λ f. IsGood vars left f.1) fs → IsGood vars left (Product fs)
+  good_Product left fs first each = record {
     shaped = shaped_at (Product fs) (FlatExpr-F.Product fs) (outs-Product fs)
-        ∙ both-true _ _ (multiplied-mapped (is_shaped vars) fs ∙ first) (each-true {A = Bool × FlatExpr} {B = Bool × Bool} (λ f. IsGood vars left f.1) (λ f. (f.0, is_shaped vars f.1)) (λ f. f.1) (λ f g. g.shaped) fs each);
+        ∙ both_true _ _ (multiplied_mapped (is_shaped vars) fs ∙ first) (each_true {A = Bool × FlatExpr} {B = Bool × Bool} (λ f. IsGood vars left f.1) (λ f. (f.0, is_shaped vars f.1)) (λ f. f.1) (λ f g. g.shaped) fs each);
     numeric = ap is_numeric (kind_at (Product fs) (FlatExpr-F.Product fs) (outs-Product fs)) ∙ at (list_any {X = Bool × Option FlatKind} (λ f. f.0) (map (λ f. (f.0, kind_of vars f.1)) fs));
     orders = λ around l. ordered_at (Product fs) (FlatExpr-F.Product fs) around (outs-Product fs)
-        ∙ each-true {A = Bool × FlatExpr} {B = Bool × (ℕ → Bool)} (λ f. IsGood vars left f.1) (λ f. (f.0, orders_at f.1)) (λ f. f.1 around) (λ f g. g.orders around l) fs each;
+        ∙ each_true {A = Bool × FlatExpr} {B = Bool × (ℕ → Bool)} (λ f. IsGood vars left f.1) (λ f. (f.0, orders_at f.1)) (λ f. f.1 around) (λ f g. g.orders around l) fs each;
   }
     where
       numbers : (fs : List (Bool × FlatExpr)) → Each (λ f. IsGood vars left f.1) fs → list_all is_numeric (map {A = Bool × Option FlatKind} (λ f. f.1) (map (λ f. (f.0, kind_of vars f.1)) fs)) ≡ true
@@ -124,33 +124,33 @@ module _ (vars : List FlatVar) where
       numbers (f ∷ fs) e = rw e.0.numeric (numbers fs e.1)
 
       all_numbers : list_all {X = Bool × Option FlatKind} (λ factor. is_numeric factor.1) (map (λ f. (f.0, kind_of vars f.1)) fs) ≡ true
-      all_numbers = each-true {A = Bool × FlatExpr} {B = Bool × Option FlatKind} (λ f. IsGood vars left f.1) (λ f. (f.0, kind_of vars f.1)) (λ f. is_numeric f.1) (λ f g. g.numeric) fs each
+      all_numbers = each_true {A = Bool × FlatExpr} {B = Bool × Option FlatKind} (λ f. IsGood vars left f.1) (λ f. (f.0, kind_of vars f.1)) (λ f. is_numeric f.1) (λ f g. g.numeric) fs each
 
       at : (b : Bool) → is_numeric (if b then where_holds (list_all {X = Bool × Option FlatKind} (λ factor. is_numeric factor.1) (map (λ f. (f.0, kind_of vars f.1)) fs)) real else number_kind (map {A = Bool × Option FlatKind} (λ f. f.1) (map (λ f. (f.0, kind_of vars f.1)) fs))) ≡ true
       at true = ap (λ b. is_numeric (where_holds b real)) all_numbers
-      at false = number-numeric (map {A = Bool × Option FlatKind} (λ f. f.1) (map (λ f. (f.0, kind_of vars f.1)) fs)) (numbers fs each)
+      at false = number_numeric (map {A = Bool × Option FlatKind} (λ f. f.1) (map (λ f. (f.0, kind_of vars f.1)) fs)) (numbers fs each)
 
-  pub good-Power : (left : ℕ) (a b : FlatExpr) → IsGood vars left a → IsGood vars left b → IsGood vars left (Power a b)
-  good-Power left a b g h = record {
-    shaped = shaped_at (Power a b) (FlatExpr-F.Power a b) (outs-Power a b) ∙ both-true _ _ g.shaped h.shaped;
-    numeric = ap is_numeric (kind_at (Power a b) (FlatExpr-F.Power a b) (outs-Power a b)) ∙ ap (λ c. is_numeric (where_holds c real)) (both-true _ _ g.numeric h.numeric);
-    orders = λ around l. ordered_at (Power a b) (FlatExpr-F.Power a b) around (outs-Power a b) ∙ both-true _ _ (g.orders around l) (h.orders around l);
+  pub good_Power : (left : ℕ) (a b : FlatExpr) → IsGood vars left a → IsGood vars left b → IsGood vars left (Power a b)
+  good_Power left a b g h = record {
+    shaped = shaped_at (Power a b) (FlatExpr-F.Power a b) (outs-Power a b) ∙ both_true _ _ g.shaped h.shaped;
+    numeric = ap is_numeric (kind_at (Power a b) (FlatExpr-F.Power a b) (outs-Power a b)) ∙ ap (λ c. is_numeric (where_holds c real)) (both_true _ _ g.numeric h.numeric);
+    orders = λ around l. ordered_at (Power a b) (FlatExpr-F.Power a b) around (outs-Power a b) ∙ both_true _ _ (g.orders around l) (h.orders around l);
   }
 
   -- a function whose kind is that of its arguments, or a Real
-  pub good-Call : (left code : ℕ) (es : List FlatExpr) → takes code (length es) ≡ true → nat_eq code 18 ≡ false → Each (IsGood vars left) es → IsGood vars left (Call code es)
-  good-Call left code es taken other each = record {
+  pub good_Call : (left code : ℕ) (es : List FlatExpr) → takes code (length es) ≡ true → nat_eq code 18 ≡ false → Each (IsGood vars left) es → IsGood vars left (Call code es)
+  good_Call left code es taken other each = record {
     shaped = shaped_at (Call code es) (FlatExpr-F.Call code es) (outs-Call code es)
-        ∙ both-true _ _ (ap (takes code) (length-mapped _ es) ∙ taken) (each-true (IsGood vars left) (is_shaped vars) (λ b. b) (λ e g. g.shaped) es each);
+        ∙ both_true _ _ (ap (takes code) (length_mapped _ es) ∙ taken) (each_true (IsGood vars left) (is_shaped vars) (λ b. b) (λ e g. g.shaped) es each);
     numeric = ap is_numeric (kind_at (Call code es) (FlatExpr-F.Call code es) (outs-Call code es)) ∙ called;
-    orders = λ around l. ordered_at (Call code es) (FlatExpr-F.Call code es) around (outs-Call code es) ∙ each-true (IsGood vars left) orders_at (λ f. f around) (λ e g. g.orders around l) es each;
+    orders = λ around l. ordered_at (Call code es) (FlatExpr-F.Call code es) around (outs-Call code es) ∙ each_true (IsGood vars left) orders_at (λ f. f around) (λ e g. g.orders around l) es each;
   }
     where
       numbers : list_all is_numeric (map (kind_of vars) es) ≡ true
-      numbers = each-true (IsGood vars left) (kind_of vars) is_numeric (λ e g. g.numeric) es each
+      numbers = each_true (IsGood vars left) (kind_of vars) is_numeric (λ e g. g.numeric) es each
 
       at : (b : Bool) → is_numeric (if b then number_kind (map (kind_of vars) es) else where_holds (list_all is_numeric (map (kind_of vars) es)) real) ≡ true
-      at true = number-numeric (map (kind_of vars) es) numbers
+      at true = number_numeric (map (kind_of vars) es) numbers
       at false = ap (λ c. is_numeric (where_holds c real)) numbers
 
       called : is_numeric (call_kind code (map (kind_of vars) es)) ≡ true

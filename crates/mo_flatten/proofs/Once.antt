@@ -13,8 +13,8 @@ use Rattle.mo_flat.specs.declared.connect.Expanded.{Expanded}
 use Rattle.mo_flat.specs.declared.model.FlatModel.{FlatModel}
 use Rattle.mo_flat.specs.SoundConnects.{IsAt, IsSoundConnects}
 use Rattle.mo_connect.specs.Alike.{Breaks, left_end, right_end, sizes, leaves, IsConnectable, IsFirstBroken}
-use Rattle.mo_connect.proofs.JoinLemmas.{is-at-same}
-use Rattle.mo_connect.proofs.OneList.{one-list}
+use Rattle.mo_connect.proofs.JoinLemmas.{is_at_same}
+use Rattle.mo_connect.proofs.OneList.{one_list}
 use Rattle.mo_flatten.specs.Flat.{no_class, not_expanded, not_connected, joined, Flattens, Joins, expansion_in, model_of, within_size}
 
 -- ---- connects
@@ -51,7 +51,7 @@ before connects a b p q less = not_both p.connect a p.breaks (subst IsConnectabl
 at_one : (connects : List Connect) (a b : Broken) (p : IsFirstBroken connects a) (q : IsFirstBroken connects b) → p.at ≡ q.at → a ≡ b
 at_one connects a b p q e =
     let at_q : IsAt connects q.at p.connect = subst (λ n. IsAt connects n p.connect) e (record { within = p.within; is = p.is }) in
-    let same : p.connect ≡ q.connect = is-at-same connects q.at p.connect q.connect at_q (record { within = q.within; is = q.is }) in
+    let same : p.connect ≡ q.connect = is_at_same connects q.at p.connect q.connect at_q (record { within = q.within; is = q.is }) in
     breaks_one q.connect a b (subst (λ c. Breaks c a) same p.breaks) q.breaks
 
 first_one : (connects : List Connect) (a b : Broken) → IsFirstBroken connects a → IsFirstBroken connects b → a ≡ b
@@ -126,7 +126,7 @@ module _ (files : List FileTree) (path : List (List ℕ)) where
 
   one_joining : (e : Expanded) (told other : Outcome FlatModel) → IsSoundConnects e.connects → Joins e told → Joins e other → told ≡ other
   one_joining e told other sound p q =
-      p.is ∙ ap (λ sets. within_size (model_of e sets)) (one-list e.connects sound p.sets q.sets p.are q.are) ∙ sym q.is
+      p.is ∙ ap (λ sets. within_size (model_of e sets)) (one_list e.connects sound p.sets q.sets p.are q.are) ∙ sym q.is
 
 pub flattens_once : (files : List FileTree) (path : List (List ℕ)) (told other : Outcome FlatModel) →
     ((row : ClassRow) (e : Expanded) → class_of_path files path ≡ Some row → expansion_in files row.number ≡ Ok e → IsSoundConnects e.connects) →

@@ -26,37 +26,37 @@ moved : (names : List (List ℕ)) (name : List ℕ) (o : Option (List (List ℕ)
 moved names name None = refl
 moved names name (Some x) = ap Some (sym (append_assoc names (name ∷ []) x))
 
-pub dotted-step : (all : List Lexeme) (rest : List Token) (names new : List (List ℕ)) (name : List ℕ) → dotted_names all ≡ behind names (dotted_names (lexemes rest)) → 2 < length rest
+pub dotted_step : (all : List Lexeme) (rest : List Token) (names new : List (List ℕ)) (name : List ℕ) → dotted_names all ≡ behind names (dotted_names (lexemes rest)) → 2 < length rest
     → Some name ≡ name_before_dot (lexemes rest) → new ≡ names ++ name ∷ [] → dotted_names all ≡ behind new (dotted_names (lexemes (take (length rest - 2) (drop 2 rest))))
-dotted-step all rest names new name held long is pushed =
+dotted_step all rest names new name held long is pushed =
     held ∙ ap (behind names) (begun rest long) ∙ ap (λ (x : Option (List ℕ)). behind names (before x (dotted_names (lexemes (drop 2 rest))))) (sym is) ∙ moved names name (dotted_names (lexemes (drop 2 rest)))
     ∙ ap (λ (x : List (List ℕ)). behind x (dotted_names (lexemes (drop 2 rest)))) (sym pushed)
     ∙ ap (λ (x : List Token). behind new (dotted_names (lexemes x))) (sym (take_all (length rest - 2) (drop 2 rest) (omega (arith, length-drop 2 rest, long))))
 
-pub dotted-stop : (all : List Lexeme) (rest : List Token) (names : List (List ℕ)) → dotted_names all ≡ behind names (dotted_names (lexemes rest)) → 2 < length rest
+pub dotted_stop : (all : List Lexeme) (rest : List Token) (names : List (List ℕ)) → dotted_names all ≡ behind names (dotted_names (lexemes rest)) → 2 < length rest
     → None ≡ name_before_dot (lexemes rest) → None ≡ dotted_names all
-dotted-stop all rest names held long is =
+dotted_stop all rest names held long is =
     sym (held ∙ ap (behind names) (begun rest long) ∙ ap (λ (x : Option (List ℕ)). behind names (before x (dotted_names (lexemes (drop 2 rest))))) (sym is))
 
-pub dotted-end : (all : List Lexeme) (rest : List Token) (names : List (List ℕ)) → dotted_names all ≡ behind names (dotted_names (lexemes rest)) → length rest ≤ 2
+pub dotted_end : (all : List Lexeme) (rest : List Token) (names : List (List ℕ)) → dotted_names all ≡ behind names (dotted_names (lexemes rest)) → length rest ≤ 2
     → None ≡ name_alone (lexemes rest) → None ≡ dotted_names all
-dotted-end all rest names held short is = sym (held ∙ ap (behind names) (ended rest short) ∙ ap (λ (x : Option (List ℕ)). behind names (before x (Some []))) (sym is))
+dotted_end all rest names held short is = sym (held ∙ ap (behind names) (ended rest short) ∙ ap (λ (x : Option (List ℕ)). behind names (before x (Some []))) (sym is))
 
-pub dotted-last : (all : List Lexeme) (rest : List Token) (names new : List (List ℕ)) (name : List ℕ) → dotted_names all ≡ behind names (dotted_names (lexemes rest)) → length rest ≤ 2
+pub dotted_last : (all : List Lexeme) (rest : List Token) (names new : List (List ℕ)) (name : List ℕ) → dotted_names all ≡ behind names (dotted_names (lexemes rest)) → length rest ≤ 2
     → Some name ≡ name_alone (lexemes rest) → new ≡ names ++ name ∷ [] → Some new ≡ dotted_names all
-dotted-last all rest names new name held short is pushed =
+dotted_last all rest names new name held short is pushed =
     ap Some pushed ∙ sym (held ∙ ap (behind names) (ended rest short) ∙ ap (λ (x : Option (List ℕ)). behind names (before x (Some []))) (sym is))
 
 -- no path is that of other tokens
-pub no-path : (mine yours : List Lexeme) (path : List (List ℕ)) → None ≡ dotted_names mine → yours ≡ mine → dotted_names yours ≡ Some path → ⊥
-no-path mine yours path none same some = clash (none ∙ ap dotted_names (sym same) ∙ some)
+pub no_path : (mine yours : List Lexeme) (path : List (List ℕ)) → None ≡ dotted_names mine → yours ≡ mine → dotted_names yours ≡ Some path → ⊥
+no_path mine yours path none same some = clash (none ∙ ap dotted_names (sym same) ∙ some)
   where
     clash : None ≡ Some path → ⊥
     clash eq = cc
 
-pub other-word : (mine yours : List Lexeme) (names path listed : List (List ℕ)) (word joined : List ℕ) → Some names ≡ dotted_names mine → yours ≡ mine → dotted_names yours ≡ Some path
+pub other_word : (mine yours : List Lexeme) (names path listed : List (List ℕ)) (word joined : List ℕ) → Some names ≡ dotted_names mine → yours ≡ mine → dotted_names yours ≡ Some path
     → listed ≡ names → joined ≡ with_dots listed → word ≡ with_dots path → (joined ≡ word → ⊥) → ⊥
-other-word mine yours names path listed word joined some same is they joined_is word_is differ = differ (joined_is ∙ ap with_dots (they ∙ one) ∙ sym word_is)
+other_word mine yours names path listed word joined some same is they joined_is word_is differ = differ (joined_is ∙ ap with_dots (they ∙ one) ∙ sym word_is)
   where
     both : Some names ≡ Some path
     both = some ∙ ap dotted_names (sym same) ∙ is

@@ -12,32 +12,32 @@ use Rattle.mo_front.specs.Run.{TellsAsked, TellsFiles, TellsWords}
 use Rattle.mo_front.specs.Told.{FilesGive, bytes_of_all, line_of_broken}
 use Rattle.mo_front.specs.Words.{Names, NamesClass, NamesRungs, dotted_names}
 use Rattle.mo_front.proofs.Once.{one_of_files, one_of_texts}
-use Rattle.mo_front.proofs.OneTold.{one-ladder, one-told}
-use Rattle.mo_front.proofs.OneVerdict.{one-verdict-told}
-use Rattle.mo_front.proofs.Writing.{job-of, one-emit, one-form, one-verify}
+use Rattle.mo_front.proofs.OneTold.{one_ladder, one_told}
+use Rattle.mo_front.proofs.OneVerdict.{one_verdict_told}
+use Rattle.mo_front.proofs.Writing.{job_of, one_emit, one_form, one_verify}
 
-some-is : {A : Type 0} (a b : A) → Some a ≡ Some b → a ≡ b
-some-is a b e = cc
+some_is : {A : Type 0} (a b : A) → Some a ≡ Some b → a ≡ b
+some_is a b e = cc
 
 -- a word names one class
-one-class : (word : List ℕ) (path other : List (List ℕ)) → NamesClass word path → NamesClass word other → path ≡ other
-one-class word path other a b = some-is path other (sym a.dotted ∙ ap dotted_names (same_tokens 0 word b.tokens a.tokens b.lexes a.lexes) ∙ b.dotted)
+one_class : (word : List ℕ) (path other : List (List ℕ)) → NamesClass word path → NamesClass word other → path ≡ other
+one_class word path other a b = some_is path other (sym a.dotted ∙ ap dotted_names (same_tokens 0 word b.tokens a.tokens b.lexes a.lexes) ∙ b.dotted)
 
 module _ (words : List (List ℕ)) where
-  one-path : (class other : Path) (emit again : Emit) (files more : List (List ℕ)) (verify over : Option (List ℕ)) → Names words (Job class emit files verify) → Names words (Job other again more over) → class.0 ≡ other.0
-  one-path class other emit again files more verify over a b =
-      let job = job-of words class emit files verify a in
-      let others = job-of words other again more over b in
-      one-class job.class class.0 other.0 job.names_class
-      (subst (λ (w : List ℕ). NamesClass w other.0) (some-is others.class job.class (sym others.class_given ∙ job.class_given)) others.names_class)
+  one_path : (class other : Path) (emit again : Emit) (files more : List (List ℕ)) (verify over : Option (List ℕ)) → Names words (Job class emit files verify) → Names words (Job other again more over) → class.0 ≡ other.0
+  one_path class other emit again files more verify over a b =
+      let job = job_of words class emit files verify a in
+      let others = job_of words other again more over b in
+      one_class job.class class.0 other.0 job.names_class
+      (subst (λ (w : List ℕ). NamesClass w other.0) (some_is others.class job.class (sym others.class_given ∙ job.class_given)) others.names_class)
 
-  same-files : (class other : Path) (emit again : Emit) (files more : List (List ℕ)) (verify over : Option (List ℕ)) → Names words (Job class emit files verify) → Names words (Job other again more over) → files ≡ more
-  same-files class other emit again files more verify over a b =
-      some-is files more (sym (job-of words class emit files verify a).files_given ∙ (job-of words other again more over b).files_given)
+  same_files : (class other : Path) (emit again : Emit) (files more : List (List ℕ)) (verify over : Option (List ℕ)) → Names words (Job class emit files verify) → Names words (Job other again more over) → files ≡ more
+  same_files class other emit again files more verify over a b =
+      some_is files more (sym (job_of words class emit files verify a).files_given ∙ (job_of words other again more over b).files_given)
 
-  same-rungs : (n m : ℕ) → Names words (Make n) → Names words (Make m) → n ≡ m
-  same-rungs n m a b =
-      let same : b.asks.word ≡ a.asks.word = some-is b.asks.word a.asks.word (sym b.asks.ladder_given ∙ a.asks.ladder_given) in
+  same_rungs : (n m : ℕ) → Names words (Make n) → Names words (Make m) → n ≡ m
+  same_rungs n m a b =
+      let same : b.asks.word ≡ a.asks.word = some_is b.asks.word a.asks.word (sym b.asks.ladder_given ∙ a.asks.ladder_given) in
       let named : NamesRungs a.asks.word m = subst (λ (w : List ℕ). NamesRungs w m) same b.asks.names_rungs in
       a.asks.names_rungs.is ∙ sym named.is
 
@@ -45,8 +45,8 @@ module _ (words : List (List ℕ)) where
     one-job : (path : List (List ℕ)) (emit : Emit) (files : List (List ℕ)) (verify : Option (List ℕ)) → TellsFiles path emit files verify contents status text → TellsFiles path emit files verify contents other more
         → (status ≡ other) × (text ≡ more)
     one-job path emit files None =
-        one-told (FilesGive path files contents) (one_of_files path files contents) (line_of_broken files (bytes_of_all contents files)) emit status other text more
-    one-job path emit files (Some report) = one-verdict-told path files report contents status other text more
+        one_told (FilesGive path files contents) (one_of_files path files contents) (line_of_broken files (bytes_of_all contents files)) emit status other text more
+    one-job path emit files (Some report) = one_verdict_told path files report contents status other text more
 
     same-job : (path path' : List (List ℕ)) (emit emit' : Emit) (files files' : List (List ℕ)) (verify verify' : Option (List ℕ)) → path ≡ path' → emit ≡ emit' → files ≡ files' → verify ≡ verify'
         → TellsFiles path' emit' files' verify' contents other more → TellsFiles path emit files verify contents other more
@@ -58,12 +58,12 @@ module _ (words : List (List ℕ)) where
     told-of : (asked again : Words) → Names words asked → Names words again → TellsAsked asked contents status text → TellsAsked again contents other more → (status ≡ other) × (text ≡ more)
     told-of (Job class emit files verify) (Job class' emit' files' verify') a b tells tells' =
         one-job class.0 emit files verify tells
-        (same-job class.0 class'.0 emit emit' files files' verify verify' (one-path class class' emit emit' files files' verify verify' a b) (one-emit words class class' emit emit' files files' verify verify' a b)
-        (same-files class class' emit emit' files files' verify verify' a b) (one-verify words class class' emit emit' files files' verify verify' a b) tells')
-    told-of (Job class emit files verify) (Make n) a b tells tells' = one-form words class emit files verify n a b
-    told-of (Make n) (Job class emit files verify) a b tells tells' = one-form words class emit files verify n b a
+        (same-job class.0 class'.0 emit emit' files files' verify verify' (one_path class class' emit emit' files files' verify verify' a b) (one_emit words class class' emit emit' files files' verify verify' a b)
+        (same_files class class' emit emit' files files' verify verify' a b) (one_verify words class class' emit emit' files files' verify verify' a b) tells')
+    told-of (Job class emit files verify) (Make n) a b tells tells' = one_form words class emit files verify n a b
+    told-of (Make n) (Job class emit files verify) a b tells tells' = one_form words class emit files verify n b a
     told-of (Make n) (Make m) a b tells tells' =
-        one-ladder n (one_of_texts ladder_path (ladder_texts n)) status other text more tells (subst (λ (k : ℕ). TellsLadder k other more) (sym (same-rungs n m a b)) tells')
+        one_ladder n (one_of_texts ladder_path (ladder_texts n)) status other text more tells (subst (λ (k : ℕ). TellsLadder k other more) (sym (same_rungs n m a b)) tells')
 
-    pub one-of-words : TellsWords words contents status text → TellsWords words contents other more → (status ≡ other) × (text ≡ more)
-    one-of-words a b = told-of a.asked b.asked a.names b.names a.tells b.tells
+    pub one_of_words : TellsWords words contents status text → TellsWords words contents other more → (status ≡ other) × (text ≡ more)
+    one_of_words a b = told-of a.asked b.asked a.names b.names a.tells b.tells

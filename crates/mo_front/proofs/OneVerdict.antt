@@ -12,94 +12,94 @@ use Rattle.mo_front.specs.Refusal.{refusal_line}
 use Rattle.mo_front.specs.Told.{Breaks, FilesGive, Outcome, broken, bytes_of_all, flat, line_of_broken, no_model, no_text, read as read_files, unread as unread_files}
 use Rattle.mo_front.specs.Verified.{FilesGiveWith, IsJudged, IsTooLong, JudgesGiven, ReadsReport, SaysVerdict, TellsVerdict, judged, read, refused, too_long, unread, verdict_line, verdict_status}
 use Rattle.mo_front.proofs.Once.{one_of_files, one_reading}
-use Rattle.mo_front.proofs.OneLeast.{one-least}
-use Rattle.mo_front.proofs.OneTold.{one-break-of, one-rule-by, same-least-status}
+use Rattle.mo_front.proofs.OneLeast.{one_least}
+use Rattle.mo_front.proofs.OneTold.{one_break_of, one_rule_by, same_least_status}
 
-some-is : {A : Type 0} (a b : A) → Some a ≡ Some b → a ≡ b
-some-is a b e = cc
+some_is : {A : Type 0} (a b : A) → Some a ≡ Some b → a ≡ b
+some_is a b e = cc
 
-some-none : {A : Type 0} (a : A) → Some a ≡ None → ⊥
-some-none a e = cc
+some_none : {A : Type 0} (a : A) → Some a ≡ None → ⊥
+some_none a e = cc
 
 -- ---- a verdict
 
-says-one : (m : FlatModel) (bytes : List ℕ) (ends again status other : Status) (text more : List ℕ) → ends ≡ again → SaysVerdict m bytes ends status text → SaysVerdict m bytes again other more → (status ≡ other) × (text ≡ more)
-says-one m bytes ends again status other text more e a b =
+says_one : (m : FlatModel) (bytes : List ℕ) (ends again status other : Status) (text more : List ℕ) → ends ≡ again → SaysVerdict m bytes ends status text → SaysVerdict m bytes again other more → (status ≡ other) × (text ≡ more)
+says_one m bytes ends again status other text more e a b =
     let one : a.verdict ≡ b.verdict = one_verdict m bytes a.verdict b.verdict a.is_verdict b.is_verdict in
     let ended : verdict_status a.verdict ends ≡ verdict_status b.verdict again = rw (one, e) refl in
     (a.is_status ∙ (ended ∙ sym b.is_status), a.is ∙ (ap verdict_line one ∙ sym b.is))
 
-one-judged : (m : FlatModel) (bytes : List ℕ) (status other : Status) (text more : List ℕ) → IsJudged m bytes status text → IsJudged m bytes other more → (status ≡ other) × (text ≡ more)
-one-judged m bytes status other text more a b =
-    says-one m bytes (least_status a.offsets) (least_status b.offsets) status other text more (same-least-status m a.offsets b.offsets (one-least m a.offsets b.offsets a.least b.least)) a.says b.says
+one_judged : (m : FlatModel) (bytes : List ℕ) (status other : Status) (text more : List ℕ) → IsJudged m bytes status text → IsJudged m bytes other more → (status ≡ other) × (text ≡ more)
+one_judged m bytes status other text more a b =
+    says_one m bytes (least_status a.offsets) (least_status b.offsets) status other text more (same_least_status m a.offsets b.offsets (one_least m a.offsets b.offsets a.least b.least)) a.says b.says
 
 -- where a verdict is told, no phase breaks a rule
-judged-no-refusal : (m : FlatModel) (bytes : List ℕ) (status : Status) (text : List ℕ) (b : Broken) → IsJudged m bytes status text → Refuses emit.Report m b → ⊥
-judged-no-refusal m bytes status text b j (no_incidence not is) = some-none b (sym is ∙ j.accepted)
-judged-no-refusal m bytes status text b j (no_part p not accepted least breaks) =
-    some-none b (sym (one-rule-by m j.offsets p (asked_by emit.Report).phases None (Some b) j.least least j.passed breaks))
+judged_no_refusal : (m : FlatModel) (bytes : List ℕ) (status : Status) (text : List ℕ) (b : Broken) → IsJudged m bytes status text → Refuses emit.Report m b → ⊥
+judged_no_refusal m bytes status text b j (no_incidence not is) = some_none b (sym is ∙ j.accepted)
+judged_no_refusal m bytes status text b j (no_part p not accepted least breaks) =
+    some_none b (sym (one_rule_by m j.offsets p (asked_by emit.Report).phases None (Some b) j.least least j.passed breaks))
 
 -- ---- what is read
 
-ok-is-no-stop : (texts : List (List ℕ)) (b : Broken) → ◌≡◌ {A = Result (List (List ℕ)) Broken} (Ok texts) (Err b) → ⊥
-ok-is-no-stop texts b e = cc
+ok_is_no_stop : (texts : List (List ℕ)) (b : Broken) → ◌≡◌ {A = Result (List (List ℕ)) Broken} (Ok texts) (Err b) → ⊥
+ok_is_no_stop texts b e = cc
 
 module _ (path names : List (List ℕ)) (report : List ℕ) (contents : Contents) where
-  as-files : (o : Outcome) → FilesGiveWith path names report contents o → FilesGive path names contents o
-  as-files o (unread b reading is) = unread_files b reading is
-  as-files o (read texts bytes reading held gives) = read_files texts reading gives
+  as_files : (o : Outcome) → FilesGiveWith path names report contents o → FilesGive path names contents o
+  as_files o (unread b reading is) = unread_files b reading is
+  as_files o (read texts bytes reading held gives) = read_files texts reading gives
 
   once : (o p : Outcome) → FilesGiveWith path names report contents o → FilesGiveWith path names report contents p → o ≡ p
-  once o p a b = one_of_files path names contents o p (as-files o a) (as-files p b)
+  once o p a b = one_of_files path names contents o p (as_files o a) (as_files p b)
 
-  one-bytes : (bytes other : List ℕ) → ReadsReport contents report bytes → ReadsReport contents report other → bytes ≡ other
-  one-bytes bytes other a b = some-is bytes other (sym a.holds ∙ b.holds)
+  one_bytes : (bytes other : List ℕ) → ReadsReport contents report bytes → ReadsReport contents report other → bytes ≡ other
+  one_bytes bytes other a b = some_is bytes other (sym a.holds ∙ b.holds)
 
-  read-not-long : (bytes : List ℕ) (b : Broken) → ReadsReport contents report bytes → IsTooLong names report contents b → ⊥
-  read-not-long bytes b held long =
-      let same : long.bytes ≡ bytes = some-is long.bytes bytes (sym long.holds ∙ held.holds) in
+  read_not_long : (bytes : List ℕ) (b : Broken) → ReadsReport contents report bytes → IsTooLong names report contents b → ⊥
+  read_not_long bytes b held long =
+      let same : long.bytes ≡ bytes = some_is long.bytes bytes (sym long.holds ∙ held.holds) in
       let within : length long.bytes ≤ printed_limit = subst (λ (x : List ℕ). length x ≤ printed_limit) (sym same) held.within in
       omega (arith, within, long.past)
 
-  given-not-long : (o : Outcome) (b : Broken) → FilesGiveWith path names report contents o → IsTooLong names report contents b → ⊥
-  given-not-long o b (unread c reading is) long = ok-is-no-stop long.texts c (one_reading contents 1 all_files_limit names (Ok long.texts) (Err c) long.reads reading)
-  given-not-long o b (read texts bytes reading held gives) long = read-not-long bytes b held long
+  given_not_long : (o : Outcome) (b : Broken) → FilesGiveWith path names report contents o → IsTooLong names report contents b → ⊥
+  given_not_long o b (unread c reading is) long = ok_is_no_stop long.texts c (one_reading contents 1 all_files_limit names (Ok long.texts) (Err c) long.reads reading)
+  given_not_long o b (read texts bytes reading held gives) long = read_not_long bytes b held long
 
-  broken-not-long : (b c : Broken) → Breaks (FilesGiveWith path names report contents) emit.Report b → IsTooLong names report contents c → ⊥
-  broken-not-long b c (no_model gives) long = given-not-long (broken b) c gives long
-  broken-not-long b c (no_text m gives refuses) long = given-not-long (flat m) c gives long
+  broken_not_long : (b c : Broken) → Breaks (FilesGiveWith path names report contents) emit.Report b → IsTooLong names report contents c → ⊥
+  broken_not_long b c (no_model gives) long = given_not_long (broken b) c gives long
+  broken_not_long b c (no_text m gives refuses) long = given_not_long (flat m) c gives long
 
-  same-model : (m n : FlatModel) → FilesGiveWith path names report contents (flat m) → FilesGiveWith path names report contents (flat n) → m ≡ n
-  same-model m n a b = let same : flat m ≡ flat n = once (flat m) (flat n) a b in cc
+  same_model : (m n : FlatModel) → FilesGiveWith path names report contents (flat m) → FilesGiveWith path names report contents (flat n) → m ≡ n
+  same_model m n a b = let same : flat m ≡ flat n = once (flat m) (flat n) a b in cc
 
-  judged-not-broken : (status : Status) (text : List ℕ) (b : Broken) → JudgesGiven path names report contents status text → Breaks (FilesGiveWith path names report contents) emit.Report b → ⊥
-  judged-not-broken status text b j (no_model gives) = let same : flat j.m ≡ broken b = once (flat j.m) (broken b) j.given gives in absurd cc
-  judged-not-broken status text b j (no_text n gives refuses) =
-      judged-no-refusal j.m j.bytes status text b j.judged (subst (λ (k : FlatModel). Refuses emit.Report k b) (sym (same-model j.m n j.given gives)) refuses)
+  judged_not_broken : (status : Status) (text : List ℕ) (b : Broken) → JudgesGiven path names report contents status text → Breaks (FilesGiveWith path names report contents) emit.Report b → ⊥
+  judged_not_broken status text b j (no_model gives) = let same : flat j.m ≡ broken b = once (flat j.m) (broken b) j.given gives in absurd cc
+  judged_not_broken status text b j (no_text n gives refuses) =
+      judged_no_refusal j.m j.bytes status text b j.judged (subst (λ (k : FlatModel). Refuses emit.Report k b) (sym (same_model j.m n j.given gives)) refuses)
 
-  one-given : (status other : Status) (text more : List ℕ) → JudgesGiven path names report contents status text → JudgesGiven path names report contents other more → (status ≡ other) × (text ≡ more)
-  one-given status other text more a b =
-      one-judged a.m a.bytes status other text more a.judged
-      (subst (λ (k : FlatModel). IsJudged k a.bytes other more) (sym (same-model a.m b.m a.given b.given))
-      (subst (λ (x : List ℕ). IsJudged b.m x other more) (sym (one-bytes a.bytes b.bytes a.read b.read)) b.judged))
+  one_given : (status other : Status) (text more : List ℕ) → JudgesGiven path names report contents status text → JudgesGiven path names report contents other more → (status ≡ other) × (text ≡ more)
+  one_given status other text more a b =
+      one_judged a.m a.bytes status other text more a.judged
+      (subst (λ (k : FlatModel). IsJudged k a.bytes other more) (sym (same_model a.m b.m a.given b.given))
+      (subst (λ (x : List ℕ). IsJudged b.m x other more) (sym (one_bytes a.bytes b.bytes a.read b.read)) b.judged))
 
-  same-long : (b c : Broken) (long : IsTooLong names report contents b) (again : IsTooLong names report contents c) → refusal_line report long.bytes b ≡ refusal_line report again.bytes c
-  same-long b c long again =
-      let same : long.bytes ≡ again.bytes = some-is long.bytes again.bytes (sym long.holds ∙ again.holds) in
+  same_long : (b c : Broken) (long : IsTooLong names report contents b) (again : IsTooLong names report contents c) → refusal_line report long.bytes b ≡ refusal_line report again.bytes c
+  same_long b c long again =
+      let same : long.bytes ≡ again.bytes = some_is long.bytes again.bytes (sym long.holds ∙ again.holds) in
       let one : b ≡ c = long.is ∙ sym again.is in
       rw (same, one) refl
 
-  pub one-verdict-told : (status other : Status) (text more : List ℕ) → TellsVerdict path names report contents status text → TellsVerdict path names report contents other more → (status ≡ other) × (text ≡ more)
-  one-verdict-told status other text more (judged a) (judged b) = one-given status other text more a b
-  one-verdict-told status other text more (judged a) (refused b breaks is text_is) = absurd (judged-not-broken status text b a breaks)
-  one-verdict-told status other text more (judged a) (too_long b long is text_is) = absurd (read-not-long a.bytes b a.read long)
-  one-verdict-told status other text more (refused b breaks is text_is) (judged a) = absurd (judged-not-broken other more b a breaks)
-  one-verdict-told status other text more (refused b breaks is text_is) (refused c breaks' is' text_is') = (
+  pub one_verdict_told : (status other : Status) (text more : List ℕ) → TellsVerdict path names report contents status text → TellsVerdict path names report contents other more → (status ≡ other) × (text ≡ more)
+  one_verdict_told status other text more (judged a) (judged b) = one_given status other text more a b
+  one_verdict_told status other text more (judged a) (refused b breaks is text_is) = absurd (judged_not_broken status text b a breaks)
+  one_verdict_told status other text more (judged a) (too_long b long is text_is) = absurd (read_not_long a.bytes b a.read long)
+  one_verdict_told status other text more (refused b breaks is text_is) (judged a) = absurd (judged_not_broken other more b a breaks)
+  one_verdict_told status other text more (refused b breaks is text_is) (refused c breaks' is' text_is') = (
     is ∙ sym is',
     text_is ∙ (ap (line_of_broken names (bytes_of_all contents names))
-        (one-break-of (FilesGiveWith path names report contents) once (line_of_broken names (bytes_of_all contents names)) emit.Report b c breaks breaks') ∙ sym text_is'),
+        (one_break_of (FilesGiveWith path names report contents) once (line_of_broken names (bytes_of_all contents names)) emit.Report b c breaks breaks') ∙ sym text_is'),
   )
-  one-verdict-told status other text more (refused b breaks is text_is) (too_long c long is' text_is') = absurd (broken-not-long b c breaks long)
-  one-verdict-told status other text more (too_long b long is text_is) (judged a) = absurd (read-not-long a.bytes b a.read long)
-  one-verdict-told status other text more (too_long b long is text_is) (refused c breaks is' text_is') = absurd (broken-not-long c b breaks long)
-  one-verdict-told status other text more (too_long b long is text_is) (too_long c again is' text_is') = (is ∙ sym is', text_is ∙ (same-long b c long again ∙ sym text_is'))
+  one_verdict_told status other text more (refused b breaks is text_is) (too_long c long is' text_is') = absurd (broken_not_long b c breaks long)
+  one_verdict_told status other text more (too_long b long is text_is) (judged a) = absurd (read_not_long a.bytes b a.read long)
+  one_verdict_told status other text more (too_long b long is text_is) (refused c breaks is' text_is') = absurd (broken_not_long c b breaks long)
+  one_verdict_told status other text more (too_long b long is text_is) (too_long c again is' text_is') = (is ∙ sym is', text_is ∙ (same_long b c long again ∙ sym text_is'))

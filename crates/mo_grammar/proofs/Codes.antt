@@ -47,9 +47,9 @@ false_from false h = refl
 
 -- ---- sets of codes
 
-pub has-append : (xs ys : List ℕ) (c : ℕ) → has (xs ++ ys) c ≡ true → (has xs c ≡ true) ⊎ (has ys c ≡ true)
-has-append [] ys c e = inr e
-has-append (x ∷ xs) ys c e = go (has-append xs ys c) (x == c) e
+pub has_append : (xs ys : List ℕ) (c : ℕ) → has (xs ++ ys) c ≡ true → (has xs c ≡ true) ⊎ (has ys c ≡ true)
+has_append [] ys c e = inr e
+has_append (x ∷ xs) ys c e = go (has_append xs ys c) (x == c) e
   where
     go : (has (xs ++ ys) c ≡ true → (has xs c ≡ true) ⊎ (has ys c ≡ true)) → (b : Bool) → (b || has (xs ++ ys) c) ≡ true → ((b || has xs c) ≡ true) ⊎ (has ys c ≡ true)
     go rest true e = inl refl
@@ -112,9 +112,9 @@ has_one c d e = go (one_of (c == d) false e)
 
 -- ---- the next tokens
 
-pub next_in-append : (xs ys : List ℕ) (tokens : List Lexeme) → next_in (xs ++ ys) tokens ≡ true → (next_in xs tokens ≡ true) ⊎ (next_in ys tokens ≡ true)
-next_in-append xs ys [] e = cc
-next_in-append xs ys (t ∷ tokens) e = has-append xs ys (code_of t) e
+pub next_in_append : (xs ys : List ℕ) (tokens : List Lexeme) → next_in (xs ++ ys) tokens ≡ true → (next_in xs tokens ≡ true) ⊎ (next_in ys tokens ≡ true)
+next_in_append xs ys [] e = cc
+next_in_append xs ys (t ∷ tokens) e = has_append xs ys (code_of t) e
 
 pub next_in_left : (xs ys : List ℕ) (tokens : List Lexeme) → next_in xs tokens ≡ true → next_in (xs ++ ys) tokens ≡ true
 next_in_left xs ys [] e = cc

@@ -5,7 +5,7 @@ use Rattle.mo_syntax.specs.declared.place.Place.{Place}
 use Rattle.mo_grammar.specs.Lexeme.{Lexeme, code_of}
 use Rattle.mo_grammar.specs.Grammar.{Limits, left_inside, end_name_in, suits, renamed, Grammar, empty, token, seq, either, either2, many, made, placed, nested, end_name, under, unless, symbol, has, identifiers}
 use Rattle.mo_grammar.specs.Reading.{Outcome, read, stuck, unfinished, ◌>>=◌, Reader, may_be_empty, when, entry_codes, first_codes, later_codes, next_in, next_two, each_from, reads_inside, reads_by, Tables, is_pair, is_only, covers}
-use Rattle.mo_grammar.proofs.Codes.{both, never, has-append, has_left, has_right, has_when, has_one, when_has, next_in_neither, next_in_unless, next_in_apart, no_pair, choose_false, choose_true, covers_lem, apart_lem, one_of}
+use Rattle.mo_grammar.proofs.Codes.{both, never, has_append, has_left, has_right, has_when, has_one, when_has, next_in_neither, next_in_unless, next_in_apart, no_pair, choose_false, choose_true, covers_lem, apart_lem, one_of}
 use Rattle.mo_grammar.proofs.Decided.{Decided}
 use Rattle.mo_grammar.proofs.Outcomes.{remaining, shrinks, kept, each_shrinks, slack, Into, less_is_into, bind_into, if_into, unless_rest, unless_shrinks}
 
@@ -17,7 +17,7 @@ seq_reads : {A B : Type 0} (o : Outcome A) (f : A × List Lexeme → Outcome B) 
 seq_reads o f a w b v p q = rw p (rw q refl)
 
 append_wider : (xs ys xs' ys' : List ℕ) (c : ℕ) → (has xs c ≡ true → has xs' c ≡ true) → (has ys c ≡ true → has ys' c ≡ true) → has (xs ++ ys) c ≡ true → has (xs' ++ ys') c ≡ true
-append_wider xs ys xs' ys' c p q e = elim (has-append xs ys c e) [ inl h ↦ has_left xs' ys' c (p h) | inr h ↦ has_right xs' ys' c (q h) ]
+append_wider xs ys xs' ys' c p q e = elim (has_append xs ys c e) [ inl h ↦ has_left xs' ys' c (p h) | inr h ↦ has_right xs' ys' c (q h) ]
 
 module _ {S : Type 0} {V : S → Type 0} where
   only_solid : {A : Type 0} (c : ℕ) (g : Grammar S V A) → is_only c g ≡ true → may_be_empty g ≡ false
@@ -121,7 +121,7 @@ module _ {S : Type 0} {V : S → Type 0} where
   pub pair_first : {A : Type 0} (st : S → List ℕ) (c : ℕ) (ds : List ℕ) (d : ℕ) (g : Grammar S V A) → is_pair st c ds g ≡ true → has (first_codes st g) d ≡ true → c ≡ d
   pair_first st c ds d (seq g h) e i =
       let only = (both (is_only c g) _ e).0 in
-      elim (has-append (first_codes st g) (when (may_be_empty g) (first_codes st h)) d i) [
+      elim (has_append (first_codes st g) (when (may_be_empty g) (first_codes st h)) d i) [
         | inl here ↦ only_first st c d g only here
         | inr later ↦ never (may_be_empty g) (has_when (may_be_empty g) (first_codes st h) d later).0 (only_solid c g only)
       ]
@@ -213,7 +213,7 @@ module _ {S : Type 0} {V : S → Type 0} where
   enters k of m i (token codes) d l t more e = if_into i (has codes (code_of t)) (read t more) (stuck Misplaced (t ∷ more)) (t ∷ more) (λ h. omega arith) (λ h. never (has codes (code_of t)) e h)
   enters k of m i (seq {A = A} {B = B} g h) d l t more e =
       let f : A × List Lexeme → Outcome (A × B) = λ x. reads_by k.starts of h l x.1 >>= λ y. read (x.0, y.0) y.1 in
-      elim (has-append (entry_codes i (entries k i) g) (when (may_be_empty g) (entry_codes i (entries k i) h)) (code_of t) e) [
+      elim (has_append (entry_codes i (entries k i) g) (when (may_be_empty g) (entry_codes i (entries k i) h)) (code_of t) e) [
         | inl here ↦ bind_into i (reads_by k.starts of g l (t ∷ more)) f (t ∷ more) (enters k of m i g d.0 l t more here) (rest_shrinks {C = A × B} k.starts of m.leaves h l (λ a b. (a, b)))
         | inr later ↦
             let p = has_when (may_be_empty g) (entry_codes i (entries k i) h) (code_of t) later in
@@ -222,7 +222,7 @@ module _ {S : Type 0} {V : S → Type 0} where
             (bind_into i (reads_by k.starts of h l (t ∷ more)) (λ y. read (s.0, y.0) y.1) (t ∷ more) (enters k of m i h d.1 l t more p.1) (λ y. le_refl (length y.1)))
       ]
   enters k of m i (either g h) d l t more e =
-      let here = has-append (entry_codes i (entries k i) g) (entry_codes i (entries k i) h) (code_of t) e in
+      let here = has_append (entry_codes i (entries k i) g) (entry_codes i (entries k i) h) (code_of t) e in
       if_into i (has (first_codes k.starts g) (code_of t)) (reads_by k.starts of g l (t ∷ more)) (reads_by k.starts of h l (t ∷ more)) (t ∷ more)
       (λ n. elim here [
         | inl a ↦ enters k of m i g d.0 l t more a
@@ -237,7 +237,7 @@ module _ {S : Type 0} {V : S → Type 0} where
       (λ n. less_is_into i (reads_by k.starts of g l (t ∷ more)) (t ∷ more)
       (let taken = pair_takes k.starts of m.leaves c ds g d.2 l t more (two_first c ds t more n) in omega arith))
       (λ n. enters k of m i h d.1 l t more
-      (elim (has-append (entry_codes i (entries k i) g) (entry_codes i (entries k i) h) (code_of t) e) [
+      (elim (has_append (entry_codes i (entries k i) g) (entry_codes i (entries k i) h) (code_of t) e) [
         | inl a ↦ plains_of k m.plain_starts i h (code_of t) (rw (pair_first k.starts c ds (code_of t) g d.2 (starts_of k m.plain_starts i g (code_of t) a)) at d.4)
         | inr b ↦ b
       ]))
@@ -264,7 +264,7 @@ module _ {S : Type 0} {V : S → Type 0} where
       met false e w = cc
   enters k of m i (under {A = A} {B = B} called g h) d l t more e =
       let f : A × List Lexeme → Outcome (A × B) = λ x. reads_by k.starts of h (renamed (called x.0) l) x.1 >>= λ y. read (x.0, y.0) y.1 in
-      elim (has-append (entry_codes i (entries k i) g) (when (may_be_empty g) (entry_codes i (entries k i) h)) (code_of t) e) [
+      elim (has_append (entry_codes i (entries k i) g) (when (may_be_empty g) (entry_codes i (entries k i) h)) (code_of t) e) [
         | inl here ↦ bind_into i (reads_by k.starts of g l (t ∷ more)) f (t ∷ more) (enters k of m i g d.0 l t more here) (under_shrinks {C = A × B} k.starts of m.leaves called h l (λ a b. (a, b)))
         | inr later ↦
             let p = has_when (may_be_empty g) (entry_codes i (entries k i) h) (code_of t) later in
@@ -273,7 +273,7 @@ module _ {S : Type 0} {V : S → Type 0} where
             (bind_into i (reads_by k.starts of h (renamed (called s.0) l) (t ∷ more)) (λ y. read (s.0, y.0) y.1) (t ∷ more) (enters k of m i h d.1 (renamed (called s.0) l) t more p.1) (λ y. le_refl (length y.1)))
       ]
   enters k of m i (unless {A = A} {B = B} test g h) d l t more e =
-      elim (has-append (entry_codes i (entries k i) g) (when (may_be_empty g) (entry_codes i (entries k i) h)) (code_of t) e) [
+      elim (has_append (entry_codes i (entries k i) g) (when (may_be_empty g) (entry_codes i (entries k i) h)) (code_of t) e) [
         | inl here ↦ bind_into i (reads_by k.starts of g l (t ∷ more)) (unless_rest k.starts of test h l (t ∷ more)) (t ∷ more) (enters k of m i g d.0 l t more here) (unless_shrinks k.starts of m.leaves test h l (t ∷ more))
         | inr later ↦ never (may_be_empty g) (has_when (may_be_empty g) (entry_codes i (entries k i) h) (code_of t) later).0 d.2
       ]

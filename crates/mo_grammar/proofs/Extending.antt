@@ -47,20 +47,20 @@ up : ℕ → ℕ → ℕ
 up zero n = n
 up (suc k) n = suc (up k n)
 
-up-zero : (k : ℕ) → up k zero ≡ k
+up_zero : (k : ℕ) → up k zero ≡ k
 unfolding up
-up-zero zero = refl
-up-zero (suc k) = ap suc (up-zero k)
+up_zero zero = refl
+up_zero (suc k) = ap suc (up_zero k)
 
-up-suc : (k n : ℕ) → up k (suc n) ≡ suc (up k n)
+up_suc : (k n : ℕ) → up k (suc n) ≡ suc (up k n)
 unfolding up
-up-suc zero n = refl
-up-suc (suc k) n = ap suc (up-suc k n)
+up_suc zero n = refl
+up_suc (suc k) n = ap suc (up_suc k n)
 
 up_comm : (k n : ℕ) → up k n ≡ up n k
 unfolding up
-up_comm zero n = sym (up-zero n)
-up_comm (suc k) n = ap suc (up_comm k n) ∙ sym (up-suc n k)
+up_comm zero n = sym (up_zero n)
+up_comm (suc k) n = ap suc (up_comm k n) ∙ sym (up_suc n k)
 
 below_max_left : (n n' c c' : ℕ) (f : EndName) → Below (at_most n c f) (at_most (max n n') (max c c') f)
 below_max_left n n' c c' f = (omega arith, omega arith, name_same f)

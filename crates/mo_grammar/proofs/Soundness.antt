@@ -6,7 +6,7 @@ use Rattle.mo_syntax.specs.declared.place.Place.{Place}
 use Rattle.mo_grammar.specs.Lexeme.{Lexeme, code_of}
 use Rattle.mo_grammar.specs.Grammar.{Opening, Limits, left_inside, end_name_in, suits, renamed, Grammar, empty, token, seq, either, either2, many, made, placed, nested, end_name, under, unless, symbol, has, identifiers, first_passes, Spelling, Beginning, SpelledBy, BegunBy}
 use Rattle.mo_grammar.specs.Reading.{Outcome, read, stuck, unfinished, ◌>>=◌, Reader, may_be_empty, when, entry_codes, first_codes, next_in, next_two, reads_token, reads_end, each_from, reads_inside, reads_by, place_of_first, Tables, no_codes, lifted}
-use Rattle.mo_grammar.proofs.Codes.{both, never, one_of, has-append, has_when, covers_lem}
+use Rattle.mo_grammar.proofs.Codes.{both, never, one_of, has_append, has_when, covers_lem}
 use Rattle.mo_grammar.proofs.Decided.{Decided}
 use Rattle.mo_grammar.proofs.Begun.{Known, spelled_begun, nothing_spelled}
 use Rattle.mo_grammar.proofs.Limits.{Below, below_lifted, inside_lifted, inside_one_more, spelled_rises, renamed_lifted, suits_lifted}
@@ -154,18 +154,18 @@ module _ {S : Type 0} {V : S → Type 0} where
   token_begins : {A : Type 0} (k : Tables S) (of : Spelling S V) (begun : Beginning S) (g : Grammar S V A) → Decided k g → (l : Limits) (t : Lexeme) → has (entry_codes false no_codes g) (code_of t) ≡ true → BegunBy of begun g l (t ∷ [])
   token_begins k of begun (empty a) d l t e = cc
   token_begins k of begun (token codes) d l t e = inr (t, refl, e)
-  token_begins k of begun (seq g h) d l t e = elim (has-append (entry_codes false no_codes g) (when (may_be_empty g) (entry_codes false no_codes h)) (code_of t) e) [
+  token_begins k of begun (seq g h) d l t e = elim (has_append (entry_codes false no_codes g) (when (may_be_empty g) (entry_codes false no_codes h)) (code_of t) e) [
     | inl here ↦ inl (token_begins k of begun g d.0 l t here)
     | inr later ↦
         let p = has_when (may_be_empty g) (entry_codes false no_codes h) (code_of t) later in
         let none = spells_nothing k of g d.0 p.0 l in
         inr ([], t ∷ [], none.0, refl, none.1, token_begins k of begun h d.1 l t p.1)
   ]
-  token_begins k of begun (either g h) d l t e = elim (has-append (entry_codes false no_codes g) (entry_codes false no_codes h) (code_of t) e) [
+  token_begins k of begun (either g h) d l t e = elim (has_append (entry_codes false no_codes g) (entry_codes false no_codes h) (code_of t) e) [
     | inl here ↦ inl (token_begins k of begun g d.0 l t here)
     | inr there ↦ inr (token_begins k of begun h d.1 l t there)
   ]
-  token_begins k of begun (either2 c ds g h) d l t e = elim (has-append (entry_codes false no_codes g) (entry_codes false no_codes h) (code_of t) e) [
+  token_begins k of begun (either2 c ds g h) d l t e = elim (has_append (entry_codes false no_codes g) (entry_codes false no_codes h) (code_of t) e) [
     | inl here ↦ inl (token_begins k of begun g d.0 l t here)
     | inr there ↦ inr (token_begins k of begun h d.1 l t there)
   ]
@@ -174,14 +174,14 @@ module _ {S : Type 0} {V : S → Type 0} where
   token_begins k of begun (placed g) d l t e = token_begins k of begun g d.0 l t e
   token_begins k of begun (nested o g) d l t e = cc
   token_begins k of begun end_name d l t e = cc
-  token_begins k of begun (under called g h) d l t e = elim (has-append (entry_codes false no_codes g) (when (may_be_empty g) (entry_codes false no_codes h)) (code_of t) e) [
+  token_begins k of begun (under called g h) d l t e = elim (has_append (entry_codes false no_codes g) (when (may_be_empty g) (entry_codes false no_codes h)) (code_of t) e) [
     | inl here ↦ inl (token_begins k of begun g d.0 l t here)
     | inr later ↦
         let p = has_when (may_be_empty g) (entry_codes false no_codes h) (code_of t) later in
         let none = spells_nothing k of g d.0 p.0 l in
         inr ([], t ∷ [], none.0, refl, none.1, token_begins k of begun h d.1 (renamed (called none.0) l) t p.1)
   ]
-  token_begins k of begun (unless test g h) d l t e = elim (has-append (entry_codes false no_codes g) (when (may_be_empty g) (entry_codes false no_codes h)) (code_of t) e) [
+  token_begins k of begun (unless test g h) d l t e = elim (has_append (entry_codes false no_codes g) (when (may_be_empty g) (entry_codes false no_codes h)) (code_of t) e) [
     | inl here ↦ inl (token_begins k of begun g d.0 l t here)
     | inr later ↦ never (may_be_empty g) (has_when (may_be_empty g) (entry_codes false no_codes h) (code_of t) later).0 d.2
   ]

@@ -7,20 +7,20 @@ use Rattle.mo_graph.specs.Edges.{Edge, IsGraph, AreLeaders, AreReplaced}
 use Rattle.mo_graph.specs.steps.Gathering.{AreClasses}
 use Rattle.mo_graph.specs.steps.Placing.{IsOrdered, HasRanks}
 use Rattle.mo_graph.specs.steps.Listing.{members, IsArranged}
-use Rattle.mo_graph.proofs.Chains.{edge-at, edge-where}
-use Rattle.mo_graph.proofs.Members.{members-ascend, members-contain, contain-members, at-contains, least-contained}
+use Rattle.mo_graph.proofs.Chains.{edge_at, edge_where}
+use Rattle.mo_graph.proofs.Members.{members_ascend, members_contain, contain_members, at_contains, least_contained}
 
-leads-map : {E N : ℕ → ℕ → Type 0} → ((u v : ℕ) → E u v → N u v) → {u v : ℕ} → Leads E u v → Leads N u v
-leads-map f Leads.none = Leads.none
-leads-map f (Leads.step e p) = Leads.step (f _ _ e) (leads-map f p)
+leads_map : {E N : ℕ → ℕ → Type 0} → ((u v : ℕ) → E u v → N u v) → {u v : ℕ} → Leads E u v → Leads N u v
+leads_map f Leads.none = Leads.none
+leads_map f (Leads.step e p) = Leads.step (f _ _ e) (leads_map f p)
 
-falls-on : {a b c : ℕ} → a ≤ b → b ≤ c → a ≤ c
-falls-on p q = omega (arith, p, q)
+falls_on : {a b c : ℕ} → a ≤ b → b ≤ c → a ≤ c
+falls_on p q = omega (arith, p, q)
 
 -- numbers don't fall along chains
-classes-fall : (m : ℕ) (sources targets class : List ℕ) → AreClasses m sources targets class → {u v : ℕ} → Leads (Edge sources targets) u v → get_or class u 0 ≤ get_or class v 0
-classes-fall m sources targets class classes Leads.none = omega arith
-classes-fall m sources targets class classes (Leads.step e p) = falls-on (classes.falls _ _ e) (classes-fall m sources targets class classes p)
+classes_fall : (m : ℕ) (sources targets class : List ℕ) → AreClasses m sources targets class → {u v : ℕ} → Leads (Edge sources targets) u v → get_or class u 0 ≤ get_or class v 0
+classes_fall m sources targets class classes Leads.none = omega arith
+classes_fall m sources targets class classes (Leads.step e p) = falls_on (classes.falls _ _ e) (classes_fall m sources targets class classes p)
 
 module _ (Need : ℕ → ℕ → Type 0) (m : ℕ) (sources targets class leader placed : List ℕ) (count : ℕ)
     (graph : IsGraph m sources targets)
@@ -32,63 +32,63 @@ module _ (Need : ℕ → ℕ → Type 0) (m : ℕ) (sources targets class leader
   place : ℕ → ℕ
   place i = get_or placed (get_or leader i 0) 0
 
-  leader-in : (i : ℕ) → i < m → get_or leader i 0 < m
-  leader-in i l = omega (arith, leaders.low i (omega (arith, classes.size)))
+  leader_in : (i : ℕ) → i < m → get_or leader i 0 < m
+  leader_in i l = omega (arith, leaders.low i (omega (arith, classes.size)))
 
-  leader-same : (i : ℕ) → i < m → get_or class (get_or leader i 0) 0 ≡ get_or class i 0
-  leader-same i l = leaders.same i (omega (arith, classes.size))
+  leader_same : (i : ℕ) → i < m → get_or class (get_or leader i 0) 0 ≡ get_or class i 0
+  leader_same i l = leaders.same i (omega (arith, classes.size))
 
-  leader-one : (i k : ℕ) → i < m → k < m → get_or class i 0 ≡ get_or class k 0 → get_or leader i 0 ≡ get_or leader k 0
-  leader-one i k il kl same = leaders.one i k (omega (arith, classes.size)) (omega (arith, classes.size)) same
+  leader_one : (i k : ℕ) → i < m → k < m → get_or class i 0 ≡ get_or class k 0 → get_or leader i 0 ≡ get_or leader k 0
+  leader_one i k il kl same = leaders.one i k (omega (arith, classes.size)) (omega (arith, classes.size)) same
 
-  leader-leads : (i : ℕ) → i < m → get_or leader (get_or leader i 0) 0 ≡ get_or leader i 0
-  leader-leads i l = leader-one (get_or leader i 0) i (leader-in i l) l (leader-same i l)
+  leader_leads : (i : ℕ) → i < m → get_or leader (get_or leader i 0) 0 ≡ get_or leader i 0
+  leader_leads i l = leader_one (get_or leader i 0) i (leader_in i l) l (leader_same i l)
 
-  place-in : (i : ℕ) → i < m → (0 < place i) × (place i ≤ count)
+  place_in : (i : ℕ) → i < m → (0 < place i) × (place i ≤ count)
   unfolding place
-  place-in i l =
-      let some = arranged.ordered.all (get_or leader i 0) (leader-in i l) (leader-leads i l) in
+  place_in i l =
+      let some = arranged.ordered.all (get_or leader i 0) (leader_in i l) (leader_leads i l) in
       (omega arith, (ordered.placed_in (get_or leader i 0) some).0)
 
-  place-order : (i q : ℕ) → i < m → place i ≡ suc q → get_or arranged.order q 0 ≡ get_or leader i 0
+  place_order : (i q : ℕ) → i < m → place i ≡ suc q → get_or arranged.order q 0 ≡ get_or leader i 0
   unfolding place
-  place-order i q l e =
+  place_order i q l e =
       let there = (ordered.placed_in (get_or leader i 0) (omega arith)).1 in
       let back : get_or placed (get_or leader i 0) 0 - 1 ≡ q = omega arith in
       rw back at there
 
   -- the same place means chains there and back
-  place-chained : (i k : ℕ) → i < m → k < m → place i ≡ place k → Leads Need i k × Leads Need k i
-  place-chained i k il kl same =
-      let some = place-in i il in
+  place_chained : (i k : ℕ) → i < m → k < m → place i ≡ place k → Leads Need i k × Leads Need k i
+  place_chained i k il kl same =
+      let some = place_in i il in
       let q : ℕ = place i - 1 in
-      let at_i = place-order i (place i - 1) il (omega arith) in
-      let at_k = place-order k (place i - 1) kl (omega arith) in
+      let at_i = place_order i (place i - 1) il (omega arith) in
+      let at_k = place_order k (place i - 1) kl (omega arith) in
       let led : get_or leader i 0 ≡ get_or leader k 0 = sym at_i ∙ at_k in
-      let both : get_or class i 0 ≡ get_or class k 0 = sym (leader-same i il) ∙ ap (λ (z : ℕ). get_or class z 0) led ∙ leader-same k kl in
-      (leads-map edge-need (classes.together i k il both), leads-map edge-need (classes.together k i kl (sym both)))
+      let both : get_or class i 0 ≡ get_or class k 0 = sym (leader_same i il) ∙ ap (λ (z : ℕ). get_or class z 0) led ∙ leader_same k kl in
+      (leads_map edge-need (classes.together i k il both), leads_map edge-need (classes.together k i kl (sym both)))
 
-  mutual-leader : (i k : ℕ) → i < m → k < m → Leads Need i k → Leads Need k i → get_or leader i 0 ≡ get_or leader k 0
-  mutual-leader i k il kl p q =
-      let up = classes-fall m sources targets class classes (leads-map need-edge p) in
-      let down = classes-fall m sources targets class classes (leads-map need-edge q) in
-      leader-one i k il kl (omega arith)
+  mutual_leader : (i k : ℕ) → i < m → k < m → Leads Need i k → Leads Need k i → get_or leader i 0 ≡ get_or leader k 0
+  mutual_leader i k il kl p q =
+      let up = classes_fall m sources targets class classes (leads_map need-edge p) in
+      let down = classes_fall m sources targets class classes (leads_map need-edge q) in
+      leader_one i k il kl (omega arith)
 
-  mutual-place : (i k : ℕ) → i < m → k < m → Leads Need i k → Leads Need k i → place i ≡ place k
+  mutual_place : (i k : ℕ) → i < m → k < m → Leads Need i k → Leads Need k i → place i ≡ place k
   unfolding place
-  mutual-place i k il kl p q = ap (λ (z : ℕ). get_or placed z 0) (mutual-leader i k il kl p q)
+  mutual_place i k il kl p q = ap (λ (z : ℕ). get_or placed z 0) (mutual_leader i k il kl p q)
 
   module _ (bs : List (List ℕ)) (size : length bs ≡ count) (lists : (b : ℕ) → b < count → get_or bs b [] ≡ members (λ i. get_or placed (get_or leader i 0) 0) (suc b) m) where
     contains-place : (b x : ℕ) → b < count → Contains (get_or bs b []) x → (0 < x) × (x ≤ m) × (place (x - 1) ≡ suc b)
     unfolding place
-    contains-place b x l has = members-contain (λ (i : ℕ). get_or placed (get_or leader i 0) 0) (suc b) m x (rw (lists b l) at has)
+    contains-place b x l has = members_contain (λ (i : ℕ). get_or placed (get_or leader i 0) 0) (suc b) m x (rw (lists b l) at has)
 
     place-contains : (b i : ℕ) → b < count → i < m → place i ≡ suc b → Contains (get_or bs b []) (suc i)
     unfolding place
-    place-contains b i l il e = rw (lists b l) (contain-members (λ (i : ℕ). get_or placed (get_or leader i 0) 0) (suc b) m i il e)
+    place-contains b i l il e = rw (lists b l) (contain_members (λ (i : ℕ). get_or placed (get_or leader i 0) 0) (suc b) m i il e)
 
     ascends : (b : ℕ) → b < count → (k : ℕ) → k + 1 < length (get_or bs b []) → get_or (get_or bs b []) k 0 < get_or (get_or bs b []) (k + 1) 0
-    ascends b l = rw (lists b l) (members-ascend (λ (i : ℕ). get_or placed (get_or leader i 0) 0) (suc b) m)
+    ascends b l = rw (lists b l) (members_ascend (λ (i : ℕ). get_or placed (get_or leader i 0) 0) (suc b) m)
 
     -- the leader of a block
     order-in : (b : ℕ) → b < count → (get_or arranged.order b 0 < m) × (get_or leader (get_or arranged.order b 0) 0 ≡ get_or arranged.order b 0) × (place (get_or arranged.order b 0) ≡ suc b)
@@ -105,11 +105,11 @@ module _ (Need : ℕ → ℕ → Type 0) (m : ℕ) (sources targets class leader
             only = λ x has.
                 let known = contains-place b x l has in
                 let inside : x - 1 < m = omega arith in
-                let chained = place-chained (get_or arranged.order b 0) (x - 1) at.0 inside (at.2 ∙ sym known.2) in
+                let chained = place_chained (get_or arranged.order b 0) (x - 1) at.0 inside (at.2 ∙ sym known.2) in
                 (known.0, known.1, (chained.0, chained.1));
             all = λ x above below there.
                 let inside : x - 1 < m = omega arith in
-                let same = mutual-place (get_or arranged.order b 0) (x - 1) at.0 inside there.0 there.1 in
+                let same = mutual_place (get_or arranged.order b 0) (x - 1) at.0 inside there.0 there.1 in
                 let back : suc (x - 1) ≡ x = omega arith in
                 rw back at (place-contains b (x - 1) l inside (sym same ∙ at.2));
           },
@@ -124,7 +124,7 @@ module _ (Need : ℕ → ℕ → Type 0) (m : ℕ) (sources targets class leader
 
     place-placed : (b i : ℕ) → b ≤ count → i < m → place i ≤ b → IsPlaced (take b bs) (suc i)
     place-placed b i l il le =
-        let some = place-in i il in
+        let some = place_in i il in
         let low : place i - 1 < b = omega arith in
         let inside : place i - 1 < count = omega arith in
         let has = place-contains (place i - 1) i inside il (omega arith) in
@@ -133,7 +133,7 @@ module _ (Need : ℕ → ℕ → Type 0) (m : ℕ) (sources targets class leader
     -- an edge of the graph, between leaders
     edge-between : (i k : ℕ) → Need i k → (x : ℕ) × (x < length arranged.new_sources) × (get_or arranged.new_sources x 0 ≡ get_or leader i 0) × (get_or arranged.new_targets x 0 ≡ get_or leader k 0) × (i < m) × (k < m)
     edge-between i k need =
-        let e = edge-where sources targets i k (need-edge i k need) in
+        let e = edge_where sources targets i k (need-edge i k need) in
         let inside : e.0 < length targets = omega (arith, e.1, graph.same) in
         let from = arranged.replaced_sources.at e.0 e.1 in
         let to = arranged.replaced_targets.at e.0 inside in
@@ -159,7 +159,7 @@ module _ (Need : ℕ → ℕ → Type 0) (m : ℕ) (sources targets class leader
           let here = contains-place b (suc i) l has in
           let back : suc i - 1 ≡ i = omega arith in
           let at : place i ≡ suc b = rw back at here.2 in
-          let from : get_or arranged.new_sources x.0 0 ≡ get_or arranged.order b 0 = x.2 ∙ sym (place-order i b x.4 at) in
+          let from : get_or arranged.new_sources x.0 0 ≡ get_or arranged.order b 0 = x.2 ∙ sym (place_order i b x.4 at) in
           elim (eqb_tells (get_or leader i 0) (get_or leader k 0)) [
             | inl e ↦ inl (place-contains b k l x.5 (place-leader i k e.1 ∙ at))
             | inr e ↦
@@ -190,7 +190,7 @@ module _ (Need : ℕ → ℕ → Type 0) (m : ℕ) (sources targets class leader
       chained x there =
           let known = ready.is_block.2.only x there in
           let inside : x - 1 < m = omega arith in
-          (known.0, known.1, sym (mutual-leader i (x - 1) i-in inside known.2.0 known.2.1))
+          (known.0, known.1, sym (mutual_leader i (x - 1) i-in inside known.2.0 known.2.1))
 
       later : get_or placed v 0 ≢ 0 → b < get_or placed v 0
       unfolding i v place
@@ -210,9 +210,9 @@ module _ (Need : ℕ → ℕ → Type 0) (m : ℕ) (sources targets class leader
           let sm : get_or sources x 0 < m = graph.source x xs in
           let tm : get_or targets x 0 < m = graph.target x xs in
           let same : place i ≡ place (get_or sources x 0) = ap (λ (z : ℕ). get_or placed z 0) (sym from ∙ s_is) in
-          let chains = place-chained i (get_or sources x 0) i-in sm same in
+          let chains = place_chained i (get_or sources x 0) i-in sm same in
           let here = has (get_or sources x 0) sm chains.0 chains.1 in
-          elim (ready.met (get_or sources x 0) (get_or targets x 0) here (edge-need (get_or sources x 0) (get_or targets x 0) (edge-at sources targets x xs))) [
+          elim (ready.met (get_or sources x 0) (get_or targets x 0) here (edge-need (get_or sources x 0) (get_or targets x 0) (edge_at sources targets x xs))) [
             | inl inside ↦
                 let known = chained (suc (get_or targets x 0)) inside in
                 let back : suc (get_or targets x 0) - 1 ≡ get_or targets x 0 = omega arith in
@@ -222,41 +222,41 @@ module _ (Need : ℕ → ℕ → Type 0) (m : ℕ) (sources targets class leader
                 let known = placed-place b (suc (get_or targets x 0)) (omega arith) before in
                 let back : suc (get_or targets x 0) - 1 ≡ get_or targets x 0 = omega arith in
                 let low : place (get_or targets x 0) ≤ b = rw back at known.2 in
-                let some = (place-in (get_or targets x 0) tm).0 in
+                let some = (place_in (get_or targets x 0) tm).0 in
                 rw t_is (omega arith, low)
           ]
 
-      pub least-there : get_or (get_or bs b []) 0 0 ≤ get_or other 0 0
+      pub least_there : get_or (get_or bs b []) 0 0 ≤ get_or other 0 0
       unfolding i v
-      least-there =
+      least_there =
           let at = order-in b l in
-          let head = (least-contained (get_or bs b []) (suc (get_or arranged.order b 0)) (ascends b l) (place-contains b (get_or arranged.order b 0) l at.0 at.2)).0 in
-          let lead : get_or arranged.order b 0 ≤ v = ordered.least b v l (leader-in i i-in) (leader-leads i i-in) later needs in
-          let some = (least-contained other (suc i) ready.is_block.2.ascending (has i i-in Leads.none Leads.none)).1 in
-          let first = chained (get_or other 0 0) (at-contains other (get_or other 0 0) 0 some refl) in
+          let head = (least_contained (get_or bs b []) (suc (get_or arranged.order b 0)) (ascends b l) (place-contains b (get_or arranged.order b 0) l at.0 at.2)).0 in
+          let lead : get_or arranged.order b 0 ≤ v = ordered.least b v l (leader_in i i-in) (leader_leads i i-in) later needs in
+          let some = (least_contained other (suc i) ready.is_block.2.ascending (has i i-in Leads.none Leads.none)).1 in
+          let first = chained (get_or other 0 0) (at_contains other (get_or other 0 0) 0 some refl) in
           let inside : get_or other 0 0 - 1 < m = omega arith in
           let low : get_or leader (get_or other 0 0 - 1) 0 ≤ get_or other 0 0 - 1 = leaders.low (get_or other 0 0 - 1) (omega (arith, classes.size)) in
           omega (arith, first.2)
 
     next-there : (b : ℕ) → b < count → IsNext Need m (take b bs) (get_or bs b [])
-    next-there b l = record { ready = ready-there b l; least = λ other ready. least-there b l other ready }
+    next-there b l = record { ready = ready-there b l; least = λ other ready. least_there b l other ready }
 
-    pub in-order : IsInOrder Need m bs
-    in-order = record {
+    pub in_order : IsInOrder Need m bs
+    in_order = record {
       next = λ b l. next-there b (omega arith);
       all = λ x above below.
           let inside : x - 1 < m = omega arith in
-          let some = place-in (x - 1) inside in
+          let some = place_in (x - 1) inside in
           let back : suc (x - 1) ≡ x = omega arith in
           let has = place-contains (place (x - 1) - 1) (x - 1) (omega arith) inside (omega arith) in
           (place (x - 1) - 1, omega arith, rw back at has);
     }
 
 -- the numbers of classes rise along the edges between different leaders
-pub ranks-rise : (m : ℕ) (sources targets class leader new_sources new_targets : List ℕ) → IsGraph m sources targets → AreClasses m sources targets class → AreLeaders class leader
+pub ranks_rise : (m : ℕ) (sources targets class leader new_sources new_targets : List ℕ) → IsGraph m sources targets → AreClasses m sources targets class → AreLeaders class leader
     → AreReplaced leader sources new_sources → AreReplaced leader targets new_targets
     → HasRanks m new_sources new_targets
-ranks-rise m sources targets class leader new_sources new_targets graph classes leaders rs rt = record {
+ranks_rise m sources targets class leader new_sources new_targets graph classes leaders rs rt = record {
   rank = λ v. get_or class v 0;
   top = m;
   low = λ v l. (classes.some v l).1;
@@ -265,7 +265,7 @@ ranks-rise m sources targets class leader new_sources new_targets graph classes 
       let xt : x < length targets = omega (arith, graph.same) in
       let sm : get_or sources x 0 < length class = omega (arith, graph.source x xs, classes.size) in
       let tm : get_or targets x 0 < length class = omega (arith, graph.target x xs, classes.size) in
-      let falls = classes.falls (get_or sources x 0) (get_or targets x 0) (edge-at sources targets x xs) in
+      let falls = classes.falls (get_or sources x 0) (get_or targets x 0) (edge_at sources targets x xs) in
       let apart : get_or class (get_or sources x 0) 0 ≢ get_or class (get_or targets x 0) 0 = λ same. differ (rs.at x xs ∙ leaders.one (get_or sources x 0) (get_or targets x 0) sm tm same ∙ sym (rt.at x xt)) in
       rw (rs.at x xs, rt.at x xt, leaders.same (get_or sources x 0) sm, leaders.same (get_or targets x 0) tm) (omega (arith, falls, apart));
 }
@@ -274,49 +274,49 @@ ranks-rise m sources targets class leader new_sources new_targets graph classes 
 module _ (sources targets class leader placed : List ℕ) (count m : ℕ) (graph : IsGraph m sources targets)
     (sources' targets' class' leader' : List ℕ) (s_is : sources' ≡ sources) (t_is : targets' ≡ targets) (c_is : class' ≡ class) (l_is : leader' ≡ leader)
     (classes : AreClasses m sources' targets' class) (leaders : AreLeaders class' leader) (arranged : IsArranged (length leader') sources targets leader' placed count) where
-  classes-here : AreClasses m sources targets class
-  classes-here = rw (← s_is, ← t_is) classes
+  classes_here : AreClasses m sources targets class
+  classes_here = rw (← s_is, ← t_is) classes
 
-  leaders-here : AreLeaders class leader
-  leaders-here = rw (← c_is) leaders
+  leaders_here : AreLeaders class leader
+  leaders_here = rw (← c_is) leaders
 
-  arranged-here : IsArranged m sources targets leader placed count
-  arranged-here =
-      let size : length leader' ≡ m = rw (← l_is) at (leaders-here.size ∙ classes-here.size) in
+  arranged_here : IsArranged m sources targets leader placed count
+  arranged_here =
+      let size : length leader' ≡ m = rw (← l_is) at (leaders_here.size ∙ classes_here.size) in
       rw (← size, ← l_is) arranged
 
-  pub found-in-order : (bs : List (List ℕ)) (leader'' placed'' : List ℕ) → leader'' ≡ leader → placed'' ≡ placed → length bs ≡ count
+  pub found_in_order : (bs : List (List ℕ)) (leader'' placed'' : List ℕ) → leader'' ≡ leader → placed'' ≡ placed → length bs ≡ count
       → ((b : ℕ) → b < count → get_or bs b [] ≡ members (λ i. get_or placed'' (get_or leader'' i 0) 0) (suc b) (length leader''))
       → IsInOrder (Edge sources targets) m bs
-  found-in-order bs leader'' placed'' l_is' p_is' size lists =
-      let all : length leader ≡ m = leaders-here.size ∙ classes-here.size in
+  found_in_order bs leader'' placed'' l_is' p_is' size lists =
+      let all : length leader ≡ m = leaders_here.size ∙ classes_here.size in
       let lists' : (b : ℕ) → b < count → get_or bs b [] ≡ members (λ i. get_or placed (get_or leader i 0) 0) (suc b) m = rw (← all, ← l_is', ← p_is') lists in
-      in-order (Edge sources targets) m sources targets class leader placed count graph (λ _ _ e. e) (λ _ _ e. e) classes-here leaders-here arranged-here bs size lists'
+      in_order (Edge sources targets) m sources targets class leader placed count graph (λ _ _ e. e) (λ _ _ e. e) classes_here leaders_here arranged_here bs size lists'
 
 -- blocks in order by one relation are so by another that says the same
 module _ (E N : ℕ → ℕ → Type 0) (there : (i k : ℕ) → E i k → N i k) (back : (i k : ℕ) → N i k → E i k) (m : ℕ) where
-  block-as : (F G : ℕ → ℕ → Type 0) → ((i k : ℕ) → F i k → G i k) → ((i k : ℕ) → G i k → F i k) → (xs : List ℕ) → IsBlock F m xs → IsBlock G m xs
-  block-as F G f g xs block = (
+  block_as : (F G : ℕ → ℕ → Type 0) → ((i k : ℕ) → F i k → G i k) → ((i k : ℕ) → G i k → F i k) → (xs : List ℕ) → IsBlock F m xs → IsBlock G m xs
+  block_as F G f g xs block = (
     block.0,
     block.1,
     record {
       ascending = block.2.ascending;
-      only = λ x has. let known = block.2.only x has in (known.0, known.1, (leads-map f known.2.0, leads-map f known.2.1));
-      all = λ x above below both. block.2.all x above below (leads-map g both.0, leads-map g both.1);
+      only = λ x has. let known = block.2.only x has in (known.0, known.1, (leads_map f known.2.0, leads_map f known.2.1));
+      all = λ x above below both. block.2.all x above below (leads_map g both.0, leads_map g both.1);
     },
   )
 
-  ready-as : (F G : ℕ → ℕ → Type 0) → ((i k : ℕ) → F i k → G i k) → ((i k : ℕ) → G i k → F i k) → (before : List (List ℕ)) (xs : List ℕ) → IsReady F m before xs → IsReady G m before xs
-  ready-as F G f g before xs ready = record {
-    is_block = block-as F G f g xs ready.is_block;
+  ready_as : (F G : ℕ → ℕ → Type 0) → ((i k : ℕ) → F i k → G i k) → ((i k : ℕ) → G i k → F i k) → (before : List (List ℕ)) (xs : List ℕ) → IsReady F m before xs → IsReady G m before xs
+  ready_as F G f g before xs ready = record {
+    is_block = block_as F G f g xs ready.is_block;
     unplaced = ready.unplaced;
     met = λ i k has need. ready.met i k has (g i k need);
   }
 
-  pub order-as : (bs : List (List ℕ)) → IsInOrder E m bs → IsInOrder N m bs
-  order-as bs order = record {
+  pub order_as : (bs : List (List ℕ)) → IsInOrder E m bs → IsInOrder N m bs
+  order_as bs order = record {
     next = λ b l.
         let next = order.next b l in
-        record { ready = ready-as E N there back (take b bs) (get_or bs b []) next.ready; least = λ other ready. next.least other (ready-as N E back there (take b bs) other ready) };
+        record { ready = ready_as E N there back (take b bs) (get_or bs b []) next.ready; least = λ other ready. next.least other (ready_as N E back there (take b bs) other ready) };
     all = order.all;
   }

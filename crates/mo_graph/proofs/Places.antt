@@ -2,120 +2,120 @@
 use Rattle.std.proofs.Common.{◌≡◌, ◌≢◌, ℕ, zero, suc, ◌+◌, ◌-◌, ◌<◌, ◌≤◌, ◌⊎◌, inl, inr, ◌==◌, if◌then◌else◌, List, length, get_or, set, refl, sym, ap, ◌∙◌, arith, length-set, get_or-set_other, get_or-set_same}
 use Rattle.std.proofs.lemmas.Bool.Decides.{eqb_tells}
 use Rattle.mo_graph.specs.Counting.{sum_below}
-use Rattle.mo_graph.proofs.Counting.{without, without-same, without-other, sum-same, distinct-room}
+use Rattle.mo_graph.proofs.Counting.{without, without_same, without_other, sum_same, distinct_room}
 use Rattle.mo_graph.specs.Edges.{IsGraph, AreThreaded}
 use Rattle.mo_graph.specs.steps.Placing.{where_same, waiting, leads_away, IsOrdered, AreOrdered, IsPlacing, Places}
-use Rattle.mo_graph.proofs.Chains.{below-next, sum-change}
+use Rattle.mo_graph.proofs.Chains.{below_next, sum_change}
 
-where-same : (k b y : ℕ) → k ≡ b → where_same k b y ≡ y
-where-same k b y e = elim (eqb_tells k b) [ inl h ↦ rw h.0 refl | inr h ↦ absurd (h.1 e) ]
+where_same_holds : (k b y : ℕ) → k ≡ b → where_same k b y ≡ y
+where_same_holds k b y e = elim (eqb_tells k b) [ inl h ↦ rw h.0 refl | inr h ↦ absurd (h.1 e) ]
 
-where-other : (k b y : ℕ) → k ≢ b → where_same k b y ≡ 0
-where-other k b y ne = elim (eqb_tells k b) [ inl h ↦ absurd (ne h.1) | inr h ↦ rw h.0 refl ]
+where_other : (k b y : ℕ) → k ≢ b → where_same k b y ≡ 0
+where_other k b y ne = elim (eqb_tells k b) [ inl h ↦ absurd (ne h.1) | inr h ↦ rw h.0 refl ]
 
-pub waiting-none : (sources : List ℕ) (open_at : ℕ → ℕ) (n b : ℕ) → ((x : ℕ) → x < n → get_or sources x 0 ≡ b → open_at x ≡ 0) → waiting sources open_at n b ≡ 0
+pub waiting_none : (sources : List ℕ) (open_at : ℕ → ℕ) (n b : ℕ) → ((x : ℕ) → x < n → get_or sources x 0 ≡ b → open_at x ≡ 0) → waiting sources open_at n b ≡ 0
 unfolding waiting
-waiting-none sources open_at zero b none = refl
-waiting-none sources open_at (suc n) b none =
-    let rest : sum_below (λ x. where_same (get_or sources x 0) b (open_at x)) n ≡ 0 = waiting-none sources open_at n b (λ x l. none x (omega arith)) in
+waiting_none sources open_at zero b none = refl
+waiting_none sources open_at (suc n) b none =
+    let rest : sum_below (λ x. where_same (get_or sources x 0) b (open_at x)) n ≡ 0 = waiting_none sources open_at n b (λ x l. none x (omega arith)) in
     elim (eqb_tells (get_or sources n 0) b) [
-      | inl e ↦ omega (arith, where-same (get_or sources n 0) b (open_at n) e.1, none n (omega arith) e.1)
-      | inr e ↦ omega (arith, where-other (get_or sources n 0) b (open_at n) e.1)
+      | inl e ↦ omega (arith, where_same_holds (get_or sources n 0) b (open_at n) e.1, none n (omega arith) e.1)
+      | inr e ↦ omega (arith, where_other (get_or sources n 0) b (open_at n) e.1)
     ]
 
-pub waiting-zero : (sources : List ℕ) (open_at : ℕ → ℕ) (n b : ℕ) → waiting sources open_at n b ≡ 0 → (x : ℕ) → x < n → get_or sources x 0 ≡ b → open_at x ≡ 0
+pub waiting_zero : (sources : List ℕ) (open_at : ℕ → ℕ) (n b : ℕ) → waiting sources open_at n b ≡ 0 → (x : ℕ) → x < n → get_or sources x 0 ≡ b → open_at x ≡ 0
 unfolding waiting
-waiting-zero sources open_at zero b none x l e = absurd (omega arith)
-waiting-zero sources open_at (suc n) b none x l e = elim (eqb_tells x n) [
+waiting_zero sources open_at zero b none x l e = absurd (omega arith)
+waiting_zero sources open_at (suc n) b none x l e = elim (eqb_tells x n) [
   | inl z ↦
       let here : get_or sources n 0 ≡ b = rw (← z.1) e in
-      rw z.1 (omega (arith, where-same (get_or sources n 0) b (open_at n) here))
-  | inr z ↦ waiting-zero sources open_at n b (omega arith) x (omega (arith, z.1)) e
+      rw z.1 (omega (arith, where_same_holds (get_or sources n 0) b (open_at n) here))
+  | inr z ↦ waiting_zero sources open_at n b (omega arith) x (omega (arith, z.1)) e
 ]
 
 -- one edge is no more open
 module _ (sources : List ℕ) (open_at : ℕ → ℕ) (n x b : ℕ) (l : x < n) (from : get_or sources x 0 ≡ b) (one : open_at x ≡ 1) where
-  pub waiting-less : waiting sources (without open_at x) n b + 1 ≡ waiting sources open_at n b
+  pub waiting_less : waiting sources (without open_at x) n b + 1 ≡ waiting sources open_at n b
   unfolding waiting
-  waiting-less =
-      let change = sum-change (λ (y : ℕ). where_same (get_or sources y 0) b (without open_at x y)) (λ (y : ℕ). where_same (get_or sources y 0) b (open_at y)) x n l
-      (λ y yl ne. ap (where_same (get_or sources y 0) b) (without-other open_at x y ne)) in
-      let was : where_same (get_or sources x 0) b (open_at x) ≡ 1 = where-same (get_or sources x 0) b (open_at x) from ∙ one in
-      let is : where_same (get_or sources x 0) b (without open_at x x) ≡ 0 = where-same (get_or sources x 0) b (without open_at x x) from ∙ without-same open_at x in
+  waiting_less =
+      let change = sum_change (λ (y : ℕ). where_same (get_or sources y 0) b (without open_at x y)) (λ (y : ℕ). where_same (get_or sources y 0) b (open_at y)) x n l
+      (λ y yl ne. ap (where_same (get_or sources y 0) b) (without_other open_at x y ne)) in
+      let was : where_same (get_or sources x 0) b (open_at x) ≡ 1 = where_same_holds (get_or sources x 0) b (open_at x) from ∙ one in
+      let is : where_same (get_or sources x 0) b (without open_at x x) ≡ 0 = where_same_holds (get_or sources x 0) b (without open_at x x) from ∙ without_same open_at x in
       omega (arith, change, was, is)
 
-  pub waiting-kept : (u : ℕ) → u ≢ b → waiting sources (without open_at x) n u ≡ waiting sources open_at n u
+  pub waiting_kept : (u : ℕ) → u ≢ b → waiting sources (without open_at x) n u ≡ waiting sources open_at n u
   unfolding waiting
-  waiting-kept u ne = sum-same (λ (y : ℕ). where_same (get_or sources y 0) u (without open_at x y)) (λ (y : ℕ). where_same (get_or sources y 0) u (open_at y)) n (λ y yl. elim (eqb_tells y x) [
+  waiting_kept u ne = sum_same (λ (y : ℕ). where_same (get_or sources y 0) u (without open_at x y)) (λ (y : ℕ). where_same (get_or sources y 0) u (open_at y)) n (λ y yl. elim (eqb_tells y x) [
     | inl e ↦
         let other : get_or sources y 0 ≢ u = λ same. ne (sym same ∙ ap (λ (z : ℕ). get_or sources z 0) e.1 ∙ from) in
-        where-other (get_or sources y 0) u (without open_at x y) other ∙ sym (where-other (get_or sources y 0) u (open_at y) other)
-    | inr e ↦ ap (where_same (get_or sources y 0) u) (without-other open_at x y e.1)
+        where_other (get_or sources y 0) u (without open_at x y) other ∙ sym (where_other (get_or sources y 0) u (open_at y) other)
+    | inr e ↦ ap (where_same (get_or sources y 0) u) (without_other open_at x y e.1)
   ])
 
-pub away-none : (sources targets : List ℕ) (x : ℕ) → get_or sources x 0 ≡ get_or targets x 0 → leads_away sources targets x ≡ 0
-away-none sources targets x e = elim (eqb_tells (get_or sources x 0) (get_or targets x 0)) [ inl h ↦ rw h.0 refl | inr h ↦ absurd (h.1 e) ]
+pub away_none : (sources targets : List ℕ) (x : ℕ) → get_or sources x 0 ≡ get_or targets x 0 → leads_away sources targets x ≡ 0
+away_none sources targets x e = elim (eqb_tells (get_or sources x 0) (get_or targets x 0)) [ inl h ↦ rw h.0 refl | inr h ↦ absurd (h.1 e) ]
 
-pub away-one : (sources targets : List ℕ) (x : ℕ) → get_or sources x 0 ≢ get_or targets x 0 → leads_away sources targets x ≡ 1
-away-one sources targets x ne = elim (eqb_tells (get_or sources x 0) (get_or targets x 0)) [ inl h ↦ absurd (ne h.1) | inr h ↦ rw h.0 refl ]
+pub away_one : (sources targets : List ℕ) (x : ℕ) → get_or sources x 0 ≢ get_or targets x 0 → leads_away sources targets x ≡ 1
+away_one sources targets x ne = elim (eqb_tells (get_or sources x 0) (get_or targets x 0)) [ inl h ↦ absurd (ne h.1) | inr h ↦ rw h.0 refl ]
 
-pub waiting-next : (sources targets : List ℕ) (n b : ℕ) → waiting sources (leads_away sources targets) (n + 1) b ≡ where_same (get_or sources n 0) b (leads_away sources targets n) + waiting sources (leads_away sources targets) n b
+pub waiting_next : (sources targets : List ℕ) (n b : ℕ) → waiting sources (leads_away sources targets) (n + 1) b ≡ where_same (get_or sources n 0) b (leads_away sources targets n) + waiting sources (leads_away sources targets) n b
 unfolding waiting
-waiting-next sources targets n b = let next : n + 1 ≡ suc n = omega arith in rw next refl
+waiting_next sources targets n b = let next : n + 1 ≡ suc n = omega arith in rw next refl
 
 -- counting the edges that lead away: one more was looked at
 module _ (sources targets waits : List ℕ) (n : ℕ) (known : get_or sources n 0 < length waits)
     (to : (b : ℕ) → b < length waits → get_or waits b 0 ≡ waiting sources (leads_away sources targets) n b) where
-  pub count-pass : get_or sources n 0 ≡ get_or targets n 0 → (b : ℕ) → b < length waits → get_or waits b 0 ≡ waiting sources (leads_away sources targets) (n + 1) b
-  count-pass same b l =
-      let none = away-none sources targets n same in
-      let next = waiting-next sources targets n b in
+  pub count_pass : get_or sources n 0 ≡ get_or targets n 0 → (b : ℕ) → b < length waits → get_or waits b 0 ≡ waiting sources (leads_away sources targets) (n + 1) b
+  count_pass same b l =
+      let none = away_none sources targets n same in
+      let next = waiting_next sources targets n b in
       elim (eqb_tells (get_or sources n 0) b) [
-        | inl e ↦ omega (arith, to b l, where-same (get_or sources n 0) b (leads_away sources targets n) e.1)
-        | inr e ↦ omega (arith, to b l, where-other (get_or sources n 0) b (leads_away sources targets n) e.1)
+        | inl e ↦ omega (arith, to b l, where_same_holds (get_or sources n 0) b (leads_away sources targets n) e.1)
+        | inr e ↦ omega (arith, to b l, where_other (get_or sources n 0) b (leads_away sources targets n) e.1)
       ]
 
-  pub count-one : get_or sources n 0 ≢ get_or targets n 0 → (b : ℕ) → b < length (set waits (get_or sources n 0) (get_or waits (get_or sources n 0) 0 + 1))
+  pub count_one : get_or sources n 0 ≢ get_or targets n 0 → (b : ℕ) → b < length (set waits (get_or sources n 0) (get_or waits (get_or sources n 0) 0 + 1))
       → get_or (set waits (get_or sources n 0) (get_or waits (get_or sources n 0) 0 + 1)) b 0 ≡ waiting sources (leads_away sources targets) (n + 1) b
-  count-one differ b l =
-      let one = away-one sources targets n differ in
-      let next = waiting-next sources targets n b in
+  count_one differ b l =
+      let one = away_one sources targets n differ in
+      let next = waiting_next sources targets n b in
       let size = length-set waits (get_or sources n 0) (get_or waits (get_or sources n 0) 0 + 1) in
       let inside : b < length waits = omega arith in
       elim (eqb_tells (get_or sources n 0) b) [
         | inl e ↦
             let at : get_or (set waits (get_or sources n 0) (get_or waits (get_or sources n 0) 0 + 1)) b 0 ≡ get_or waits b 0 + 1 = rw e.1 (get_or-set_same waits b (get_or waits b 0 + 1) 0 inside) in
-            omega (arith, to b inside, at, where-same (get_or sources n 0) b (leads_away sources targets n) e.1)
+            omega (arith, to b inside, at, where_same_holds (get_or sources n 0) b (leads_away sources targets n) e.1)
         | inr e ↦
             let ne : b ≢ get_or sources n 0 = λ same. e.1 (sym same) in
             let at = get_or-set_other waits (get_or sources n 0) b (get_or waits (get_or sources n 0) 0 + 1) 0 ne in
-            omega (arith, to b inside, at, where-other (get_or sources n 0) b (leads_away sources targets n) e.1)
+            omega (arith, to b inside, at, where_other (get_or sources n 0) b (leads_away sources targets n) e.1)
       ]
 
-  waiting-small : (k b : ℕ) → waiting sources (leads_away sources targets) k b ≤ k
+  waiting_small : (k b : ℕ) → waiting sources (leads_away sources targets) k b ≤ k
   unfolding waiting
-  waiting-small zero b = omega arith
-  waiting-small (suc k) b =
-      let rest : sum_below (λ x. where_same (get_or sources x 0) b (leads_away sources targets x)) k ≤ k = waiting-small k b in
+  waiting_small zero b = omega arith
+  waiting_small (suc k) b =
+      let rest : sum_below (λ x. where_same (get_or sources x 0) b (leads_away sources targets x)) k ≤ k = waiting_small k b in
       elim (eqb_tells (get_or sources k 0) b) [
-        | inr e ↦ omega (arith, where-other (get_or sources k 0) b (leads_away sources targets k) e.1)
+        | inr e ↦ omega (arith, where_other (get_or sources k 0) b (leads_away sources targets k) e.1)
         | inl e ↦ elim (eqb_tells (get_or sources k 0) (get_or targets k 0)) [
-          | inl z ↦ omega (arith, where-same (get_or sources k 0) b (leads_away sources targets k) e.1, away-none sources targets k z.1)
-          | inr z ↦ omega (arith, where-same (get_or sources k 0) b (leads_away sources targets k) e.1, away-one sources targets k z.1)
+          | inl z ↦ omega (arith, where_same_holds (get_or sources k 0) b (leads_away sources targets k) e.1, away_none sources targets k z.1)
+          | inr z ↦ omega (arith, where_same_holds (get_or sources k 0) b (leads_away sources targets k) e.1, away_one sources targets k z.1)
         ]
       ]
 
-  pub count-small : (b : ℕ) → waiting sources (leads_away sources targets) n b ≤ n
-  count-small b = waiting-small n b
+  pub count_small : (b : ℕ) → waiting sources (leads_away sources targets) n b ≤ n
+  count_small b = waiting_small n b
 
 -- nothing is placed yet
-pub placing-begin : (m : ℕ) (sources targets leader order placed waits : List ℕ) (Ready : ℕ → Type 0) (awake : ℕ)
+pub placing_begin : (m : ℕ) (sources targets leader order placed waits : List ℕ) (Ready : ℕ → Type 0) (awake : ℕ)
     → length order ≡ m → length placed ≡ m → length waits ≡ m → ((v : ℕ) → get_or placed v 0 ≡ 0)
     → ((b : ℕ) → b < length waits → get_or waits b 0 ≡ waiting sources (leads_away sources targets) (length sources) b)
     → ((v : ℕ) → Ready v → (v < m) × (get_or leader v 0 ≡ v) × (get_or waits v 0 ≡ 0))
     → ((v : ℕ) → v < m → get_or leader v 0 ≡ v → get_or waits v 0 ≡ 0 → Ready v)
     → Places m sources targets leader order placed waits 0 Ready awake 0
-placing-begin m sources targets leader order placed waits Ready awake so sp sw clear waits_are only all = (
+placing_begin m sources targets leader order placed waits Ready awake so sp sw clear waits_are only all = (
   leads_away sources targets,
   record {
     order_all = so;
@@ -129,10 +129,10 @@ placing-begin m sources targets leader order placed waits Ready awake so sp sw c
     };
     waits_are = λ b l. waits_are b (omega arith);
     open_one = λ x l some. elim (eqb_tells (get_or sources x 0) (get_or targets x 0)) [
-      | inl e ↦ absurd (some (away-none sources targets x e.1))
-      | inr e ↦ (away-one sources targets x e.1, e.1, inl (clear (get_or targets x 0)))
+      | inl e ↦ absurd (some (away_none sources targets x e.1))
+      | inr e ↦ (away_one sources targets x e.1, e.1, inl (clear (get_or targets x 0)))
     ];
-    open_none = λ x l none differ. absurd (omega (arith, away-one sources targets x differ));
+    open_none = λ x l none differ. absurd (omega (arith, away_one sources targets x differ));
     ready_in = λ v r. let at = only v r in (at.0, at.1, clear v, at.2);
     ready_all = λ v l led unplaced none. all v l led none;
   },
@@ -161,21 +161,21 @@ module _ (m : ℕ) (sources targets leader order placed waits : List ℕ) (count
     placed-not : (s : ℕ) → s < count → get_or order s 0 ≢ v
     placed-not s l e = (let there : get_or placed v 0 ≡ suc s = rw e at (to.ordered.order_in s l).2 in omega (arith, at_v.2))
 
-    pub place-room : count < m
-    place-room =
-        let room : count + 1 ≤ m = distinct-room all_then (count + 1) m
-        (λ s l. elim (below-next s count l) [
+    pub place_room : count < m
+    place_room =
+        let room : count + 1 ≤ m = distinct_room all_then (count + 1) m
+        (λ s l. elim (below_next s count l) [
           | inl h ↦ rw (all-off s h) (to.ordered.order_in s h).0
           | inr e ↦ rw (e, all-at) at_v.0
         ])
-        (λ s r sl rl. elim (below-next s count sl) [
-          | inl h ↦ elim (below-next r count rl) [
+        (λ s r sl rl. elim (below_next s count sl) [
+          | inl h ↦ elim (below_next r count rl) [
             | inl h' ↦ rw (all-off s h, all-off r h') (λ same.
                 let both : suc s ≡ suc r = sym (to.ordered.order_in s h).2 ∙ ap (λ (z : ℕ). get_or placed z 0) same ∙ (to.ordered.order_in r h').2 in
                 omega arith)
             | inr e' ↦ rw (e', all-at, all-off s h) (λ same. absurd (placed-not s h same))
           ]
-          | inr e ↦ elim (below-next r count rl) [
+          | inr e ↦ elim (below_next r count rl) [
             | inl h' ↦ rw (e, all-at, all-off r h') (λ same. absurd (placed-not r h' (sym same)))
             | inr e' ↦ λ same. e ∙ sym e'
           ]
@@ -183,7 +183,7 @@ module _ (m : ℕ) (sources targets leader order placed waits : List ℕ) (count
         omega arith
 
     o-at : get_or (set order count v) count 0 ≡ v
-    o-at = get_or-set_same order count v 0 (omega (arith, to.order_all, place-room))
+    o-at = get_or-set_same order count v 0 (omega (arith, to.order_all, place_room))
 
     o-off : (s : ℕ) → s < count → get_or (set order count v) s 0 ≡ get_or order s 0
     o-off s l = let ne : s ≢ count = omega arith in get_or-set_other order count s v 0 ne
@@ -206,7 +206,7 @@ module _ (m : ℕ) (sources targets leader order placed waits : List ℕ) (count
 
     ordered-then : IsOrdered m sources targets leader (set order count v) (set placed v (count + 1)) (count + 1)
     ordered-then = record {
-      order_in = λ s l. elim (below-next s count l) [
+      order_in = λ s l. elim (below_next s count l) [
         | inl h ↦ let old = to.ordered.order_in s h in rw (o-off s h, p-off (get_or order s 0) (placed-not s h)) old
         | inr e ↦ rw (e, o-at, p-at) (at_v.0, at_v.1, omega arith)
       ];
@@ -214,15 +214,15 @@ module _ (m : ℕ) (sources targets leader order placed waits : List ℕ) (count
         | inl e ↦ rw (e.1, p-at) (λ some. let back : count + 1 - 1 ≡ count = omega arith in (omega arith, rw back o-at))
         | inr e ↦ rw (p-off u e.1) (λ some. let there = to.ordered.placed_in u some in (omega (arith, there.0), o-off (get_or placed u 0 - 1) (omega (arith, there.0)) ∙ there.1))
       ];
-      met = λ s x l xl. elim (below-next s count l) [
+      met = λ s x l xl. elim (below_next s count l) [
         | inl h ↦ rw (o-off s h) (λ from differ. let old = to.ordered.met s x h xl from differ in rw (p-some (get_or targets x 0) old.0) old)
         | inr e ↦ rw (e, o-at) (λ from differ.
             let none : waiting sources open_at (length sources) v ≡ 0 = sym (to.waits_are v at_v.0) ∙ at_v.3 in
-            let gone : open_at x ≡ 0 = waiting-zero sources open_at (length sources) v none x xl from in
+            let gone : open_at x ≡ 0 = waiting_zero sources open_at (length sources) v none x xl from in
             let done = (to.open_none x xl gone differ).0 in
             rw (p-some (get_or targets x 0) done) (done, (to.ordered.placed_in (get_or targets x 0) done).0))
       ];
-      least = λ s u l um led later needs. elim (below-next s count l) [
+      least = λ s u l um led later needs. elim (below_next s count l) [
         | inl h ↦ rw (o-off s h) (to.ordered.least s u h um led
             (λ some. rw (p-some u some) at (later (rw (p-some u some) some)))
             (λ x xl from differ. let n = needs x xl from differ in p-low (get_or targets x 0) s (omega arith) n.0 n.1))
@@ -236,7 +236,7 @@ module _ (m : ℕ) (sources targets leader order placed waits : List ℕ) (count
                     let now : s < get_or placed u 0 = rw (p-some u y.1) at (later (rw (p-some u y.1) y.1)) in
                     omega (arith, e))
               ] in
-              let none : waiting sources open_at (length sources) u ≡ 0 = waiting-none sources open_at (length sources) u (λ x xl from. elim (eqb_tells (open_at x) 0) [
+              let none : waiting sources open_at (length sources) u ≡ 0 = waiting_none sources open_at (length sources) u (λ x xl from. elim (eqb_tells (open_at x) 0) [
                 | inl y ↦ y.1
                 | inr y ↦
                     let one = to.open_one x xl y.1 in
@@ -252,8 +252,8 @@ module _ (m : ℕ) (sources targets leader order placed waits : List ℕ) (count
       ];
     }
 
-    pub placing-place : IsPlacing m sources targets leader (set order count v) (set placed v (count + 1)) waits (count + 1) Ready' v (get_or last v 0) open_at
-    placing-place = record {
+    pub placing_place : IsPlacing m sources targets leader (set order count v) (set placed v (count + 1)) waits (count + 1) Ready' v (get_or last v 0) open_at
+    placing_place = record {
       order_all = length-set order count v ∙ to.order_all;
       placed_all = length-set placed v (count + 1) ∙ to.placed_all;
       waits_all = to.waits_all;
@@ -285,8 +285,8 @@ module _ (m : ℕ) (sources targets leader order placed waits : List ℕ) (count
       ];
     }
 
-    pub placed-last : get_or (set placed v (count + 1)) v 0 ≡ count + 1
-    placed-last = p-at
+    pub placed_last : get_or (set placed v (count + 1)) v 0 ≡ count + 1
+    placed_last = p-at
 
   -- an edge to the vertex that was placed last
   module _ (awake x : ℕ) (to : IsPlacing m sources targets leader order placed waits count Ready awake (suc x) open_at)
@@ -302,8 +302,8 @@ module _ (m : ℕ) (sources targets leader order placed waits : List ℕ) (count
     lower y e l ne = threads.none_between x y x-in (omega arith) (e ∙ sym key)
 
     -- it comes from the vertex itself
-    pub placing-skip : get_or sources x 0 ≡ awake → IsPlacing m sources targets leader order placed waits count Ready awake (get_or before x 0) open_at
-    placing-skip from = record {
+    pub placing_skip : get_or sources x 0 ≡ awake → IsPlacing m sources targets leader order placed waits count Ready awake (get_or before x 0) open_at
+    placing_skip from = record {
       order_all = to.order_all;
       placed_all = to.placed_all;
       waits_all = to.waits_all;
@@ -334,10 +334,10 @@ module _ (m : ℕ) (sources targets leader order placed waits : List ℕ) (count
       ]
 
       less : waiting sources (without open_at x) (length sources) (get_or sources x 0) + 1 ≡ waiting sources open_at (length sources) (get_or sources x 0)
-      less = waiting-less sources open_at (length sources) x (get_or sources x 0) xl refl was-open
+      less = waiting_less sources open_at (length sources) x (get_or sources x 0) xl refl was-open
 
-      pub lower-some : get_or waits (get_or sources x 0) 0 ≢ 0
-      lower-some = omega (arith, less, to.waits_are (get_or sources x 0) (graph.source x xl))
+      pub lower_some : get_or waits (get_or sources x 0) 0 ≢ 0
+      lower_some = omega (arith, less, to.waits_are (get_or sources x 0) (graph.source x xl))
 
       unplaced : get_or placed (get_or sources x 0) 0 ≡ 0
       unplaced = elim (eqb_tells (get_or placed (get_or sources x 0) 0) 0) [
@@ -359,19 +359,19 @@ module _ (m : ℕ) (sources targets leader order placed waits : List ℕ) (count
       module _ (led : get_or leader (get_or sources x 0) 0 ≡ get_or sources x 0) (Ready' : ℕ → Type 0)
           (was : (u : ℕ) → Ready' u → Ready u ⊎ ((u ≡ get_or sources x 0) × (get_or waits (get_or sources x 0) 0 - 1 ≡ 0)))
           (still : (u : ℕ) → Ready u → Ready' u) (now : get_or waits (get_or sources x 0) 0 - 1 ≡ 0 → Ready' (get_or sources x 0)) where
-        pub placing-lower : IsPlacing m sources targets leader order placed (set waits (get_or sources x 0) (get_or waits (get_or sources x 0) 0 - 1)) count Ready' awake (get_or before x 0) (without open_at x)
-        placing-lower = record {
+        pub placing_lower : IsPlacing m sources targets leader order placed (set waits (get_or sources x 0) (get_or waits (get_or sources x 0) 0 - 1)) count Ready' awake (get_or before x 0) (without open_at x)
+        placing_lower = record {
           order_all = to.order_all;
           placed_all = to.placed_all;
           waits_all = length-set waits (get_or sources x 0) (get_or waits (get_or sources x 0) 0 - 1) ∙ to.waits_all;
           ordered = to.ordered;
           waits_are = λ b bm. elim (eqb_tells b (get_or sources x 0)) [
             | inl e ↦ rw (e.1, w-at) (omega (arith, less, to.waits_are (get_or sources x 0) (graph.source x xl)))
-            | inr e ↦ w-off b e.1 ∙ to.waits_are b bm ∙ sym (waiting-kept sources open_at (length sources) x (get_or sources x 0) xl refl was-open b e.1)
+            | inr e ↦ w-off b e.1 ∙ to.waits_are b bm ∙ sym (waiting_kept sources open_at (length sources) x (get_or sources x 0) xl refl was-open b e.1)
           ];
           open_one = λ y l. elim (eqb_tells y x) [
-            | inl e ↦ rw (e.1, without-same open_at x) (λ is. absurd (is refl))
-            | inr e ↦ rw (without-other open_at x y e.1) (λ is.
+            | inl e ↦ rw (e.1, without_same open_at x) (λ is. absurd (is refl))
+            | inr e ↦ rw (without_other open_at x y e.1) (λ is.
                 let one = to.open_one y l is in (
                   one.0,
                   one.1,
@@ -383,12 +383,12 @@ module _ (m : ℕ) (sources targets leader order placed waits : List ℕ) (count
           ];
           open_none = λ y l. elim (eqb_tells y x) [
             | inl e ↦ rw e.1 (λ none differ. (rw (key, done) (omega arith), λ _. before-low))
-            | inr e ↦ rw (without-other open_at x y e.1) (λ none differ. let old = to.open_none y l none differ in (old.0, λ same. omega (arith, old.1 same, before-low)))
+            | inr e ↦ rw (without_other open_at x y e.1) (λ none differ. let old = to.open_none y l none differ in (old.0, λ same. omega (arith, old.1 same, before-low)))
           ];
           ready_in = λ u r. elim (was u r) [
             | inl old ↦
                 let at = to.ready_in u old in
-                let ne : u ≢ get_or sources x 0 = λ e. lower-some (rw e at at.3) in
+                let ne : u ≢ get_or sources x 0 = λ e. lower_some (rw e at at.3) in
                 (at.0, at.1, at.2, w-off u ne ∙ at.3)
             | inr new ↦ rw new.0 (graph.source x xl, led, unplaced, w-at ∙ new.1)
           ];
@@ -405,7 +405,7 @@ module _ (m : ℕ) (sources targets leader order placed waits : List ℕ) (count
       (led : (x : ℕ) → x < length sources → get_or leader (get_or targets x 0) 0 ≡ get_or targets x 0) where
     one-left : (v : ℕ) → ((w : ℕ) → w < m → get_or leader w 0 ≡ w → rank v < rank w → get_or placed w 0 ≢ 0) → v < m → get_or leader v 0 ≡ v → get_or placed v 0 ≢ 0
     one-left v above_it vm lv unplaced =
-        let none : waiting sources open_at (length sources) v ≡ 0 = waiting-none sources open_at (length sources) v (λ x xl from. elim (eqb_tells (open_at x) 0) [
+        let none : waiting sources open_at (length sources) v ≡ 0 = waiting_none sources open_at (length sources) v (λ x xl from. elim (eqb_tells (open_at x) 0) [
           | inl e ↦ e.1
           | inr e ↦
               let one = to.open_one x xl e.1 in
@@ -421,5 +421,5 @@ module _ (m : ℕ) (sources targets leader order placed waits : List ℕ) (count
     none-left zero v vm lv high = one-left v (λ w wm lw above. absurd (omega (arith, low w wm))) vm lv
     none-left (suc n) v vm lv high = one-left v (λ w wm lw above. none-left n w wm lw (omega arith)) vm lv
 
-    pub all-placed : AreOrdered m sources targets leader order placed count
-    all-placed = record { ordered = to.ordered; all = λ v vm lv. none-left top v vm lv (omega arith) }
+    pub all_placed : AreOrdered m sources targets leader order placed count
+    all_placed = record { ordered = to.ordered; all = λ v vm lv. none-left top v vm lv (omega arith) }

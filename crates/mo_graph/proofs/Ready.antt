@@ -7,42 +7,42 @@ use Rattle.std.specs.BTreeSet.{BTreeSet, contains, IsEmpty, Updates, IsLowerBoun
 use Rattle.std.specs.Ordering.{nat_cmp}
 use Rattle.mo_graph.specs.steps.Placing.{Has}
 
-pub has-none : (s : BTreeSet ℕ) (q : ℕ) → IsEmpty s → Has s q → ⊥
+pub has_none : (s : BTreeSet ℕ) (q : ℕ) → IsEmpty s → Has s q → ⊥
 unfolding Has
-has-none s q e h = grind (arith, nat_tests, e, h)
+has_none s q e h = grind (arith, nat_tests, e, h)
 
 module _ (s n : BTreeSet ℕ) (k : ℕ) where
-  pub has-old : Updates nat_cmp s n k true → (q : ℕ) → Has s q → Has n q
+  pub has_old : Updates nat_cmp s n k true → (q : ℕ) → Has s q → Has n q
   unfolding Has
-  has-old up q h = grind (arith, nat_tests, up.0 q, h)
+  has_old up q h = grind (arith, nat_tests, up.0 q, h)
 
-  pub has-new : Updates nat_cmp s n k true → Has n k
+  pub has_new : Updates nat_cmp s n k true → Has n k
   unfolding Has
-  has-new up = grind (arith, nat_tests, up.0 k)
+  has_new up = grind (arith, nat_tests, up.0 k)
 
-  pub has-either : Updates nat_cmp s n k true → (q : ℕ) → Has n q → Has s q ⊎ (q ≡ k)
+  pub has_either : Updates nat_cmp s n k true → (q : ℕ) → Has n q → Has s q ⊎ (q ≡ k)
   unfolding Has
-  has-either up q h = grind (arith, nat_tests, up.0 q, h)
+  has_either up q h = grind (arith, nat_tests, up.0 q, h)
 
-  pub has-rest : Updates nat_cmp s n k false → (q : ℕ) → Has n q → Has s q × (q ≢ k)
+  pub has_rest : Updates nat_cmp s n k false → (q : ℕ) → Has n q → Has s q × (q ≢ k)
   unfolding Has
-  has-rest up q h = grind (arith, nat_tests, up.0 q, h)
+  has_rest up q h = grind (arith, nat_tests, up.0 q, h)
 
-  pub has-still : Updates nat_cmp s n k false → (q : ℕ) → Has s q → q ≢ k → Has n q
+  pub has_still : Updates nat_cmp s n k false → (q : ℕ) → Has s q → q ≢ k → Has n q
   unfolding Has
-  has-still up q h ne = grind (arith, nat_tests, up.0 q, h)
+  has_still up q h ne = grind (arith, nat_tests, up.0 q, h)
 
-pub has-least : (s : BTreeSet ℕ) (k : ℕ) → IsLowerBound nat_cmp s k → (q : ℕ) → Has s q → k ≤ q
+pub has_least : (s : BTreeSet ℕ) (k : ℕ) → IsLowerBound nat_cmp s k → (q : ℕ) → Has s q → k ≤ q
 unfolding Has
-has-least s k low q h = grind (arith, nat_tests, low q, h)
+has_least s k low q h = grind (arith, nat_tests, low q, h)
 
-pub has-member : (s : BTreeSet ℕ) (q : ℕ) → IsTrue (contains nat_cmp s q) → Has s q
+pub has_member : (s : BTreeSet ℕ) (q : ℕ) → IsTrue (contains nat_cmp s q) → Has s q
 unfolding Has
-has-member s q h = h
+has_member s q h = h
 
-empty-list : (xs : List ℕ) → (0 < length xs → false ≡ true) → xs ≡ []
-empty-list [] none = refl
-empty-list (x ∷ xs) none = absurd (false≢true (none (omega arith)))
+empty_list : (xs : List ℕ) → (0 < length xs → false ≡ true) → xs ≡ []
+empty_list [] none = refl
+empty_list (x ∷ xs) none = absurd (false≢true (none (omega arith)))
 
-pub empty-at : (s : BTreeSet ℕ) → (0 < length s.keys → false ≡ true) → IsEmpty s
-empty-at s none = empty-list s.keys none
+pub empty_at : (s : BTreeSet ℕ) → (0 < length s.keys → false ≡ true) → IsEmpty s
+empty_at s none = empty_list s.keys none

@@ -5,19 +5,19 @@ use Rattle.std.proofs.lemmas.Bool.Decides.{eqb_tells}
 use Rattle.mo_graph.specs.Order.{Leads}
 use Rattle.mo_graph.specs.Edges.{Edge, IsGraph, AreThreaded, HasThreads}
 use Rattle.mo_graph.specs.steps.Finishing.{unmarked, total, IsWalk, Walks, IsFinished}
-use Rattle.mo_graph.proofs.Chains.{below-next, leads-edge, edge-at, edge-where, unmarked-set, unmarked-all, total-set}
+use Rattle.mo_graph.proofs.Chains.{below_next, leads_edge, edge_at, edge_where, unmarked_set, unmarked_all, total_set}
 
-pub walk-begin : (m : ℕ) (sources targets path mark cursor order before : List ℕ) → IsGraph m sources targets → AreThreaded sources cursor before
+pub walk_begin : (m : ℕ) (sources targets path mark cursor order before : List ℕ) → IsGraph m sources targets → AreThreaded sources cursor before
     → length path ≡ m → length mark ≡ m → length cursor ≡ m → length order ≡ m → ((v : ℕ) → get_or mark v 0 ≡ 0)
     → Walks m sources targets path mark cursor order 0 0
-walk-begin m sources targets path mark cursor order before graph threads sp sm sc so clear = (
+walk_begin m sources targets path mark cursor order before graph threads sp sm sc so clear = (
   λ _. 0,
   record {
     path_all = sp;
     mark_all = sm;
     cursor_all = sc;
     order_all = so;
-    room = omega (arith, unmarked-all m mark (λ v l. clear v));
+    room = omega (arith, unmarked_all m mark (λ v l. clear v));
     path_in = λ s l. absurd (omega arith);
     order_in = λ a l. absurd (omega arith);
     met = λ v some. absurd (some (clear v));
@@ -34,18 +34,18 @@ walk-begin m sources targets path mark cursor order before graph threads sp sm s
 module _ (m : ℕ) (sources targets path mark cursor order : List ℕ) (top count : ℕ) (since : ℕ → ℕ)
     (walk : IsWalk m sources targets path mark cursor order top count since) where
   -- what leads from a finished vertex leads to a mark
-  finished-met : (a w : ℕ) → a < count → Edge sources targets (get_or order a 0) w → get_or mark w 0 ≢ 0
-  finished-met a w l edge =
-      let e = edge-where sources targets (get_or order a 0) w edge in
+  finished_met : (a w : ℕ) → a < count → Edge sources targets (get_or order a 0) w → get_or mark w 0 ≢ 0
+  finished_met a w l edge =
+      let e = edge_where sources targets (get_or order a 0) w edge in
       let closed : get_or cursor (get_or sources e.0 0) 0 ≡ 0 = rw e.2 (walk.order_in a l).2 in
       rw e.3 at (walk.looked e.0 e.1 (omega arith))
 
   module _ (w : ℕ) (wm : w < m) (free : get_or mark w 0 ≡ 0) (edge : 0 < top → Edge sources targets (get_or path (top - 1) 0) w) where
-    pub enter-room : top + count < m
-    enter-room = let falls = unmarked-set m mark w 1 wm walk.mark_all free (omega arith) in omega (arith, walk.room)
+    pub enter_room : top + count < m
+    enter_room = let falls = unmarked_set m mark w 1 wm walk.mark_all free (omega arith) in omega (arith, walk.room)
 
     p-at : get_or (set path top w) top 0 ≡ w
-    p-at = get_or-set_same path top w 0 (omega (arith, walk.path_all, enter-room))
+    p-at = get_or-set_same path top w 0 (omega (arith, walk.path_all, enter_room))
 
     p-off : (s : ℕ) → s < top → get_or (set path top w) s 0 ≡ get_or path s 0
     p-off s l = let ne : s ≢ top = omega arith in get_or-set_other path top s w 0 ne
@@ -70,16 +70,16 @@ module _ (m : ℕ) (sources targets path mark cursor order : List ℕ) (top coun
     unfolding now
     now-off s l = elim (eqb_tells s top) [ inl e ↦ absurd (omega (arith, e.1)) | inr e ↦ rw e.0 refl ]
 
-    pub walk-enter : Walks m sources targets (set path top w) (set mark w 1) cursor order (top + 1) count
-    walk-enter = (
+    pub walk_enter : Walks m sources targets (set path top w) (set mark w 1) cursor order (top + 1) count
+    walk_enter = (
       now,
       record {
         path_all = length-set path top w ∙ walk.path_all;
         mark_all = length-set mark w 1 ∙ walk.mark_all;
         cursor_all = walk.cursor_all;
         order_all = walk.order_all;
-        room = omega (arith, walk.room, unmarked-set m mark w 1 wm walk.mark_all free (omega arith));
-        path_in = λ s l. elim (below-next s top l) [
+        room = omega (arith, walk.room, unmarked_set m mark w 1 wm walk.mark_all free (omega arith));
+        path_in = λ s l. elim (below_next s top l) [
           | inl h ↦ rw (p-off s h) ((walk.path_in s h).0, m-kept (get_or path s 0) (walk.path_in s h).1)
           | inr e ↦ rw (e, p-at, m-at) (wm, omega arith)
         ];
@@ -93,27 +93,27 @@ module _ (m : ℕ) (sources targets path mark cursor order : List ℕ) (top coun
         ];
         at_cursor = walk.at_cursor;
         looked = λ x l le. m-kept (get_or targets x 0) (walk.looked x l le);
-        since_in = λ s l. elim (below-next s top l) [
+        since_in = λ s l. elim (below_next s top l) [
           | inl h ↦ rw (now-off s h) (walk.since_in s h)
           | inr e ↦ rw (e, now-at) (omega arith)
         ];
-        reach = λ s t le l. elim (below-next t top l) [
+        reach = λ s t le l. elim (below_next t top l) [
           | inl h ↦ rw (p-off t h, p-off s (omega arith)) (walk.reach s t le h)
           | inr e ↦ elim (eqb_tells s t) [
             | inl z ↦ rw z.1 Leads.none
             | inr z ↦
                 let sl : s < top = omega (arith, z.1) in
                 let last : top - 1 < top = omega arith in
-                rw (e, p-at, p-off s sl) (leads-edge (walk.reach s (top - 1) (omega arith) last) (edge (omega arith)))
+                rw (e, p-at, p-off s sl) (leads_edge (walk.reach s (top - 1) (omega arith) last) (edge (omega arith)))
           ]
         ];
-        below = λ s a l. elim (below-next s top l) [
+        below = λ s a l. elim (below_next s top l) [
           | inl h ↦ rw (now-off s h, p-off s h) (walk.below s a h)
           | inr e ↦ rw (e, now-at) (λ le al. absurd (omega arith))
         ];
-        still = λ a s al l. elim (below-next s top l) [
+        still = λ a s al l. elim (below_next s top l) [
           | inl h ↦ rw (now-off s h, p-off s h) (walk.still a s al h)
-          | inr e ↦ rw (e, p-at) (λ there. absurd (finished-met a w al there free))
+          | inr e ↦ rw (e, p-at) (λ there. absurd (finished_met a w al there free))
         ];
         back = walk.back;
       },
@@ -134,8 +134,8 @@ module _ (m : ℕ) (sources targets path mark cursor order : List ℕ) (top coun
     c-off : (u : ℕ) → u ≢ v → get_or (set cursor v (get_or before x 0)) u 0 ≡ get_or cursor u 0
     c-off u ne = get_or-set_other cursor v u (get_or before x 0) 0 ne
 
-    pub walk-look : IsWalk m sources targets path mark (set cursor v (get_or before x 0)) order top count since
-    walk-look = record {
+    pub walk_look : IsWalk m sources targets path mark (set cursor v (get_or before x 0)) order top count since
+    walk_look = record {
       path_all = walk.path_all;
       mark_all = walk.mark_all;
       cursor_all = length-set cursor v (get_or before x 0) ∙ walk.cursor_all;
@@ -169,32 +169,32 @@ module _ (m : ℕ) (sources targets path mark cursor order : List ℕ) (top coun
       back = walk.back;
     }
 
-    pub look-less : total m (set cursor v (get_or before x 0)) + 1 ≤ total m cursor
-    look-less = omega (arith, total-set m cursor v (get_or before x 0) vm walk.cursor_all, threads.falls x x-in.0)
+    pub look_less : total m (set cursor v (get_or before x 0)) + 1 ≤ total m cursor
+    look_less = omega (arith, total_set m cursor v (get_or before x 0) vm walk.cursor_all, threads.falls x x-in.0)
 
   -- the vertex at the end of the path is finished
   module _ (some : 0 < top) (v : ℕ) (v_is : get_or path (top - 1) 0 ≡ v) (over : get_or cursor v 0 ≡ 0) where
     last-in : top - 1 < top
     last-in = omega arith
 
-    pub finish-room : count < m
-    finish-room = omega (arith, walk.room)
+    pub finish_room : count < m
+    finish_room = omega (arith, walk.room)
 
     o-at : get_or (set order count v) count 0 ≡ v
-    o-at = get_or-set_same order count v 0 (omega (arith, walk.order_all, finish-room))
+    o-at = get_or-set_same order count v 0 (omega (arith, walk.order_all, finish_room))
 
     o-off : (a : ℕ) → a < count → get_or (set order count v) a 0 ≡ get_or order a 0
     o-off a l = let ne : a ≢ count = omega arith in get_or-set_other order count a v 0 ne
 
-    pub walk-finish : IsWalk m sources targets path mark cursor (set order count v) (top - 1) (count + 1) since
-    walk-finish = record {
+    pub walk_finish : IsWalk m sources targets path mark cursor (set order count v) (top - 1) (count + 1) since
+    walk_finish = record {
       path_all = walk.path_all;
       mark_all = walk.mark_all;
       cursor_all = walk.cursor_all;
       order_all = length-set order count v ∙ walk.order_all;
       room = omega (arith, walk.room);
       path_in = λ s l. walk.path_in s (omega arith);
-      order_in = λ a l. elim (below-next a count l) [
+      order_in = λ a l. elim (below_next a count l) [
         | inl h ↦ rw (o-off a h) (walk.order_in a h)
         | inr e ↦ let was = rw v_is at (walk.path_in (top - 1) last-in) in rw (e, o-at) (was.0, was.1, over)
       ];
@@ -209,15 +209,15 @@ module _ (m : ℕ) (sources targets path mark cursor order : List ℕ) (top coun
       looked = walk.looked;
       since_in = λ s l. omega (arith, walk.since_in s (omega arith));
       reach = λ s t le l. walk.reach s t le (omega arith);
-      below = λ s a l le al. elim (below-next a count al) [
+      below = λ s a l le al. elim (below_next a count al) [
         | inl h ↦ rw (o-off a h) (walk.below s a (omega arith) le h)
         | inr e ↦ rw (e, o-at, ← v_is) (walk.reach s (top - 1) (omega arith) last-in)
       ];
-      still = λ a s al l. elim (below-next a count al) [
+      still = λ a s al l. elim (below_next a count al) [
         | inl h ↦ rw (o-off a h) (walk.still a s h (omega arith))
         | inr e ↦ λ there. omega (arith, walk.since_in s (omega arith), e)
       ];
-      back = λ a b c ab bl. elim (below-next b count bl) [
+      back = λ a b c ab bl. elim (below_next b count bl) [
         | inl h ↦ rw (o-off b h, o-off a (omega arith)) (λ there ac cb. rw (o-off c (omega arith)) (walk.back a b c ab h there ac cb))
         | inr e ↦ rw (e, o-at) (λ there ac cb.
             let al : a < count = omega arith in
@@ -232,8 +232,8 @@ module _ (m : ℕ) (sources targets path mark cursor order : List ℕ) (top coun
       ];
     }
 
-  pub walk-over : top ≡ 0 → ((v : ℕ) → v < m → get_or mark v 0 ≢ 0) → IsFinished m sources targets order count
-  walk-over none all = record {
+  pub walk_over : top ≡ 0 → ((v : ℕ) → v < m → get_or mark v 0 ≢ 0) → IsFinished m sources targets order count
+  walk_over none all = record {
     size = walk.order_all;
     room = omega (arith, walk.room);
     in_range = λ a l. (walk.order_in a l).0;
@@ -246,41 +246,41 @@ module _ (m : ℕ) (sources targets path mark cursor order : List ℕ) (top coun
 
 module _ (sources targets path mark cursor order : List ℕ) (top count : ℕ) (walk : Walks (length mark) sources targets path mark cursor order top count) where
   -- the edge that is looked at next
-  pub next-edge : (v : ℕ) → get_or cursor v 0 ≢ 0 → (get_or cursor v 0 - 1 < length sources) × Edge sources targets v (get_or targets (get_or cursor v 0 - 1) 0)
-  next-edge v some =
+  pub next_edge : (v : ℕ) → get_or cursor v 0 ≢ 0 → (get_or cursor v 0 - 1 < length sources) × Edge sources targets v (get_or targets (get_or cursor v 0 - 1) 0)
+  next_edge v some =
       let at = walk.1.at_cursor v (omega arith) in
       let l : get_or cursor v 0 - 1 < length sources = omega (arith, at.0) in
-      (l, rw at.1 at (edge-at sources targets (get_or cursor v 0 - 1) l))
+      (l, rw at.1 at (edge_at sources targets (get_or cursor v 0 - 1) l))
 
-  pub path-room : (w : ℕ) → w < length mark → get_or mark w 0 ≡ 0 → top + count < length path
-  path-room w wm free = omega (arith, walk.1.path_all, walk.1.room, unmarked-set (length mark) mark w 1 wm refl free (omega arith))
+  pub path_room : (w : ℕ) → w < length mark → get_or mark w 0 ≡ 0 → top + count < length path
+  path_room w wm free = omega (arith, walk.1.path_all, walk.1.room, unmarked_set (length mark) mark w 1 wm refl free (omega arith))
 
-  pub walks-enter : (w : ℕ) → w < length mark → get_or mark w 0 ≡ 0 → (0 < top → Edge sources targets (get_or path (top - 1) 0) w)
+  pub walks_enter : (w : ℕ) → w < length mark → get_or mark w 0 ≡ 0 → (0 < top → Edge sources targets (get_or path (top - 1) 0) w)
       → Walks (length (set mark w 1)) sources targets (set path top w) (set mark w 1) cursor order (top + 1) count
-  walks-enter w wm free edge = rw (length-set mark w 1) (walk-enter (length mark) sources targets path mark cursor order top count walk.0 walk.1 w wm free edge)
+  walks_enter w wm free edge = rw (length-set mark w 1) (walk_enter (length mark) sources targets path mark cursor order top count walk.0 walk.1 w wm free edge)
 
-  pub enter-less : (w : ℕ) → w < length mark → get_or mark w 0 ≡ 0
+  pub enter_less : (w : ℕ) → w < length mark → get_or mark w 0 ≡ 0
       → total (length (set mark w 1)) cursor + 2 * unmarked (length (set mark w 1)) (set mark w 1) + (top + 1) < total (length mark) cursor + 2 * unmarked (length mark) mark + top
-  enter-less w wm free = rw (length-set mark w 1) (omega (arith, unmarked-set (length mark) mark w 1 wm refl free (omega arith)))
+  enter_less w wm free = rw (length-set mark w 1) (omega (arith, unmarked_set (length mark) mark w 1 wm refl free (omega arith)))
 
   module _ (before : List ℕ) (threads : HasThreads sources before) (v : ℕ) (vm : v < length mark) (some : get_or cursor v 0 ≢ 0)
       (seen : get_or mark (get_or targets (get_or cursor v 0 - 1) 0) 0 ≢ 0) where
-    pub walks-look : Walks (length mark) sources targets path mark (set cursor v (get_or before (get_or cursor v 0 - 1) 0)) order top count
-    walks-look = (walk.0, walk-look (length mark) sources targets path mark cursor order top count walk.0 walk.1 threads.0 before threads.1 v (get_or cursor v 0 - 1) vm (omega arith) seen)
+    pub walks_look : Walks (length mark) sources targets path mark (set cursor v (get_or before (get_or cursor v 0 - 1) 0)) order top count
+    walks_look = (walk.0, walk_look (length mark) sources targets path mark cursor order top count walk.0 walk.1 threads.0 before threads.1 v (get_or cursor v 0 - 1) vm (omega arith) seen)
 
-    pub walks-less : total (length mark) (set cursor v (get_or before (get_or cursor v 0 - 1) 0)) + 2 * unmarked (length mark) mark + top < total (length mark) cursor + 2 * unmarked (length mark) mark + top
-    walks-less =
-        let less = look-less (length mark) sources targets path mark cursor order top count walk.0 walk.1 threads.0 before threads.1 v (get_or cursor v 0 - 1) vm (omega arith) seen in
+    pub walks_less : total (length mark) (set cursor v (get_or before (get_or cursor v 0 - 1) 0)) + 2 * unmarked (length mark) mark + top < total (length mark) cursor + 2 * unmarked (length mark) mark + top
+    walks_less =
+        let less = look_less (length mark) sources targets path mark cursor order top count walk.0 walk.1 threads.0 before threads.1 v (get_or cursor v 0 - 1) vm (omega arith) seen in
         omega arith
 
-  pub walks-finish : 0 < top → get_or cursor (get_or path (top - 1) 0) 0 ≡ 0 → Walks (length mark) sources targets path mark cursor (set order count (get_or path (top - 1) 0)) (top - 1) (count + 1)
-  walks-finish some over = (walk.0, walk-finish (length mark) sources targets path mark cursor order top count walk.0 walk.1 some (get_or path (top - 1) 0) refl over)
+  pub walks_finish : 0 < top → get_or cursor (get_or path (top - 1) 0) 0 ≡ 0 → Walks (length mark) sources targets path mark cursor (set order count (get_or path (top - 1) 0)) (top - 1) (count + 1)
+  walks_finish some over = (walk.0, walk_finish (length mark) sources targets path mark cursor order top count walk.0 walk.1 some (get_or path (top - 1) 0) refl over)
 
-pub kept-by : (mark : List ℕ) (w v : ℕ) → w < length mark → get_or mark v 0 ≢ 0 → get_or (set mark w 1) v 0 ≢ 0
-kept-by mark w v l some = elim (eqb_tells v w) [
+pub kept_by : (mark : List ℕ) (w v : ℕ) → w < length mark → get_or mark v 0 ≢ 0 → get_or (set mark w 1) v 0 ≢ 0
+kept_by mark w v l some = elim (eqb_tells v w) [
   | inl e ↦ let at : get_or (set mark w 1) w 0 ≡ 1 = get_or-set_same mark w 1 0 l in rw (e.1, at) (omega arith)
   | inr e ↦ rw (get_or-set_other mark w v 1 0 e.1) some
 ]
 
-pub kept-same : (mark : List ℕ) (w : ℕ) → w < length mark → get_or (set mark w 1) w 0 ≢ 0
-kept-same mark w l = let at : get_or (set mark w 1) w 0 ≡ 1 = get_or-set_same mark w 1 0 l in rw at (omega arith)
+pub kept_same : (mark : List ℕ) (w : ℕ) → w < length mark → get_or (set mark w 1) w 0 ≢ 0
+kept_same mark w l = let at : get_or (set mark w 1) w 0 ≡ 1 = get_or-set_same mark w 1 0 l in rw at (omega arith)

@@ -8,8 +8,8 @@ use Rattle.mo_graph.specs.Counting.{sum_below}
 use Rattle.mo_incidence.specs.Signature.{Signature, equations, row_len, unknown_at, order_at, entries, IsSound}
 use Rattle.mo_incidence.specs.Flat.{row_at, signature, IsCut, IsFlat}
 use Rattle.mo_incidence.specs.steps.Given.{given, IsRow}
-use Rattle.mo_graph.proofs.Counting.{sum-same, sum-more}
-use Rattle.mo_incidence.proofs.Rows.{equations-signature, rows-signature, entries-signature}
+use Rattle.mo_graph.proofs.Counting.{sum_same, sum_more}
+use Rattle.mo_incidence.proofs.Rows.{equations_signature, rows_signature, entries_signature}
 
 -- the row is right up to place k, before which `before` is the unknown, or 0 at the start
 pub record IsRowTo (unknowns : ℕ) (row : List (ℕ × ℕ)) (k before : ℕ) : Type 0 where
@@ -19,8 +19,8 @@ pub record IsRowTo (unknowns : ℕ) (row : List (ℕ × ℕ)) (k before : ℕ) :
   pub start : k ≡ 0 → before ≡ 0
   pub last : (i : ℕ) → i + 1 ≡ k → before ≡ (get_or row i (0, 0)).0
 
-pub row-none : (unknowns : ℕ) (row : List (ℕ × ℕ)) → IsRowTo unknowns row 0 0
-row-none unknowns row = record {
+pub row_none : (unknowns : ℕ) (row : List (ℕ × ℕ)) → IsRowTo unknowns row 0 0
+row_none unknowns row = record {
   known = λ i l. absurd (omega arith);
   ascending = λ i l. absurd (omega arith);
   low = λ i l. absurd (omega arith);
@@ -28,9 +28,9 @@ row-none unknowns row = record {
   last = λ i e. absurd (omega arith);
 }
 
-pub row-next : (unknowns : ℕ) (row : List (ℕ × ℕ)) (k before : ℕ) (entry : ℕ × ℕ) → IsRowTo unknowns row k before → entry ≡ get_or row k (0, 0)
+pub row_next : (unknowns : ℕ) (row : List (ℕ × ℕ)) (k before : ℕ) (entry : ℕ × ℕ) → IsRowTo unknowns row k before → entry ≡ get_or row k (0, 0)
     → (before < entry.0) × (entry.0 ≤ unknowns) × (entry.1 < 65536) → IsRowTo unknowns row (k + 1) entry.0
-row-next unknowns row k before entry to is next =
+row_next unknowns row k before entry to is next =
     let unknown_is : entry.0 ≡ (get_or row k (0, 0)).0 = ap (λ (e : ℕ × ℕ). e.0) is in
     let order_is : entry.1 ≡ (get_or row k (0, 0)).1 = ap (λ (e : ℕ × ℕ). e.1) is in
     record {
@@ -50,16 +50,16 @@ row-next unknowns row k before entry to is next =
       last = λ i e. let same : i ≡ k = omega arith in rw same unknown_is;
     }
 
-pub row-end : (unknowns : ℕ) (row : List (ℕ × ℕ)) (k before : ℕ) → IsRowTo unknowns row k before → k ≡ length row → IsRow unknowns row
-row-end unknowns row k before to e = record {
+pub row_end : (unknowns : ℕ) (row : List (ℕ × ℕ)) (k before : ℕ) → IsRowTo unknowns row k before → k ≡ length row → IsRow unknowns row
+row_end unknowns row k before to e = record {
   known = λ i l. to.known i (omega arith);
   ascending = λ i l. to.ascending i (omega arith);
   low = λ i l. to.low i (omega arith);
 }
 
-pub row-stops : (unknowns : ℕ) (row : List (ℕ × ℕ)) (k before : ℕ) (entry : ℕ × ℕ) → IsRowTo unknowns row k before → entry ≡ get_or row k (0, 0)
+pub row_stops : (unknowns : ℕ) (row : List (ℕ × ℕ)) (k before : ℕ) (entry : ℕ × ℕ) → IsRowTo unknowns row k before → entry ≡ get_or row k (0, 0)
     → k < length row → IsRow unknowns row → (before < entry.0) × (entry.0 ≤ unknowns) × (entry.1 < 65536)
-row-stops unknowns row k before entry to is inside right =
+row_stops unknowns row k before entry to is inside right =
     let unknown_is : entry.0 ≡ (get_or row k (0, 0)).0 = ap (λ (e : ℕ × ℕ). e.0) is in
     let order_is : entry.1 ≡ (get_or row k (0, 0)).1 = ap (λ (e : ℕ × ℕ). e.1) is in
     let known = right.known k inside in
@@ -74,14 +74,14 @@ row-stops unknowns row k before entry to is inside right =
     ] in
     (above, omega (arith, known.1), omega arith)
 
-pub equations-given : (u : ℕ) (rows : List (Vec (ℕ × ℕ) Global)) → equations (given u rows) ≡ length rows
+pub equations_given : (u : ℕ) (rows : List (Vec (ℕ × ℕ) Global)) → equations (given u rows) ≡ length rows
 unfolding equations given
-equations-given u rows = length-map rows (λ row. row.items)
+equations_given u rows = length-map rows (λ row. row.items)
 
-pub row-given : (u : ℕ) (rows : List (Vec (ℕ × ℕ) Global)) (i : ℕ) (row : Vec (ℕ × ℕ) Global) → i < length rows → row ≡ get_or rows i row
+pub row_given : (u : ℕ) (rows : List (Vec (ℕ × ℕ) Global)) (i : ℕ) (row : Vec (ℕ × ℕ) Global) → i < length rows → row ≡ get_or rows i row
     → get_or (given u rows).rows i [] ≡ row.items
 unfolding given
-row-given u rows i row l is = get_or-map (λ (r : Vec (ℕ × ℕ) Global). r.items) rows i row [] l ∙ ap (λ (r : Vec (ℕ × ℕ) Global). r.items) (sym is)
+row_given u rows i row l is = get_or-map (λ (r : Vec (ℕ × ℕ) Global). r.items) rows i row [] l ∙ ap (λ (r : Vec (ℕ × ℕ) Global). r.items) (sym is)
 
 -- the first `done` rows are right, and stand one after another
 pub record IsBuiltTo (g : Signature) (done : ℕ) (starts : List ℕ) (flat : List (ℕ × ℕ)) : Type 0 where
@@ -91,8 +91,8 @@ pub record IsBuiltTo (g : Signature) (done : ℕ) (starts : List ℕ) (flat : Li
   pub right : (i : ℕ) → i < done → IsRow g.unknowns (get_or g.rows i [])
   pub few : length flat ≤ 1000000
 
-pub built-none : (g : Signature) (starts : List ℕ) (flat : List (ℕ × ℕ)) → starts ≡ 0 ∷ [] → flat ≡ [] → IsBuiltTo g 0 starts flat
-built-none g starts flat starts_are flat_is =
+pub built_none : (g : Signature) (starts : List ℕ) (flat : List (ℕ × ℕ)) → starts ≡ 0 ∷ [] → flat ≡ [] → IsBuiltTo g 0 starts flat
+built_none g starts flat starts_are flat_is =
     let count : length starts ≡ 1 = ap length starts_are in
     let none : length flat ≡ 0 = ap length flat_is in
     let zero_first : (i : ℕ) → i < 1 → get_or starts i 0 ≡ 0 = λ i l. let at : i ≡ 0 = omega arith in rw (at, starts_are) refl in
@@ -111,8 +111,8 @@ built-none g starts flat starts_are flat_is =
     }
 
 module _ (g : Signature) (done : ℕ) (starts : List ℕ) (flat : List (ℕ × ℕ)) (to : IsBuiltTo g done starts flat) where
-  built-last : get_or starts done 0 ≡ length flat
-  built-last =
+  built_last : get_or starts done 0 ≡ length flat
+  built_last =
       let at : length starts - 1 ≡ done = omega (arith, to.count) in
       rw at at to.cut.last
 
@@ -141,7 +141,7 @@ module _ (g : Signature) (done : ℕ) (starts : List ℕ) (flat : List (ℕ × �
 
     new-row : row_at starts' flat' done ≡ row
     new-row =
-        let here = old-start done (omega (arith, to.count)) ∙ built-last in
+        let here = old-start done (omega (arith, to.count)) ∙ built_last in
         let next = new-start (done + 1) (omega (arith, to.count)) in
         let size : length flat' - length flat ≡ length row = omega (arith, longer) in
         rw (here, next, size, flat_is, drop-append_seam flat row) (take-length row)
@@ -172,8 +172,8 @@ module _ (g : Signature) (done : ℕ) (starts : List ℕ) (flat : List (ℕ × �
       ];
     }
 
-    pub built-next : IsBuiltTo g (done + 1) starts' flat'
-    built-next = record {
+    pub built_next : IsBuiltTo g (done + 1) starts' flat'
+    built_next = record {
       cut = cut';
       count = count';
       rows = λ i l. elim (eqb_tells i done) [
@@ -187,53 +187,53 @@ module _ (g : Signature) (done : ℕ) (starts : List ℕ) (flat : List (ℕ × �
       few = few;
     }
 
-  pub built-entries : sum_below (row_len g) done ≡ length flat
+  pub built_entries : sum_below (row_len g) done ≡ length flat
   unfolding row_len entries
-  built-entries =
-      let size : equations (signature g.unknowns starts flat) ≡ done = omega (arith, equations-signature g.unknowns starts flat, to.count) in
+  built_entries =
+      let size : equations (signature g.unknowns starts flat) ≡ done = omega (arith, equations_signature g.unknowns starts flat, to.count) in
       let same : (i : ℕ) → i < done → row_len g i ≡ row_len (signature g.unknowns starts flat) i =
-      λ i l. ap length (to.rows i l ∙ sym (rows-signature g.unknowns starts flat i (omega (arith, to.count)))) in
-      sum-same (row_len g) (row_len (signature g.unknowns starts flat)) done same ∙ rw size at (entries-signature g.unknowns starts flat to.cut)
+      λ i l. ap length (to.rows i l ∙ sym (rows_signature g.unknowns starts flat i (omega (arith, to.count)))) in
+      sum_same (row_len g) (row_len (signature g.unknowns starts flat)) done same ∙ rw size at (entries_signature g.unknowns starts flat to.cut)
 
 -- the rows of a sound signature matrix are right, and no more than its entries are in the first of them
-pub sound-row : (g : Signature) (i : ℕ) (row : List (ℕ × ℕ)) → IsSound g → i < equations g → get_or g.rows i [] ≡ row → IsRow g.unknowns row
+pub sound_row : (g : Signature) (i : ℕ) (row : List (ℕ × ℕ)) → IsSound g → i < equations g → get_or g.rows i [] ≡ row → IsRow g.unknowns row
 unfolding row_len unknown_at order_at
-sound-row g i row sound l is =
+sound_row g i row sound l is =
     let there : IsRow g.unknowns (get_or g.rows i []) = record { known = λ k kl. sound.known i k l kl; ascending = λ k kl. sound.ascending i k l kl; low = λ k kl. sound.low i k l kl } in
     rw is at there
 
-pub too-many : (g : Signature) (done : ℕ) (starts : List ℕ) (flat row : List (ℕ × ℕ)) → IsBuiltTo g done starts flat → IsSound g → done < equations g
+pub too_many : (g : Signature) (done : ℕ) (starts : List ℕ) (flat row : List (ℕ × ℕ)) → IsBuiltTo g done starts flat → IsSound g → done < equations g
     → get_or g.rows done [] ≡ row → length flat + length row ≤ 1000000
 unfolding row_len entries
-too-many g done starts flat row to sound l is =
-    let before : sum_below (row_len g) done ≡ length flat = built-entries g done starts flat to in
+too_many g done starts flat row to sound l is =
+    let before : sum_below (row_len g) done ≡ length flat = built_entries g done starts flat to in
     let here : row_len g done ≡ length row = ap length is in
-    let more : sum_below (row_len g) (suc done) ≤ entries g = sum-more (row_len g) (suc done) (equations g) (omega arith) in
+    let more : sum_below (row_len g) (suc done) ≤ entries g = sum_more (row_len g) (suc done) (equations g) (omega arith) in
     let few : entries g ≤ 1000000 = sound.few_entries in
     omega arith
 
 module _ (g : Signature) (starts : List ℕ) (flat : List (ℕ × ℕ)) (to : IsBuiltTo g (equations g) starts flat) where
-  rows-same : (signature g.unknowns starts flat).rows ≡ g.rows
+  rows_same : (signature g.unknowns starts flat).rows ≡ g.rows
   unfolding equations
-  rows-same =
-      let size : equations (signature g.unknowns starts flat) ≡ equations g = omega (arith, equations-signature g.unknowns starts flat, to.count) in
+  rows_same =
+      let size : equations (signature g.unknowns starts flat) ≡ equations g = omega (arith, equations_signature g.unknowns starts flat, to.count) in
       ext_get_or [] (signature g.unknowns starts flat).rows g.rows size
-      (λ i l. rows-signature g.unknowns starts flat i (omega (arith, to.count, size)) ∙ sym (to.rows i (omega (arith, size))))
+      (λ i l. rows_signature g.unknowns starts flat i (omega (arith, to.count, size)) ∙ sym (to.rows i (omega (arith, size))))
 
-  pub built-end : signature g.unknowns starts flat ≡ g
+  pub built_end : signature g.unknowns starts flat ≡ g
   unfolding signature
-  built-end = ap (λ (rs : List (List (ℕ × ℕ))). let made : Signature = record { unknowns = g.unknowns; rows = rs } in made) rows-same
+  built_end = ap (λ (rs : List (List (ℕ × ℕ))). let made : Signature = record { unknowns = g.unknowns; rows = rs } in made) rows_same
 
-  pub built-sound : equations g ≤ 50000 → g.unknowns ≤ 50000 → IsSound g
+  pub built_sound : equations g ≤ 50000 → g.unknowns ≤ 50000 → IsSound g
   unfolding row_len unknown_at order_at entries
-  built-sound few_equations few_unknowns = record {
+  built_sound few_equations few_unknowns = record {
     known = λ i k l kl. (to.right i l).known k kl;
     ascending = λ i k l kl. (to.right i l).ascending k kl;
     low = λ i k l kl. (to.right i l).low k kl;
     few_equations = few_equations;
     few_unknowns = few_unknowns;
-    few_entries = let all : entries g ≡ length flat = built-entries g (equations g) starts flat to in omega (arith, to.few);
+    few_entries = let all : entries g ≡ length flat = built_entries g (equations g) starts flat to in omega (arith, to.few);
   }
 
-  pub built-flat : equations g ≤ 50000 → g.unknowns ≤ 50000 → IsFlat g.unknowns starts flat
-  built-flat few_equations few_unknowns = record { cut = to.cut; sound = rw built-end (built-sound few_equations few_unknowns) }
+  pub built_flat : equations g ≤ 50000 → g.unknowns ≤ 50000 → IsFlat g.unknowns starts flat
+  built_flat few_equations few_unknowns = record { cut = to.cut; sound = rw built_end (built_sound few_equations few_unknowns) }

@@ -3,7 +3,7 @@ use Rattle.std.proofs.Common.{◌≡◌, ℕ, zero, suc, ◌+◌, ◌-◌, ◌<�
 use Rattle.std.specs.Prelude.{max, min, nat_eq, flat_map, if◌then◌else◌}
 use Rattle.std.proofs.lemmas.Bool.Decides.{nat_tests}
 use Rattle.mo_flat.specs.declared.expr.FlatExpr.{FlatExpr, FlatExpr-F, map-FlatExpr}
-use Rattle.mo_symdiff.proofs.SigmaAt.{greatest-append}
+use Rattle.mo_symdiff.proofs.SigmaAt.{greatest_append}
 use Rattle.mo_symdiff.proofs.SigmaGather.{Related, folds_related, gathered, gather_node, greatest_by}
 use Rattle.mo_symdiff.proofs.SigmaOrders.{add, order_var}
 use Rattle.mo_incidence.specs.steps.Gathered.{found, found_at, found_node}
@@ -25,7 +25,7 @@ joined (suc n) (suc k) around x y z e a b c d p = let f = b (omega arith) in let
 
 both : (j n k around : ℕ) (es fs : List (ℕ × ℕ)) → Tells j n around es → Tells j k around fs → Tells j (max n k) around (es ++ fs)
 both j n k around es fs h g =
-    let ranks = greatest-append (entry_rank j) es fs in
+    let ranks = greatest_append (entry_rank j) es fs in
     record {
       none = λ z. (let e = h.none (omega arith) in let f = g.none (omega arith) in omega arith);
       some = λ p l. joined n k around (greatest_by (entry_rank j) es) (greatest_by (entry_rank j) fs) (greatest_by (entry_rank j) (es ++ fs)) ranks h.none (λ q. h.some q (omega arith)) g.none (λ q. g.some q (omega arith)) p;
@@ -103,7 +103,7 @@ none_in_range m = record { high = omega arith; low = refl }
 
 pub both_in_range : (m : ℕ) (es fs : List (ℕ × ℕ)) → InRange m es → InRange m fs → InRange m (es ++ fs)
 both_in_range m es fs h g =
-    let highs = greatest-append (λ x. x.0 + 1) es fs in let lows = greatest-append (λ x. 1 - x.0) es fs in
+    let highs = greatest_append (λ x. x.0 + 1) es fs in let lows = greatest_append (λ x. 1 - x.0) es fs in
     let a = h.high in let b = g.high in let c = h.low in let d = g.low in
     record { high = omega arith; low = omega arith }
 

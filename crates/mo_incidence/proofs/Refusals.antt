@@ -28,9 +28,9 @@ row_at vars (q ∷ qs) all (suc i) h = row_at vars qs (All-tail (IsSoundEquation
 row_facts : (vars : List FlatVar) (qs : List FlatEquation) → All (IsSoundEquation vars) qs → (i : ℕ) → i < length (map (row_of vars) qs) → IsRowFrom 1 (length (unknown_numbers vars)) (get_or (map (row_of vars) qs) i [])
 row_facts vars qs all i h = let r = row_at vars qs all i h in subst (λ l. IsRowFrom 1 (length (unknown_numbers vars)) l) (sym r.1) (row_is_sound vars r.0 r.2)
 
-length-map : {A B : Type 0} (f : A → B) (xs : List A) → length (map f xs) ≡ length xs
-length-map f [] = refl
-length-map f (x ∷ xs) = let e = length-map f xs in omega arith
+length_map : {A B : Type 0} (f : A → B) (xs : List A) → length (map f xs) ≡ length xs
+length_map f [] = refl
+length_map f (x ∷ xs) = let e = length_map f xs in omega arith
 
 pub sound_where_few : (m : FlatModel) → IsSoundModel m → entries (incidence_of m) ≤ 1000000 → IsSound (incidence_of m)
 unfolding incidence_of equations row_len unknown_at order_at
@@ -38,7 +38,7 @@ sound_where_few m s few = record {
   known = λ i k h l. (let r = (row_facts m.vars m.equations s.equations i h).known k l in let a = r.0 in let b = r.1 in ((omega arith), (omega arith)));
   ascending = λ i k h l. (row_facts m.vars m.equations s.equations i h).ascending k l;
   low = λ i k h l. (row_facts m.vars m.equations s.equations i h).low k l;
-  few_equations = (let e = length-map (row_of m.vars) m.equations in let f = s.equation_count in omega arith);
+  few_equations = (let e = length_map (row_of m.vars) m.equations in let f = s.equation_count in omega arith);
   few_unknowns = s.unknown_count;
   few_entries = few;
 }

@@ -7,14 +7,14 @@ use Rattle.mo_flat.specs.declared.model.FlatVar.{FlatVar}
 use Rattle.mo_flat.specs.Roles.{unknown_numbers}
 use Rattle.mo_flat.specs.Sound.{IsSoundEquation, orders_fit}
 use Rattle.mo_symdiff.specs.Sigma.{higher, sigma}
-use Rattle.mo_symdiff.proofs.SigmaAt.{greatest-append}
+use Rattle.mo_symdiff.proofs.SigmaAt.{greatest_append}
 use Rattle.mo_symdiff.proofs.SigmaGather.{gathered, greatest_by}
 use Rattle.mo_symdiff.proofs.SigmaLaws.{gathered_fits, sigma_raised_by}
 use Rattle.mo_symdiff.proofs.SigmaOrders.{add, order_var, raised_gathered, rank}
 use Rattle.mo_incidence.specs.steps.Gathered.{found, last_of_each, unknown_places}
 use Rattle.mo_incidence.specs.Model.{entries_from, entry_of, order_in, row_of}
 use Rattle.mo_incidence.proofs.Found.{IsPlace, both_in_range, found_in_range, found_tells}
-use Rattle.mo_incidence.proofs.Sorting.{Below, Matches, StartsAt, ascends, entry_rank, greatest-permutation, row_from_sorted}
+use Rattle.mo_incidence.proofs.Sorting.{Below, Matches, StartsAt, ascends, entry_rank, greatest_permutation, row_from_sorted}
 use Rattle.mo_incidence.proofs.Unknowns.{numbered_all, unknowns_are}
 
 -- the entries of both sides
@@ -59,7 +59,7 @@ equation_rank vars q s i h =
     let left = side_rank vars q.left i h s.left.sound.orders in let right = side_rank vars q.right i h s.right.sound.orders in
     let l = left.0 in let l' = left.1 in let r = right.0 in let r' = right.1 in
     let whole = rank_higher (sigma vars q.left v) (sigma vars q.right v) in
-    let entries = greatest-append (entry_rank (i + 1)) (found (unknown_places vars) q.left 0) (found (unknown_places vars) q.right 0) in
+    let entries = greatest_append (entry_rank (i + 1)) (found (unknown_places vars) q.left 0) (found (unknown_places vars) q.right 0) in
     ((omega arith), (omega arith))
 
 matches_from : (order : ℕ → Option ℕ) (j : ℕ) (vs : List ℕ) (es : List (ℕ × ℕ)) → ((i : ℕ) → i < length vs → rank (order (get_or vs i 0)) ≡ greatest_by (entry_rank (j + i)) es) → Matches order j vs es
@@ -82,12 +82,12 @@ row_law vars q es s p sorted =
     let range = both_in_range m (found (unknown_places vars) q.left 0) (found (unknown_places vars) q.right 0)
     (found_in_range (unknown_places vars) m within q.left 0) (found_in_range (unknown_places vars) m within q.right 0) in
     let high = range.high in let low = range.low in
-    let high' = greatest-permutation (λ x. x.0 + 1) (entries_of vars q) es p in
-    let low' = greatest-permutation (λ x. 1 - x.0) (entries_of vars q) es p in
+    let high' = greatest_permutation (λ x. x.0 + 1) (entries_of vars q) es p in
+    let low' = greatest_permutation (λ x. 1 - x.0) (entries_of vars q) es p in
     row_from_sorted (order_in vars q) 1 (unknown_numbers vars) es (ascends es sorted) (starts es (low' ∙ low)) (omega arith)
     (matches_from (order_in vars q) 1 (unknown_numbers vars) es (λ i h.
     let e = (equation_rank vars q s i h).0 in
-    let same = greatest-permutation (entry_rank (i + 1)) (entries_of vars q) es p in
+    let same = greatest_permutation (entry_rank (i + 1)) (entries_of vars q) es p in
     let number : i + 1 ≡ 1 + i = omega arith in
     subst (λ n. rank (order_in vars q (get_or (unknown_numbers vars) i 0)) ≡ greatest_by (entry_rank n) es) number (e ∙ sym same)))
 

@@ -19,11 +19,11 @@ most_below : {X : Type 0} (f : X → ℕ) (xs : List X) (n : ℕ) → All (λ x.
 most_below f [] n h = omega arith
 most_below f (x ∷ xs) n h = let a = All-head (λ x. f x ≤ n) x xs h in let b = most_below f xs n (All-tail (λ x. f x ≤ n) x xs h) in omega arith
 
-below-permutation : {X : Type 0} (f : X → ℕ) (xs ys : List X) → IsPermutation xs ys → greatest_by f ys ≤ greatest_by f xs
-below-permutation f xs ys h = most_below f ys (greatest_by f xs) (All-permutation (λ x. f x ≤ greatest_by f xs) xs ys h (each_below f xs (greatest_by f xs) (omega arith)))
+below_permutation : {X : Type 0} (f : X → ℕ) (xs ys : List X) → IsPermutation xs ys → greatest_by f ys ≤ greatest_by f xs
+below_permutation f xs ys h = most_below f ys (greatest_by f xs) (All-permutation (λ x. f x ≤ greatest_by f xs) xs ys h (each_below f xs (greatest_by f xs) (omega arith)))
 
-pub greatest-permutation : {X : Type 0} (f : X → ℕ) (xs ys : List X) → IsPermutation xs ys → greatest_by f ys ≡ greatest_by f xs
-greatest-permutation f xs ys h = let a = below-permutation f xs ys h in let b = below-permutation f ys xs (IsPermutation-sym xs ys h) in omega arith
+pub greatest_permutation : {X : Type 0} (f : X → ℕ) (xs ys : List X) → IsPermutation xs ys → greatest_by f ys ≡ greatest_by f xs
+greatest_permutation f xs ys h = let a = below_permutation f xs ys h in let b = below_permutation f ys xs (IsPermutation-sym xs ys h) in omega arith
 
 -- x may stand before y
 pub record Before (x y : ℕ × ℕ) : Type 0 where

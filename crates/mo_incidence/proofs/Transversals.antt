@@ -9,12 +9,12 @@ use Rattle.mo_incidence.specs.Transversal.{Precedes, IsLeastSequence}
 
 module _ (g : Signature) (c d t u : ℕ → ℕ) (tight : Assigns (IsTight g c d) (equations g) t) (covers : CoversAll g t) (least : IsLeastSequence g c d t)
     (tight' : Assigns (IsTight g c d) (equations g) u) (covers' : CoversAll g u) (least' : IsLeastSequence g c d u) where
-  same-below : (n : ℕ) → ((i : ℕ) → i < n → i < equations g → t i ≡ u i)
-  same-below zero i l il = absurd (omega arith)
-  same-below (suc n) i l il = elim (eqb_tells i n) [
-    | inr e ↦ same-below n i (omega (arith, e.1)) il
+  same_below : (n : ℕ) → ((i : ℕ) → i < n → i < equations g → t i ≡ u i)
+  same_below zero i l il = absurd (omega arith)
+  same_below (suc n) i l il = elim (eqb_tells i n) [
+    | inr e ↦ same_below n i (omega (arith, e.1)) il
     | inl e ↦
-        let before : (k : ℕ) → k < i → t k ≡ u k = λ k kl. same-below n k (omega (arith, e.1)) (omega arith) in
+        let before : (k : ℕ) → k < i → t k ≡ u k = λ k kl. same_below n k (omega (arith, e.1)) (omega arith) in
         elim (cases_lt (t i) (u i)) [
           | inl h ↦ absurd (least'.none t tight covers (record { place = i; below = il; same = before; less = h }))
           | inr h ↦ elim (cases_lt (u i) (t i)) [
@@ -24,5 +24,5 @@ module _ (g : Signature) (c d t u : ℕ → ℕ) (tight : Assigns (IsTight g c d
         ]
   ]
 
-  pub one-transversal : (i : ℕ) → i < equations g → t i ≡ u i
-  one-transversal i l = same-below (equations g) i l l
+  pub one_transversal : (i : ℕ) → i < equations g → t i ≡ u i
+  one_transversal i l = same_below (equations g) i l l

@@ -9,50 +9,50 @@ use Rattle.mo_incidence.specs.declared.findings.Deficit.{Deficit}
 use Rattle.mo_incidence.specs.Blocks.{numbers_in}
 use Rattle.mo_report.specs.declared.report.Report.{Report}
 use Rattle.mo_report.specs.Same.{SaySame, deficit_lists, offset_lists}
-use Rattle.mo_report.proofs.SameLines.{deficit-is, offsets-are, both-none, none-both, offsets-none, none-offsets}
+use Rattle.mo_report.proofs.SameLines.{deficit_is, offsets_are, both_none, none_both, offsets_none, none_offsets}
 use Rattle.mo_json.specs.Values.{listed, numbers_data, data_below, equation_data, unknown_data, equations_data, unknowns_data, singular_data, undetermined_data, square_data, found_data, part_data, report_data, json_line}
 
-blocks-data : (blocks : List (Vec ℕ Global)) → map (λ block. numbers_data block.items) blocks ≡ map numbers_data (numbers_in blocks)
-blocks-data [] = refl
-blocks-data (block ∷ blocks) = ap (λ (more : List Data). numbers_data block.items ∷ more) (blocks-data blocks)
+blocks_data : (blocks : List (Vec ℕ Global)) → map (λ block. numbers_data block.items) blocks ≡ map numbers_data (numbers_in blocks)
+blocks_data [] = refl
+blocks_data (block ∷ blocks) = ap (λ (more : List Data). numbers_data block.items ∷ more) (blocks_data blocks)
 
-last-as : (xs ys : List Data) (x y : Data) → xs ≡ ys → x ≡ y → xs ++ x ∷ [] ≡ ys ++ y ∷ []
-last-as xs ys x y e f = rw (e, f) refl
+last_as : (xs ys : List Data) (x y : Data) → xs ≡ ys → x ≡ y → xs ++ x ∷ [] ≡ ys ++ y ∷ []
+last_as xs ys x y e f = rw (e, f) refl
 
-below-as : (f f' : ℕ → Data) → ((i : ℕ) → f i ≡ f' i) → (n : ℕ) → data_below f n ≡ data_below f' n
-below-as f f' each zero = refl
-below-as f f' each (suc n) = last-as (data_below f n) (data_below f' n) (f n) (f' n) (below-as f f' each n) (each n)
+below_as : (f f' : ℕ → Data) → ((i : ℕ) → f i ≡ f' i) → (n : ℕ) → data_below f n ≡ data_below f' n
+below_as f f' each zero = refl
+below_as f f' each (suc n) = last_as (data_below f n) (data_below f' n) (f n) (f' n) (below_as f f' each n) (each n)
 
 either : (b : Bool) (x x' y y' : Data) → x ≡ x' → y ≡ y' → (if b then x else y) ≡ (if b then x' else y')
 either true x x' y y' e f = e
 either false x x' y y' e f = f
 
 module _ (r s : Report) (say : SaySame r s) where
-  same-singular : (x y : Deficit) → deficit_lists (Some x) ≡ deficit_lists (Some y) → singular_data r x ≡ singular_data s y
-  same-singular x y e = let are = deficit-is x y e in rw (say.unknowns, say.equations, say.name, are.0, are.1) refl
+  same_singular : (x y : Deficit) → deficit_lists (Some x) ≡ deficit_lists (Some y) → singular_data r x ≡ singular_data s y
+  same_singular x y e = let are = deficit_is x y e in rw (say.unknowns, say.equations, say.name, are.0, are.1) refl
 
   module _ (x y : Offsets) (e : offset_lists (Some x) ≡ offset_lists (Some y)) where
     equation-as : (i : ℕ) → equation_data r.unknowns r.orders.items x i ≡ equation_data s.unknowns s.orders.items y i
-    equation-as i = let are = offsets-are x y e in rw (say.unknowns, say.orders, are.0, are.2) refl
+    equation-as i = let are = offsets_are x y e in rw (say.unknowns, say.orders, are.0, are.2) refl
 
     unknown-as : (j : ℕ) → unknown_data r.unknowns x j ≡ unknown_data s.unknowns y j
-    unknown-as j = let are = offsets-are x y e in rw (say.unknowns, are.1) refl
+    unknown-as j = let are = offsets_are x y e in rw (say.unknowns, are.1) refl
 
     same-equations : equations_data r x ≡ equations_data s y
     same-equations = ap listed
-        (below-as (equation_data r.unknowns r.orders.items x) (equation_data s.unknowns s.orders.items y) equation-as r.equations
+        (below_as (equation_data r.unknowns r.orders.items x) (equation_data s.unknowns s.orders.items y) equation-as r.equations
         ∙ ap (data_below (equation_data s.unknowns s.orders.items y)) say.equations)
 
     same-unknowns : unknowns_data r x ≡ unknowns_data s y
     same-unknowns = ap listed
-        (below-as (unknown_data r.unknowns x) (unknown_data s.unknowns y) unknown-as (length r.unknowns)
+        (below_as (unknown_data r.unknowns x) (unknown_data s.unknowns y) unknown-as (length r.unknowns)
         ∙ ap (λ (names : List (List ℕ)). data_below (unknown_data s.unknowns y) (length names)) say.unknowns)
 
     same-undetermined : undetermined_data r x ≡ undetermined_data s y
     same-undetermined = rw (same-equations, same-unknowns, say.equations, say.name, say.unknowns, say.loose) refl
 
     same-blocks : listed (map (λ block. numbers_data block.items) r.blocks.0.items) ≡ listed (map (λ block. numbers_data block.items) s.blocks.0.items)
-    same-blocks = ap listed (blocks-data r.blocks.0.items ∙ (ap (map numbers_data) say.blocks ∙ sym (blocks-data s.blocks.0.items)))
+    same-blocks = ap listed (blocks_data r.blocks.0.items ∙ (ap (map numbers_data) say.blocks ∙ sym (blocks_data s.blocks.0.items)))
 
     same-square : square_data r x ≡ square_data s y
     same-square = rw (same-blocks, same-equations, same-unknowns, say.equations, say.name, say.unknowns, say.dummies, say.states, say.reasons, say.index, say.freedom) refl
@@ -65,20 +65,20 @@ module _ (r s : Report) (say : SaySame r s) where
         same-test : nat_lt r.equations (length r.unknowns) ≡ nat_lt s.equations (length s.unknowns)
         same-test = rw (say.equations, say.unknowns) refl
 
-  same-found : (x y : Option Offsets) → offset_lists x ≡ offset_lists y → found_data r x ≡ found_data s y
-  same-found None None e = refl
-  same-found None (Some y) e = absurd (none-offsets y e)
-  same-found (Some x) None e = absurd (offsets-none x e)
-  same-found (Some x) (Some y) e = same-some x y e
+  same_found : (x y : Option Offsets) → offset_lists x ≡ offset_lists y → found_data r x ≡ found_data s y
+  same_found None None e = refl
+  same_found None (Some y) e = absurd (none_offsets y e)
+  same_found (Some x) None e = absurd (offsets_none x e)
+  same_found (Some x) (Some y) e = same-some x y e
 
-  same-parts : (x y : Option Deficit) → deficit_lists x ≡ deficit_lists y → part_data r x ≡ part_data s y
-  same-parts None None e = same-found r.offsets s.offsets say.offsets
-  same-parts None (Some y) e = absurd (none-both y e)
-  same-parts (Some x) None e = absurd (both-none x e)
-  same-parts (Some x) (Some y) e = same-singular x y e
+  same_parts : (x y : Option Deficit) → deficit_lists x ≡ deficit_lists y → part_data r x ≡ part_data s y
+  same_parts None None e = same_found r.offsets s.offsets say.offsets
+  same_parts None (Some y) e = absurd (none_both y e)
+  same_parts (Some x) None e = absurd (both_none x e)
+  same_parts (Some x) (Some y) e = same_singular x y e
 
-  pub same-data : report_data r ≡ report_data s
-  same-data = same-parts r.deficit s.deficit say.deficit
+  pub same_data : report_data r ≡ report_data s
+  same_data = same_parts r.deficit s.deficit say.deficit
 
-  pub same-line : json_line r ≡ json_line s
-  same-line = ap (λ (d : Data). compact_text d ++ codes "\n") same-data
+  pub same_line : json_line r ≡ json_line s
+  same_line = ap (λ (d : Data). compact_text d ++ codes "\n") same_data

@@ -4,8 +4,8 @@ use Rattle.std.proofs.lemmas.Bool.Decides.{leb_tells}
 use Rattle.mo_incidence.specs.Signature.{unknown_at, IsSound}
 use Rattle.mo_match.specs.Searching.{Bipartite, IsTree, ClosedTo, Matches, HoldsTree}
 
-pub tree-rebase : {E : ℕ → ℕ → Type 0} {m : ℕ} {p q par mk : List ℕ} {b t : ℕ} → IsTree E m p q par mk b t → IsTree E m p q par mk t t
-tree-rebase tree = record {
+pub tree_rebase : {E : ℕ → ℕ → Type 0} {m : ℕ} {p q par mk : List ℕ} {b t : ℕ} → IsTree E m p q par mk b t → IsTree E m p q par mk t t
+tree_rebase tree = record {
   queue_all = tree.queue_all;
   parent_all = tree.parent_all;
   mark_all = tree.mark_all;
@@ -23,20 +23,20 @@ module _ (E : ℕ → ℕ → Type 0) (m : ℕ) (p q par mk : List ℕ) (b t : �
     (cleared : (s : ℕ) → b ≤ s → s < t → get_or mk' (get_or q s 0) 0 ≡ 0)
     (less : (x : ℕ) → get_or mk' x 0 ≢ 0 → get_or mk x 0 ≢ 0)
     (others : (x : ℕ) → ((s : ℕ) → b ≤ s → s < t → get_or q s 0 ≢ x) → get_or mk' x 0 ≡ get_or mk x 0) where
-  pub marked-after : (s : ℕ) → s < b → get_or mk' (get_or q s 0) 0 ≢ 0
-  marked-after s l =
+  pub marked_after : (s : ℕ) → s < b → get_or mk' (get_or q s 0) 0 ≢ 0
+  marked_after s l =
       let same = others (get_or q s 0) (λ u above below e. let is : u ≡ s = tree.apart u s below (omega arith) e in absurd (omega arith)) in
       rw same (tree.marked s (omega arith))
 
-  pub tree-after : (p' : List ℕ) → ((s : ℕ) → s < b → get_or p' (get_or q s 0) 0 ≡ get_or p (get_or q s 0) 0) → IsTree E m p' q par mk' b b
-  tree-after p' same = record {
+  pub tree_after : (p' : List ℕ) → ((s : ℕ) → s < b → get_or p' (get_or q s 0) 0 ≡ get_or p (get_or q s 0) 0) → IsTree E m p' q par mk' b b
+  tree_after p' same = record {
     queue_all = tree.queue_all;
     parent_all = tree.parent_all;
     mark_all = size ∙ tree.mark_all;
     room = omega (arith, tree.room);
     in_range = λ s l. tree.in_range s (omega arith);
     apart = λ s u sl ul. tree.apart s u (omega arith) (omega arith);
-    marked = marked-after;
+    marked = marked_after;
     listed = λ x xm some.
         let there = tree.listed x xm (less x some) in
         elim (leb_tells b there.0) [
@@ -47,13 +47,13 @@ module _ (E : ℕ → ℕ → Type 0) (m : ℕ) (p q par mk : List ℕ) (b t : �
     rooted = λ s above below. absurd (omega arith);
   }
 
-pub closed-after : (b : Bipartite) (p owner p' owner' q0 par0 mk0 q mk' : List ℕ) (base : ℕ)
+pub closed_after : (b : Bipartite) (p owner p' owner' q0 par0 mk0 q mk' : List ℕ) (base : ℕ)
     → IsSound b.signature → Matches b p owner → Matches b p' owner' → HoldsTree b p q0 par0 mk0 base base
     → ((s : ℕ) → s < base → get_or q s 0 ≡ get_or q0 s 0)
     → ((s : ℕ) → s < base → get_or p' (get_or q s 0) 0 ≡ get_or p (get_or q s 0) 0)
     → ((s : ℕ) → s < base → get_or mk' (get_or q s 0) 0 ≢ 0)
     → ClosedTo b owner mk0 q0 base → ClosedTo b owner' mk' q base
-closed-after b p owner p' owner' q0 par0 mk0 q mk' base sound match match' tree same_queue same_pairs marked closed = record {
+closed_after b p owner p' owner' q0 par0 mk0 q mk' base sound match match' tree same_queue same_pairs marked closed = record {
   searched = λ s l. rw (same_queue s l) (record {
     passed = λ k kl. record {
       inner = λ u.

@@ -3,19 +3,19 @@ use Rattle.std.proofs.Common.{◌≡◌, ◌≢◌, ℕ, zero, suc, ◌-◌, ◌
 use Rattle.std.proofs.lemmas.Bool.Decides.{nat_tests, eqb_tells}
 use Rattle.mo_incidence.specs.Signature.{Signature, equations, IsSound}
 use Rattle.mo_incidence.specs.Assignment.{Mentions, Assigns, IsAssignment, CoversAll, IsUndetermined}
-use Rattle.mo_incidence.proofs.Counting.{changed, changed-same, changed-other, onto}
+use Rattle.mo_incidence.proofs.Counting.{changed, changed_same, changed_other, onto}
 use Rattle.mo_match.specs.Searching.{IsMatching}
 use Rattle.mo_match.specs.steps.Spreading.{IsSpread, AreFreeMarked, IsSpreadTo}
-use Rattle.mo_match.proofs.Covering.{matching-assigns}
+use Rattle.mo_match.proofs.Covering.{matching_assigns}
 
 abbrev unset : ℕ → ℕ
 unset x = if x == 0 then 1 else 0
 
-unset-by : (x : ℕ) → x ≡ 0 → unset x ≢ 0
-unset-by x e none = grind (arith, nat_tests, e, none)
+unset_by : (x : ℕ) → x ≡ 0 → unset x ≢ 0
+unset_by x e none = grind (arith, nat_tests, e, none)
 
-unset-is : (x : ℕ) → unset x ≢ 0 → x ≡ 0
-unset-is x some = elim (eqb_tells x 0) [ inl e ↦ e.1 | inr e ↦ absurd (some (grind (arith, nat_tests, e.1))) ]
+unset_is : (x : ℕ) → unset x ≢ 0 → x ≡ 0
+unset_is x some = elim (eqb_tells x 0) [ inl e ↦ e.1 | inr e ↦ absurd (some (grind (arith, nat_tests, e.1))) ]
 
 module _ (E : ℕ → ℕ → Type 0) (m n : ℕ) (p owner : List ℕ) (lo : ℕ → ℕ) (match : IsMatching E m n p owner)
     (known : (i j : ℕ) → i < m → E i j → (0 < j) × (j ≤ n))
@@ -28,28 +28,28 @@ module _ (E : ℕ → ℕ → Type 0) (m n : ℕ) (p owner : List ℕ) (lo : ℕ
   abbrev back : ℕ → ℕ
   back i = get_or owner (q i) 0 - 1
 
-  back-facts : (i : ℕ) → i < m → out i ≢ 0 → (back i < m) × (get_or p (back i) 0 ≡ q i) × (lo (q i) ≡ 0)
-  back-facts i l some =
+  back_facts : (i : ℕ) → i < m → out i ≢ 0 → (back i < m) × (get_or p (back i) 0 ≡ q i) × (lo (q i) ≡ 0)
+  back_facts i l some =
       let here = assigns.allowed i l (full i l) in
       let in_range = known i (q i) l here in
-      let off : lo (q i) ≡ 0 = elim (eqb_tells (lo (q i)) 0) [ inl e ↦ e.1 | inr e ↦ absurd (closed i (q i) l here e.1 (unset-is (lo (get_or p i 0)) some)) ] in
+      let off : lo (q i) ≡ 0 = elim (eqb_tells (lo (q i)) 0) [ inl e ↦ e.1 | inr e ↦ absurd (closed i (q i) l here e.1 (unset_is (lo (get_or p i 0)) some)) ] in
       let owned : get_or owner (q i) 0 ≢ 0 = λ none. free (q i) in_range.0 in_range.1 none off in
       let held = match.owns (back i) (q i) in_range.0 in_range.1 (omega arith) in
       (held.0, held.1, off)
 
-  pub used-by-all : (j : ℕ) → 0 < j → j ≤ n → lo j ≡ 0 → (i : ℕ) × (i < m) × (q i ≡ j)
-  used-by-all j above below off =
+  pub used_by_all : (j : ℕ) → 0 < j → j ≤ n → lo j ≡ 0 → (i : ℕ) × (i < m) × (q i ≡ j)
+  used_by_all j above below off =
       let owned : get_or owner j 0 ≢ 0 = λ none. free j above below none off in
       let k = get_or owner j 0 - 1 in
       let held = match.owns k j above below (omega arith) in
       let found = onto out back m
-      (λ i l some. let there = back-facts i l some in (there.0, unset-by (lo (get_or p (back i) 0)) (rw there.1 there.2)))
+      (λ i l some. let there = back_facts i l some in (there.0, unset_by (lo (get_or p (back i) 0)) (rw there.1 there.2)))
       (λ i i' il il' some some' same.
-      let one = back-facts i il some in
-      let two = back-facts i' il' some' in
+      let one = back_facts i il some in
+      let two = back_facts i' il' some' in
       assigns.apart i i' il il' (full i il) (sym one.1 ∙ ap (λ (x : ℕ). get_or p x 0) same ∙ two.1))
-      k held.0 (unset-by (lo (get_or p k 0)) (rw held.1 off)) in
-      let there = back-facts found.0 found.1 found.2 in
+      k held.0 (unset_by (lo (get_or p k 0)) (rw held.1 off)) in
+      let there = back_facts found.0 found.1 found.2 in
       (found.0, found.1, sym there.1 ∙ ap (λ (x : ℕ). get_or p x 0) found.3 ∙ held.1)
 
 module _ (g : Signature) (p owner reached order : List ℕ) (t : ℕ) (match : IsMatching (Mentions g) (equations g) g.unknowns p owner)
@@ -66,7 +66,7 @@ module _ (g : Signature) (p owner reached order : List ℕ) (t : ℕ) (match : I
     | inl e ↦ (
       λ i. get_or p i 0,
       record {
-        is = matching-assigns match;
+        is = matching_assigns match;
         covers = full;
         out = λ i l same.
             let held : get_or owner (get_or order s 0) 0 ≡ suc i = rw same at (match.owned i l (full i l)).1 in
@@ -87,8 +87,8 @@ module _ (g : Signature) (p owner reached order : List ℕ) (t : ℕ) (match : I
         let known = spread.in_range u (omega (arith, link.1)) in
         let ne : w ≢ j = λ same. let is : u ≡ s = spread.apart u s (omega (arith, link.1)) st same in omega (arith, link.1) in
         let f : ℕ → ℕ = changed before.0 x w in
-        let at : f x ≡ w = changed-same before.0 x w in
-        let off : (i : ℕ) → i ≢ x → f i ≡ before.0 i = λ i ni. changed-other before.0 x w i ni in (
+        let at : f x ≡ w = changed_same before.0 x w in
+        let off : (i : ℕ) → i ≢ x → f i ≡ before.0 i = λ i ni. changed_other before.0 x w i ni in (
           f,
           record {
             is = record {
@@ -125,8 +125,8 @@ module _ (g : Signature) (p owner reached order : List ℕ) (t : ℕ) (match : I
         )
   ]
 
-  pub left-by-some : (s : ℕ) → s < t → IsUndetermined g (get_or order s 0)
-  left-by-some s l = let found = avoided (suc s) s (omega arith) l in (found.0, found.1.is, found.1.covers, found.1.out)
+  pub left_by_some : (s : ℕ) → s < t → IsUndetermined g (get_or order s 0)
+  left_by_some s l = let found = avoided (suc s) s (omega arith) l in (found.0, found.1.is, found.1.covers, found.1.out)
 
   module _ (sound : IsSound g) (free : AreFreeMarked g owner reached (suc g.unknowns)) (closed : IsSpreadTo g p reached order t) where
     mentions-known : (i j : ℕ) → i < equations g → Mentions g i j → (0 < j) × (j ≤ g.unknowns)
@@ -135,7 +135,7 @@ module _ (g : Signature) (p owner reached order : List ℕ) (t : ℕ) (match : I
 
     pub undetermined-marked : (j : ℕ) → 0 < j → j ≤ g.unknowns → IsUndetermined g j → get_or reached j 0 ≢ 0
     undetermined-marked j above below loose off =
-        let used = used-by-all (Mentions g) (equations g) g.unknowns p owner (λ x. get_or reached x 0) match mentions-known
+        let used = used_by_all (Mentions g) (equations g) g.unknowns p owner (λ x. get_or reached x 0) match mentions-known
         (λ i u l mentions some.
         let there = spread.listed u some in
         (closed.inner there.0 there.1).inner i l (subst (λ (x : ℕ). Mentions g i x) (sym there.2) mentions))
@@ -146,4 +146,4 @@ module _ (g : Signature) (p owner reached order : List ℕ) (t : ℕ) (match : I
     pub marked-undetermined : (j : ℕ) → get_or reached j 0 ≢ 0 → IsUndetermined g j
     marked-undetermined j some =
         let there = spread.listed j some in
-        subst (λ (x : ℕ). IsUndetermined g x) there.2 (left-by-some there.0 there.1)
+        subst (λ (x : ℕ). IsUndetermined g x) there.2 (left_by_some there.0 there.1)

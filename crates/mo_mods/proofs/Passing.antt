@@ -11,7 +11,7 @@ use Rattle.mo_syntax.specs.Outcome.{breach}
 use Rattle.mo_syntax.specs.declared.place.Broken.{Broken}
 use Rattle.mo_syntax.specs.declared.place.Place.{Place}
 use Rattle.mo_syntax.specs.ClassTable.{path_eq, otherwise}
-use Rattle.mo_syntax.proofs.Searching.{path_eq-same}
+use Rattle.mo_syntax.proofs.Searching.{path_eq_same}
 use Rattle.mo_scope.specs.Frames.{Listing, listing_eq}
 use Rattle.mo_scope.specs.Rows.{place_eq}
 use Rattle.mo_scope.specs.Arguments.{Asked, Claim, is_repeated, is_among, is_front, is_below_final, broken_claims, broken_argument, least, or_later, first_broken}
@@ -101,7 +101,7 @@ place_same place = by place.file place.byte
     by file byte = ap (λ b. b && nat_eq byte byte) (same file) ∙ same byte
 
 listing_same : (listing : Listing) → listing_eq listing listing ≡ true
-listing_same listing = ap (λ b. b && path_eq listing.passed listing.passed) (place_same listing.place) ∙ path_eq-same listing.passed
+listing_same listing = ap (λ b. b && path_eq listing.passed listing.passed) (place_same listing.place) ∙ path_eq_same listing.passed
 
 of_list : (listing own : Listing) (path : List (List ℕ)) (claims : List Claim) →
     is_path_of (λ other. listing_eq other listing) path (paths_of own claims) ≡ (listing_eq own listing && list_any (λ other. path_eq other.path path) claims)

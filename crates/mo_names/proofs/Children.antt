@@ -14,7 +14,7 @@ use Rattle.mo_scope.specs.Names.{Child, child_of_member, scope_of_home, typed_by
 use Rattle.mo_scope.specs.Parts.{Redeclaration, class_sources, component_sources, redeclared}
 use Rattle.mo_scope.specs.Sights.{declares_seen, redeclaration_in, source_seen}
 use Rattle.mo_scope.specs.Worlds.{World, SourceEntry, AreFrames, Grows, IsFrame, frames_of, sources_in}
-use Rattle.mo_scope.proofs.Numbered.{alike_sources, frames_stay, listed-gathered}
+use Rattle.mo_scope.proofs.Numbered.{alike_sources, frames_stay, listed_gathered}
 use Rattle.mo_names.specs.Children.{class_child, component_child, type_by}
 use Rattle.mo_names.proofs.Chains.{then_after}
 use Rattle.mo_names.proofs.Later.{frame_later, is_frame_later}
@@ -46,7 +46,7 @@ sources_later u v xs g are = alike_sources (frames_of v) (frames_of u) (length u
 -- ---- classes
 
 looked_up_sources : (n : ℕ) (xs : List Source) (outer class : Frame) (o : Outcome Frame) → o ≡ Ok (looked_up n xs outer) → o ≡ Ok class → sources_of class ≡ xs
-looked_up_sources n xs outer class o is same = let one : looked_up n xs outer ≡ class = cc in ap sources_of (sym one) ∙ listed-gathered xs
+looked_up_sources n xs outer class o is same = let one : looked_up n xs outer ≡ class = cc in ap sources_of (sym one) ∙ listed_gathered xs
 
 pub entered_sources : (table : Table) (member : Member) (class : Frame) → entered table member ≡ Ok class → sources_of class ≡ class_sources table member
 entered_sources table member class = by (class_sources table member) refl (redeclared table (sources_of member.home) member.name []) refl

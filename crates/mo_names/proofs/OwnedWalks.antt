@@ -54,10 +54,10 @@ frames_at_later u v [] g are = refl
 frames_at_later u v (x ∷ xs) g are =
     ap (λ (y : Frame). y ∷ frames_at v xs) (frame_later u v x.0 g are.0) ∙ ap (λ (ys : List Frame). frame_in (frames_of u) x.0 ∷ ys) (frames_at_later u v xs g are.1)
 
-map-reverse : {A B : Type 0} (f : A → B) (xs : List A) → map f (reverse xs) ≡ reverse (map f xs)
-map-reverse f [] = refl
-map-reverse f (x ∷ xs) =
-    ap (map f) (reverse-append (x ∷ []) xs) ∙ map-append f (reverse xs) (x ∷ []) ∙ ap (λ ys. ys ++ f x ∷ []) (map-reverse f xs) ∙ sym (reverse-append (f x ∷ []) (map f xs))
+map_reverse : {A B : Type 0} (f : A → B) (xs : List A) → map f (reverse xs) ≡ reverse (map f xs)
+map_reverse f [] = refl
+map_reverse f (x ∷ xs) =
+    ap (map f) (reverse-append (x ∷ []) xs) ∙ map-append f (reverse xs) (x ∷ []) ∙ ap (λ ys. ys ++ f x ∷ []) (map_reverse f xs) ∙ sym (reverse-append (f x ∷ []) (map f xs))
 
 -- what is left of the base frames, the outermost at the end
 left_of : (w : World) (old new : List FrameId) (base : FrameId) → old ≡ new ++ base ∷ [] → reverse (frames_at w old) ≡ frame_in (frames_of w) base.0 ∷ reverse (frames_at w new)
@@ -138,7 +138,7 @@ owning_base first u frame all old new out around base so_far is =
     is_frame_later first u base.0 so_far.grows (last_of first new base (subst (AreThrough first) is so_far.left))
 
 through_turned : (w : World) (out : List FrameId) → frames_through (frames_of w) (reverse out) ≡ frames_at w out
-through_turned w out = ap reverse (map-reverse (λ (frame : FrameId). frame_in (frames_of w) frame.0) out) ∙ reverse-reverse (frames_at w out)
+through_turned w out = ap reverse (map_reverse (λ (frame : FrameId). frame_in (frames_of w) frame.0) out) ∙ reverse-reverse (frames_at w out)
 
 -- where none is left
 pub owning_done : (first now : World) (frame : ℕ) (all rest out : List FrameId) (around : ℕ) → Owning first now frame all rest out around → rest ≡ [] →

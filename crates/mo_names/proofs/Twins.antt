@@ -13,7 +13,7 @@ use Rattle.mo_scope.specs.Rows.{Table, Row, row_at, elements_in, Modifiers, Decl
 use Rattle.mo_scope.specs.Frames.{Frame, Top, In, Member, Source, at_of, class_of, gathered, owner_of_base, is_same_base, is_top, outer_of, sources_of, Elsewhere, Listed, Replacing}
 use Rattle.mo_scope.specs.Parts.{added_sources, base_sources, clause_source, is_nothing, place_of_list, replacing_source, written}
 use Rattle.mo_scope.specs.Lookup.{Asking, Inherited, Walked, base_class, base_frame, base_of, final_frame, found_from, leaf_of, hidden_if, is_counted, last_place, leaf_checked, members_from, named, not_counted, nothing_walked, or_leaf, own_members, through_base, with_base, with_member, with_members}
-use Rattle.mo_scope.proofs.Numbered.{listed-gathered}
+use Rattle.mo_scope.proofs.Numbered.{listed_gathered}
 use Rattle.mo_names.specs.steps.Bases.{base_walked}
 use Rattle.mo_names.specs.steps.Lookup.{own_inherited, started}
 use Rattle.mo_names.specs.steps.Twins.{BeginsElsewhere, owned_by, owned_inherited, owned_outcome, owned_through, owned_walk, unowned}
@@ -288,7 +288,7 @@ base_of_twin table asking frame row clause base elsewhere is none =
     by (Ok class) e is =
         let same : base_frame (unowned frame) row clause class ≡ base = cc in
         let count : length (base_sources (unowned frame) row clause class) ≡ length (sources_of (unowned frame)) =
-        sym (ap length (listed-gathered (base_sources (unowned frame) row clause class))) ∙ ap (λ (f : Frame). length (sources_of f)) same ∙ none in
+        sym (ap length (listed_gathered (base_sources (unowned frame) row clause class))) ∙ ap (λ (f : Frame). length (sources_of f)) same ∙ none in
         let sources : base_sources frame row clause class ≡ base_sources (unowned frame) row clause class = same_sources (unowned frame) frame row clause class (sym (sources_twin frame)) count in
         ap (λ (o : Outcome Frame). and_then o (λ class. Ok (base_frame frame row clause class))) (sym found ∙ e)
         ∙ ap (λ (ss : List Source). Ok (In (class_of class) (gathered ss) (outer_of class) (at_of frame) (owner_of_base frame))) sources

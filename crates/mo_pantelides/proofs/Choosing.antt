@@ -7,13 +7,13 @@ use Rattle.mo_incidence.specs.Assignment.{Assigns, IsAssignment, Mentions}
 use Rattle.mo_incidence.specs.Offsets.{after_reasons, IsTight}
 use Rattle.mo_incidence.specs.Reasons.{IsCandidate, LeadsTo, IsWithin, IsRank, IsReason, listed_reasons, AreReasonsOf}
 use Rattle.mo_pantelides.specs.steps.Ranks.{IsBetter, IsChosenTo, Considers}
-use Rattle.mo_pantelides.proofs.Ranking.{leads-candidate, candidate-leads}
+use Rattle.mo_pantelides.proofs.Ranking.{leads_candidate, candidate_leads}
 
-below-next : (s t : ℕ) → s < t + 1 → (s < t) ⊎ (s ≡ t)
-below-next s t l = elim (eqb_tells s t) [ inl e ↦ inr e.1 | inr e ↦ inl (omega (arith, e.1)) ]
+below_next : (s t : ℕ) → s < t + 1 → (s < t) ⊎ (s ≡ t)
+below_next s t l = elim (eqb_tells s t) [ inl e ↦ inr e.1 | inr e ↦ inl (omega (arith, e.1)) ]
 
-pub chosen-none : (g : Signature) (c d t : ℕ → ℕ) (mk best : List ℕ) → length best ≡ equations g → ((i : ℕ) → get_or best i 0 ≡ 0) → IsChosenTo g c d t mk best 0 0
-chosen-none g c d t mk best size none = record {
+pub chosen_none : (g : Signature) (c d t : ℕ → ℕ) (mk best : List ℕ) → length best ≡ equations g → ((i : ℕ) → get_or best i 0 ≡ 0) → IsChosenTo g c d t mk best 0 0
+chosen_none g c d t mk best size none = record {
   best_all = size;
   sound = λ i l some. absurd (some (none i));
   rows = λ i k l kl. absurd (omega arith);
@@ -21,12 +21,12 @@ chosen-none g c d t mk best size none = record {
 }
 
 module _ (g : Signature) (c d t : ℕ → ℕ) (mk best : List ℕ) (k n : ℕ) (to : IsChosenTo g c d t mk best k n) where
-  pub chosen-skip : ((x : ℕ) → x < equations g → LeadsTo g c d t k n x → ⊥) → IsChosenTo g c d t mk best k (n + 1)
-  chosen-skip none = record {
+  pub chosen_skip : ((x : ℕ) → x < equations g → LeadsTo g c d t k n x → ⊥) → IsChosenTo g c d t mk best k (n + 1)
+  chosen_skip none = record {
     best_all = to.best_all;
     sound = to.sound;
     rows = to.rows;
-    here = λ i n' l nl leads. elim (below-next n' n nl) [
+    here = λ i n' l nl leads. elim (below_next n' n nl) [
       | inl h ↦ to.here i n' l h leads
       | inr e ↦ absurd (none i l (subst (λ (z : ℕ). LeadsTo g c d t k z i) e leads))
     ];
@@ -46,7 +46,7 @@ module _ (g : Signature) (c d t : ℕ → ℕ) (mk best : List ℕ) (k n : ℕ) 
     chosen-take lower = record {
       best_all = length-set best x (k + 1) ∙ to.best_all;
       sound = λ i l. elim (eqb_tells i x) [
-        | inl e ↦ rw (e.1, b-at, back) (λ _. (leads-candidate g c d t k n x kl nl leads, omega arith))
+        | inl e ↦ rw (e.1, b-at, back) (λ _. (leads_candidate g c d t k n x kl nl leads, omega arith))
         | inr e ↦ rw (b-off i e.1) (to.sound i l)
       ];
       rows = λ i k' l kl'. elim (eqb_tells i x) [
@@ -55,7 +55,7 @@ module _ (g : Signature) (c d t : ℕ → ℕ) (mk best : List ℕ) (k n : ℕ) 
       ];
       here = λ i n' l nl' leads'. elim (eqb_tells i x) [
         | inl e ↦ rw (e.1, b-at, back) (omega arith, inr (refl, omega arith))
-        | inr e ↦ rw (b-off i e.1) (elim (below-next n' n nl') [
+        | inr e ↦ rw (b-off i e.1) (elim (below_next n' n nl') [
           | inl h ↦ to.here i n' l h leads'
           | inr z ↦ absurd (e.1 (only i l (subst (λ (y : ℕ). LeadsTo g c d t k y i) z leads')))
         ])
@@ -72,7 +72,7 @@ module _ (g : Signature) (c d t : ℕ → ℕ) (mk best : List ℕ) (k n : ℕ) 
           best_all = to.best_all;
           sound = to.sound;
           rows = to.rows;
-          here = λ i n' l nl' leads'. elim (below-next n' n nl') [
+          here = λ i n' l nl' leads'. elim (below_next n' n nl') [
             | inl h ↦ to.here i n' l h leads'
             | inr z ↦
                 let same : i ≡ x = only i l (subst (λ (y : ℕ). LeadsTo g c d t k y i) z leads') in
@@ -80,8 +80,8 @@ module _ (g : Signature) (c d t : ℕ → ℕ) (mk best : List ℕ) (k n : ℕ) 
           ];
         }
 
-    pub chosen-next : (best' : List ℕ) → Considers mk best k x best' → IsChosenTo g c d t mk best' k (n + 1)
-    chosen-next best' considers = elim (eqb_tells (get_or best x 0) 0) [
+    pub chosen_next : (best' : List ℕ) → Considers mk best k x best' → IsChosenTo g c d t mk best' k (n + 1)
+    chosen_next best' considers = elim (eqb_tells (get_or best x 0) 0) [
       | inl e ↦ rw (considers.free e.1) (chosen-take (λ k' kl' cand. absurd ((to.rows x k' xl kl' cand).0 e.1)))
       | inr e ↦ elim (leb_tells (get_or mk (get_or best x 0 - 1) 0) (get_or mk k 0)) [
         | inl h ↦ rw (considers.left e.1 h.1) (chosen-leave e.1 h.1)
@@ -92,13 +92,13 @@ module _ (g : Signature) (c d t : ℕ → ℕ) (mk best : List ℕ) (k n : ℕ) 
       ]
     ]
 
-pub chosen-row : (g : Signature) (c d t : ℕ → ℕ) (mk best : List ℕ) (k n : ℕ) → n ≡ row_len g k → IsChosenTo g c d t mk best k n → IsChosenTo g c d t mk best (k + 1) 0
-chosen-row g c d t mk best k n all to = record {
+pub chosen_row : (g : Signature) (c d t : ℕ → ℕ) (mk best : List ℕ) (k n : ℕ) → n ≡ row_len g k → IsChosenTo g c d t mk best k n → IsChosenTo g c d t mk best (k + 1) 0
+chosen_row g c d t mk best k n all to = record {
   best_all = to.best_all;
   sound = λ i l some. let was = to.sound i l some in (was.0, omega (arith, was.1));
-  rows = λ i k' l kl'. elim (below-next k' k kl') [
+  rows = λ i k' l kl'. elim (below_next k' k kl') [
     | inl h ↦ to.rows i k' l h
-    | inr e ↦ rw e (λ cand. let leads = candidate-leads g c d t i k cand in to.here i leads.0 l (omega (arith, leads.1)) leads.2)
+    | inr e ↦ rw e (λ cand. let leads = candidate_leads g c d t i k cand in to.here i leads.0 l (omega (arith, leads.1)) leads.2)
   ];
   here = λ i n' l nl. absurd (omega arith);
 }
@@ -112,26 +112,26 @@ module _ (g : Signature) (c d t : ℕ → ℕ) (mk best : List ℕ) (k : ℕ) (a
     | inr h ↦ (h.0, h.1, n, refl, h.2)
   ]
 
-  better-low : (a b : ℕ) → IsBetter mk a b → get_or mk a 0 ≤ get_or mk b 0
-  better-low a b h = elim h [ inl z ↦ omega arith | inr z ↦ omega (arith, z.0) ]
+  better_low : (a b : ℕ) → IsBetter mk a b → get_or mk a 0 ≤ get_or mk b 0
+  better_low a b h = elim h [ inl z ↦ omega arith | inr z ↦ omega (arith, z.0) ]
 
-  pub best-some : (i : ℕ) → i < equations g → c i ≢ 0 → get_or best i 0 ≢ 0
-  best-some i l some =
+  pub best_some : (i : ℕ) → i < equations g → c i ≢ 0 → get_or best i 0 ≢ 0
+  best_some i l some =
       let there = step (get_or mk i 0 - 1) i (ranked i l).1.within some in
       (to.rows i there.0 l (omega (arith, there.1.known)) there.1).0
 
-  best-low : (i : ℕ) → i < equations g → c i ≢ 0 → get_or mk (get_or best i 0 - 1) 0 < get_or mk i 0
-  best-low i l some =
+  best_low : (i : ℕ) → i < equations g → c i ≢ 0 → get_or mk (get_or best i 0 - 1) 0 < get_or mk i 0
+  best_low i l some =
       let there = step (get_or mk i 0 - 1) i (ranked i l).1.within some in
       let best_is = to.rows i there.0 l (omega (arith, there.1.known)) there.1 in
-      let low = better-low (get_or best i 0 - 1) there.0 best_is.1 in
+      let low = better_low (get_or best i 0 - 1) there.0 best_is.1 in
       let rank = (ranked there.0 there.1.known).1.least there.2 there.4 in
       omega (arith, (ranked i l).0, there.3, low, rank)
 
-  pub reason-is : (i : ℕ) → i < equations g → c i ≢ 0 → IsReason g c d t i (get_or best i 0 - 1)
-  reason-is i l some =
+  pub reason_is : (i : ℕ) → i < equations g → c i ≢ 0 → IsReason g c d t i (get_or best i 0 - 1)
+  reason_is i l some =
       let b = get_or best i 0 - 1 in
-      let cand = (to.sound i l (best-some i l some)).0 in
+      let cand = (to.sound i l (best_some i l some)).0 in
       record {
         candidate = cand;
         rank = get_or mk (get_or best i 0 - 1) 0 - 1;
@@ -147,39 +147,39 @@ module _ (g : Signature) (c d t : ℕ → ℕ) (mk best : List ℕ) (k : ℕ) (a
             ];
       }
 
-  ends-within : (n i : ℕ) → i < equations g → get_or mk i 0 ≤ n → (e : ℕ) × (c (after_reasons (λ x. get_or best x 0 - 1) e i) ≡ 0)
-  ends-within zero i l low = absurd (omega (arith, (ranked i l).0))
-  ends-within (suc n) i l low = elim (eqb_tells (c i) 0) [
+  ends_within : (n i : ℕ) → i < equations g → get_or mk i 0 ≤ n → (e : ℕ) × (c (after_reasons (λ x. get_or best x 0 - 1) e i) ≡ 0)
+  ends_within zero i l low = absurd (omega (arith, (ranked i l).0))
+  ends_within (suc n) i l low = elim (eqb_tells (c i) 0) [
     | inl z ↦ (0, z.1)
     | inr z ↦
-        let cand = (to.sound i l (best-some i l z.1)).0 in
-        let rest = ends-within n (get_or best i 0 - 1) cand.known (omega (arith, best-low i l z.1)) in
+        let cand = (to.sound i l (best_some i l z.1)).0 in
+        let rest = ends_within n (get_or best i 0 - 1) cand.known (omega (arith, best_low i l z.1)) in
         (suc rest.0, rest.1)
   ]
 
-  pub all-reasons : (reasons : List Reason) → reasons ≡ listed_reasons c (λ i. get_or best i 0 - 1) (equations g) → AreReasonsOf g c d t reasons
-  all-reasons reasons listed = record {
+  pub all_reasons : (reasons : List Reason) → reasons ≡ listed_reasons c (λ i. get_or best i 0 - 1) (equations g) → AreReasonsOf g c d t reasons
+  all_reasons reasons listed = record {
     by = λ i. get_or best i 0 - 1;
-    reason = reason-is;
+    reason = reason_is;
     listed = listed;
-    ends = λ i l. ends-within (get_or mk i 0) i l (omega arith);
+    ends = λ i l. ends_within (get_or mk i 0) i l (omega arith);
   }
 
-pub listed-none : (c r : ℕ → ℕ) (n : ℕ) → c n ≡ 0 → listed_reasons c r (n + 1) ≡ listed_reasons c r n
-listed-none c r n e = let next : n + 1 ≡ suc n = omega arith in rw (next, e) refl
+pub listed_none : (c r : ℕ → ℕ) (n : ℕ) → c n ≡ 0 → listed_reasons c r (n + 1) ≡ listed_reasons c r n
+listed_none c r n e = let next : n + 1 ≡ suc n = omega arith in rw (next, e) refl
 
-pub listed-some : (c r : ℕ → ℕ) (n from : ℕ) → c n ≢ 0 → from ≡ suc (r n) → listed_reasons c r (n + 1) ≡ listed_reasons c r n ++ record { equation = n + 1; from = from } ∷ []
-listed-some c r n from ne e =
+pub listed_some : (c r : ℕ → ℕ) (n from : ℕ) → c n ≢ 0 → from ≡ suc (r n) → listed_reasons c r (n + 1) ≡ listed_reasons c r n ++ record { equation = n + 1; from = from } ∷ []
+listed_some c r n from ne e =
     let next : n + 1 ≡ suc n = omega arith in
     elim (eqb_tells (c n) 0) [ inl z ↦ absurd (ne z.1) | inr z ↦ rw (next, e, z.0) refl ]
 
-pub length-listed : (c r : ℕ → ℕ) (n : ℕ) → length (listed_reasons c r n) ≤ n
-length-listed c r zero = omega arith
-length-listed c r (suc n) = elim (eqb_tells (c n) 0) [
-  | inl z ↦ rw z.0 (omega (arith, length-listed c r n))
-  | inr z ↦ rw (z.0, length-append (listed_reasons c r n) (record { equation = suc n; from = suc (r n) } ∷ [])) (omega (arith, length-listed c r n))
+pub length_listed : (c r : ℕ → ℕ) (n : ℕ) → length (listed_reasons c r n) ≤ n
+length_listed c r zero = omega arith
+length_listed c r (suc n) = elim (eqb_tells (c n) 0) [
+  | inl z ↦ rw z.0 (omega (arith, length_listed c r n))
+  | inr z ↦ rw (z.0, length-append (listed_reasons c r n) (record { equation = suc n; from = suc (r n) } ∷ [])) (omega (arith, length_listed c r n))
 ]
 
-pub tight-mentions : (g : Signature) (c d q : ℕ → ℕ) → Assigns (IsTight g c d) (equations g) q → IsAssignment g q
+pub tight_mentions : (g : Signature) (c d q : ℕ → ℕ) → Assigns (IsTight g c d) (equations g) q → IsAssignment g q
 unfolding IsTight Mentions
-tight-mentions g c d q tight = record { allowed = λ i l some. let t = tight.allowed i l some in (t.0, t.1, t.2); apart = tight.apart }
+tight_mentions g c d q tight = record { allowed = λ i l some. let t = tight.allowed i l some in (t.0, t.1, t.2); apart = tight.apart }

@@ -11,22 +11,22 @@ use Rattle.mo_incidence.specs.Offsets.{by_place}
 abbrev lowered : ℕ → ℕ → ℕ
 lowered x y = if x == 0 then y - 1 else y
 
-lowered-none : (x y : ℕ) → x ≡ 0 → lowered x y ≡ y - 1
-lowered-none x y e = rw e refl
+lowered_none : (x y : ℕ) → x ≡ 0 → lowered x y ≡ y - 1
+lowered_none x y e = rw e refl
 
-lowered-some : (x y : ℕ) → x ≢ 0 → lowered x y ≡ y
-lowered-some x y ne = elim (eqb_tells x 0) [ inl e ↦ absurd (ne e.1) | inr e ↦ rw e.0 refl ]
+lowered_some : (x y : ℕ) → x ≢ 0 → lowered x y ≡ y
+lowered_some x y ne = elim (eqb_tells x 0) [ inl e ↦ absurd (ne e.1) | inr e ↦ rw e.0 refl ]
 
-lowered-low : (x y : ℕ) → lowered x y ≤ y
-lowered-low x y = elim (eqb_tells x 0) [ inl e ↦ rw e.0 (omega arith) | inr e ↦ rw e.0 (omega arith) ]
+lowered_low : (x y : ℕ) → lowered x y ≤ y
+lowered_low x y = elim (eqb_tells x 0) [ inl e ↦ rw e.0 (omega arith) | inr e ↦ rw e.0 (omega arith) ]
 
-tight-parts : (g : Signature) (c d : ℕ → ℕ) (i j : ℕ) → IsTight g c d i j → (k : ℕ) × (k < row_len g i) × (unknown_at g i k ≡ j) × (d j ≡ c i + order_at g i k)
+tight_parts : (g : Signature) (c d : ℕ → ℕ) (i j : ℕ) → IsTight g c d i j → (k : ℕ) × (k < row_len g i) × (unknown_at g i k ≡ j) × (d j ≡ c i + order_at g i k)
 unfolding IsTight
-tight-parts g c d i j h = h
+tight_parts g c d i j h = h
 
-tight-by : (g : Signature) (c d : ℕ → ℕ) (i j k : ℕ) → k < row_len g i → unknown_at g i k ≡ j → d j ≡ c i + order_at g i k → IsTight g c d i j
+tight_by : (g : Signature) (c d : ℕ → ℕ) (i j k : ℕ) → k < row_len g i → unknown_at g i k ≡ j → d j ≡ c i + order_at g i k → IsTight g c d i j
 unfolding IsTight
-tight-by g c d i j k l u e = (k, l, u, e)
+tight_by g c d i j k l u e = (k, l, u, e)
 
 -- the equations with mark 0 are closed under candidates
 module _ (g : Signature) (c d : ℕ → ℕ) (pairs owner : List ℕ) (mk : ℕ → ℕ) (sound : IsSound g) (least : IsLeast g c d)
@@ -44,17 +44,17 @@ module _ (g : Signature) (c d : ℕ → ℕ) (pairs owner : List ℕ) (mk : ℕ 
   abbrev d' : ℕ → ℕ
   d' j = lowered (mark_of j) (d j)
 
-  mark-owned : (j : ℕ) → get_or owner j 0 ≢ 0 → mark_of j ≡ mk (get_or owner j 0 - 1)
-  mark-owned j some = elim (eqb_tells (get_or owner j 0) 0) [ inl e ↦ absurd (some e.1) | inr e ↦ rw e.0 refl ]
+  mark_owned : (j : ℕ) → get_or owner j 0 ≢ 0 → mark_of j ≡ mk (get_or owner j 0 - 1)
+  mark_owned j some = elim (eqb_tells (get_or owner j 0) 0) [ inl e ↦ absurd (some e.1) | inr e ↦ rw e.0 refl ]
 
-  mark-free : (j : ℕ) → get_or owner j 0 ≡ 0 → mark_of j ≡ 1
-  mark-free j none = elim (eqb_tells (get_or owner j 0) 0) [ inl e ↦ rw e.0 refl | inr e ↦ absurd (e.1 none) ]
+  mark_free : (j : ℕ) → get_or owner j 0 ≡ 0 → mark_of j ≡ 1
+  mark_free j none = elim (eqb_tells (get_or owner j 0) 0) [ inl e ↦ rw e.0 refl | inr e ↦ absurd (e.1 none) ]
 
-  mark-pair : (i : ℕ) → i < equations g → mark_of (get_or pairs i 0) ≡ mk i
-  mark-pair i l =
+  mark_pair : (i : ℕ) → i < equations g → mark_of (get_or pairs i 0) ≡ mk i
+  mark_pair i l =
       let held = (match.owned i l (full i l)).1 in
       let back : get_or owner (get_or pairs i 0) 0 - 1 ≡ i = omega arith in
-      mark-owned (get_or pairs i 0) (omega arith) ∙ ap mk back
+      mark_owned (get_or pairs i 0) (omega arith) ∙ ap mk back
 
   fits' : Fits g c' d'
   fits' = record {
@@ -62,21 +62,21 @@ module _ (g : Signature) (c d : ℕ → ℕ) (pairs owner : List ℕ) (mk : ℕ 
         let j = unknown_at g i k in
         let known = sound.known i k il kl in
         let was = least.admissible.fits.entry i k il kl in
-        let low : c' i ≤ c i = lowered-low (mk i) (c i) in
+        let low : c' i ≤ c i = lowered_low (mk i) (c i) in
         elim (eqb_tells (mark_of (unknown_at g i k)) 0) [
-          | inr e ↦ let same = lowered-some (mark_of (unknown_at g i k)) (d (unknown_at g i k)) e.1 in omega arith
+          | inr e ↦ let same = lowered_some (mark_of (unknown_at g i k)) (d (unknown_at g i k)) e.1 in omega arith
           | inl e ↦
-              let less = lowered-none (mark_of (unknown_at g i k)) (d (unknown_at g i k)) e.1 in
-              let owned : get_or owner (unknown_at g i k) 0 ≢ 0 = λ none. let one = mark-free (unknown_at g i k) none in omega (arith, e.1) in
+              let less = lowered_none (mark_of (unknown_at g i k)) (d (unknown_at g i k)) e.1 in
+              let owned : get_or owner (unknown_at g i k) 0 ≢ 0 = λ none. let one = mark_free (unknown_at g i k) none in omega (arith, e.1) in
               let x = get_or owner (unknown_at g i k) 0 - 1 in
               let held = match.owns (get_or owner (unknown_at g i k) 0 - 1) (unknown_at g i k) known.0 known.1 (omega arith) in
-              let unmarked : mk (get_or owner (unknown_at g i k) 0 - 1) ≡ 0 = sym (mark-owned (unknown_at g i k) owned) ∙ e.1 in
+              let unmarked : mk (get_or owner (unknown_at g i k) 0 - 1) ≡ 0 = sym (mark_owned (unknown_at g i k) owned) ∙ e.1 in
               elim (eqb_tells (d (unknown_at g i k)) (c i + order_at g i k)) [
                 | inr slack ↦ omega (arith, slack.1)
                 | inl equal ↦
-                    let t : IsTight g c d i (get_or pairs (get_or owner (unknown_at g i k) 0 - 1) 0) = tight-by g c d i _ k kl (sym held.1) (ap d held.1 ∙ equal.1) in
+                    let t : IsTight g c d i (get_or pairs (get_or owner (unknown_at g i k) 0 - 1) 0) = tight_by g c d i _ k kl (sym held.1) (ap d held.1 ∙ equal.1) in
                     let here = closed (get_or owner (unknown_at g i k) 0 - 1) i held.0 il unmarked t in
-                    let c_less = lowered-none (mk i) (c i) here in
+                    let c_less = lowered_none (mk i) (c i) here in
                     let some = positive i il here in
                     omega (arith, equal.1)
               ]
@@ -90,17 +90,17 @@ module _ (g : Signature) (c d : ℕ → ℕ) (pairs owner : List ℕ) (mk : ℕ 
       by_place pairs,
       record {
         allowed = λ i l some.
-            let parts = tight-parts g c d i (get_or pairs i 0) (tight.allowed i l some) in
-            let same = mark-pair i l in
-            tight-by g c' d' i (get_or pairs i 0) parts.0 parts.1 parts.2 (elim (eqb_tells (mk i) 0) [
+            let parts = tight_parts g c d i (get_or pairs i 0) (tight.allowed i l some) in
+            let same = mark_pair i l in
+            tight_by g c' d' i (get_or pairs i 0) parts.0 parts.1 parts.2 (elim (eqb_tells (mk i) 0) [
               | inl e ↦
-                  let c_is = lowered-none (mk i) (c i) e.1 in
-                  let d_is = lowered-none (mark_of (get_or pairs i 0)) (d (get_or pairs i 0)) (same ∙ e.1) in
+                  let c_is = lowered_none (mk i) (c i) e.1 in
+                  let d_is = lowered_none (mark_of (get_or pairs i 0)) (d (get_or pairs i 0)) (same ∙ e.1) in
                   let positive_here = positive i l e.1 in
                   omega (arith, parts.3)
               | inr e ↦
-                  let c_is = lowered-some (mk i) (c i) e.1 in
-                  let d_is = lowered-some (mark_of (get_or pairs i 0)) (d (get_or pairs i 0)) (λ z. e.1 (sym same ∙ z)) in
+                  let c_is = lowered_some (mk i) (c i) e.1 in
+                  let d_is = lowered_some (mark_of (get_or pairs i 0)) (d (get_or pairs i 0)) (λ z. e.1 (sym same ∙ z)) in
                   omega (arith, parts.3)
             ]);
         apart = tight.apart;
@@ -109,9 +109,9 @@ module _ (g : Signature) (c d : ℕ → ℕ) (pairs owner : List ℕ) (mk : ℕ 
     );
   }
 
-  pub none-closed : (i : ℕ) → i < equations g → mk i ≢ 0
-  none-closed i l none =
+  pub none_closed : (i : ℕ) → i < equations g → mk i ≢ 0
+  none_closed i l none =
       let below = (least.least.below c' d' rival).equation i l in
-      let less = lowered-none (mk i) (c i) none in
+      let less = lowered_none (mk i) (c i) none in
       let some = positive i l none in
       omega arith

@@ -6,32 +6,32 @@ use Rattle.mo_incidence.specs.Counting.{sign, sum_below, count_below}
 use Rattle.mo_incidence.specs.Signature.{Signature, equations, row_len, unknown_at, order_at, IsSound}
 use Rattle.mo_incidence.specs.Assignment.{Mentions, CanCoverAll}
 use Rattle.mo_incidence.specs.Offsets.{Fits, IsBelowAll, by_place, by_number}
-use Rattle.mo_incidence.proofs.Counting.{sign-zero, sign-some, sum-same, sum-add, sum-injection, without, without-other, count-without}
+use Rattle.mo_incidence.proofs.Counting.{sign_zero, sign_some, sum_same, sum_add, sum_injection, without, without_other, count_without}
 use Rattle.mo_match.specs.Searching.{tight_of, Uses, IsMatching, IsTree, ClosedTo}
 use Rattle.mo_match.specs.steps.Lists.{reached}
-use Rattle.mo_match.proofs.Deficit.{closed-marks}
-use Rattle.mo_match.proofs.Excess.{reached-some, reached-by}
+use Rattle.mo_match.proofs.Deficit.{closed_marks}
+use Rattle.mo_match.proofs.Excess.{reached_some, reached_by}
 use Rattle.mo_pantelides.specs.steps.Raising.{AreRaised, gap, AreSmall, AreRising}
-use Rattle.mo_pantelides.proofs.Tight.{entry-used, used-entry}
-use Rattle.mo_pantelides.proofs.Above.{sign-low, reached-low, equation-above, unknown-above}
+use Rattle.mo_pantelides.proofs.Tight.{entry_used, used_entry}
+use Rattle.mo_pantelides.proofs.Above.{sign_low, reached_low, equation_above, unknown_above}
 
-pub reached-one : (owner mk : List ℕ) (j : ℕ) → get_or owner j 0 ≢ 0 → reached owner mk j ≡ sign (get_or mk (get_or owner j 0 - 1) 0)
-reached-one owner mk j some = grind (arith, nat_tests, some)
+pub reached_one : (owner mk : List ℕ) (j : ℕ) → get_or owner j 0 ≢ 0 → reached owner mk j ≡ sign (get_or mk (get_or owner j 0 - 1) 0)
+reached_one owner mk j some = grind (arith, nat_tests, some)
 
-mention-entry : (g : Signature) (i j : ℕ) → Mentions g i j → (k : ℕ) × (k < row_len g i) × (unknown_at g i k ≡ j)
+mention_entry : (g : Signature) (i j : ℕ) → Mentions g i j → (k : ℕ) × (k < row_len g i) × (unknown_at g i k ≡ j)
 unfolding Mentions
-mention-entry g i j h = h
+mention_entry g i j h = h
 
-pub sums-order : (g : Signature) (c d : List ℕ) → IsSound g → Fits g (by_place c) (by_number d) → CanCoverAll g → sum_below (by_place c) (equations g) ≤ sum_below (by_place d) g.unknowns
-sums-order g c d sound fits can = sum-injection (by_place c) (by_place d) (λ i. can.0 i - 1) (equations g) g.unknowns
+pub sums_order : (g : Signature) (c d : List ℕ) → IsSound g → Fits g (by_place c) (by_number d) → CanCoverAll g → sum_below (by_place c) (equations g) ≤ sum_below (by_place d) g.unknowns
+sums_order g c d sound fits can = sum_injection (by_place c) (by_place d) (λ i. can.0 i - 1) (equations g) g.unknowns
     (λ i l some.
-    let entry = mention-entry g i (can.0 i) (can.1.allowed i l (can.2 i l)) in
+    let entry = mention_entry g i (can.0 i) (can.1.allowed i l (can.2 i l)) in
     let known : (0 < can.0 i) × (can.0 i ≤ g.unknowns) = rw entry.2 at (sound.known i entry.0 l entry.1) in
     let bound : get_or c i 0 + order_at g i entry.0 ≤ get_or d (can.0 i - 1) 0 = rw entry.2 at (fits.entry i entry.0 l entry.1) in
     (omega (arith, known), omega arith))
     (λ i k il kl si sk same.
-    let one = mention-entry g i (can.0 i) (can.1.allowed i il (can.2 i il)) in
-    let two = mention-entry g k (can.0 k) (can.1.allowed k kl (can.2 k kl)) in
+    let one = mention_entry g i (can.0 i) (can.1.allowed i il (can.2 i il)) in
+    let two = mention_entry g k (can.0 k) (can.1.allowed k kl (can.2 k kl)) in
     let above : (0 < can.0 i) × (can.0 i ≤ g.unknowns) = rw one.2 at (sound.known i one.0 il one.1) in
     let above' : (0 < can.0 k) × (can.0 k ≤ g.unknowns) = rw two.2 at (sound.known k two.0 kl two.1) in
     can.1.apart i k il kl (can.2 i il) (omega (arith, above, above')))
@@ -44,8 +44,8 @@ module _ (g : Signature) (c d p owner q par mk : List ℕ) (t : ℕ) (sound : Is
     (bare : get_or p (get_or q 0 0) 0 ≡ 0)
     (fits : Fits g (by_place c) (by_number d))
     (c2 d2 : List ℕ) (raised : AreRaised (equations g) g.unknowns owner mk c d c2 d2) where
-  pub fits-raised : Fits g (by_place c2) (by_number d2)
-  fits-raised = record {
+  pub fits_raised : Fits g (by_place c2) (by_number d2)
+  fits_raised = record {
     entry = λ i k il kl.
         let j = unknown_at g i k in
         let known = sound.known i k il kl in
@@ -53,76 +53,76 @@ module _ (g : Signature) (c d p owner q par mk : List ℕ) (t : ℕ) (sound : Is
         let c_is : get_or c2 i 0 ≡ get_or c i 0 + sign (get_or mk i 0) = raised.equation i il in
         let d_is : get_or d2 (unknown_at g i k - 1) 0 ≡ get_or d (unknown_at g i k - 1) 0 + reached owner mk (unknown_at g i k) = raised.unknown (unknown_at g i k) known.0 known.1 in
         elim (eqb_tells (get_or mk i 0) 0) [
-          | inl e ↦ let z : sign (get_or mk i 0) ≡ 0 = sign-zero (get_or mk i 0) e.1 in omega arith
+          | inl e ↦ let z : sign (get_or mk i 0) ≡ 0 = sign_zero (get_or mk i 0) e.1 in omega arith
           | inr e ↦
-              let z : sign (get_or mk i 0) ≡ 1 = sign-some (get_or mk i 0) e.1 in
+              let z : sign (get_or mk i 0) ≡ 1 = sign_some (get_or mk i 0) e.1 in
               elim (eqb_tells (get_or d (unknown_at g i k - 1) 0) (get_or c i 0 + order_at g i k)) [
                 | inl tight ↦
-                    let there = closed-marks (tight_of g c d) p owner q par mk 0 t sound tree closed i (unknown_at g i k) il e.1 (entry-used g c d i (unknown_at g i k) k kl refl tight.1) in
-                    let hit : reached owner mk (unknown_at g i k) ≢ 0 = reached-by owner mk (unknown_at g i k) there.2 there.3 in
+                    let there = closed_marks (tight_of g c d) p owner q par mk 0 t sound tree closed i (unknown_at g i k) il e.1 (entry_used g c d i (unknown_at g i k) k kl refl tight.1) in
+                    let hit : reached owner mk (unknown_at g i k) ≢ 0 = reached_by owner mk (unknown_at g i k) there.2 there.3 in
                     omega (arith, hit)
                 | inr loose ↦ omega (arith, loose.1)
               ]
         ];
   }
 
-  pub matching-raised : IsMatching (Uses (tight_of g c2 d2)) (equations g) g.unknowns p owner
-  matching-raised = record {
+  pub matching_raised : IsMatching (Uses (tight_of g c2 d2)) (equations g) g.unknowns p owner
+  matching_raised = record {
     equations_all = match.equations_all;
     unknowns_all = match.unknowns_all;
     edge = λ i il has.
         let j = get_or p i 0 in
         let held = match.owned i il has in
-        let entry = used-entry g c d i (get_or p i 0) (match.edge i il has) in
+        let entry = used_entry g c d i (get_or p i 0) (match.edge i il has) in
         let above : 0 < get_or p i 0 = omega (arith, has) in
         let c_is = raised.equation i il in
         let d_is = raised.unknown (get_or p i 0) above held.0 in
         let back : get_or owner (get_or p i 0) 0 - 1 ≡ i = omega (arith, held.1) in
-        let one : reached owner mk (get_or p i 0) ≡ sign (get_or mk i 0) = reached-one owner mk (get_or p i 0) (omega (arith, held.1)) ∙ ap (λ (x : ℕ). sign (get_or mk x 0)) back in
-        entry-used g c2 d2 i (get_or p i 0) entry.0 entry.1 entry.2 (omega (arith, entry.3));
+        let one : reached owner mk (get_or p i 0) ≡ sign (get_or mk i 0) = reached_one owner mk (get_or p i 0) (omega (arith, held.1)) ∙ ap (λ (x : ℕ). sign (get_or mk x 0)) back in
+        entry_used g c2 d2 i (get_or p i 0) entry.0 entry.1 entry.2 (omega (arith, entry.3));
     owned = match.owned;
     owns = match.owns;
   }
 
-  pub lowest-raised : IsBelowAll g (by_place c) (by_number d) → IsBelowAll g (by_place c2) (by_number d2)
-  lowest-raised least = record {
+  pub lowest_raised : IsBelowAll g (by_place c) (by_number d) → IsBelowAll g (by_place c2) (by_number d2)
+  lowest_raised least = record {
     below = λ c' d' rival.
         let below = least.below c' d' rival in
         record {
-          equation = λ i il. rw (raised.equation i il) (equation-above g c d p owner q par mk t sound match tree closed fits c' d' rival below i il);
-          unknown = λ j above jn. rw (raised.unknown j above jn) (unknown-above g c d p owner q par mk t sound match tree closed fits c' d' rival below j above jn);
+          equation = λ i il. rw (raised.equation i il) (equation_above g c d p owner q par mk t sound match tree closed fits c' d' rival below i il);
+          unknown = λ j above jn. rw (raised.unknown j above jn) (unknown_above g c d p owner q par mk t sound match tree closed fits c' d' rival below j above jn);
         };
   }
 
-  sum-equations : sum_below (by_place c2) (equations g) ≡ sum_below (by_place c) (equations g) + count_below (λ i. get_or mk i 0) (equations g)
-  sum-equations =
-      sum-same (by_place c2) (λ i. get_or c i 0 + sign (get_or mk i 0)) (equations g) raised.equation ∙ sum-add (by_place c) (λ i. sign (get_or mk i 0)) (equations g)
+  sum_equations : sum_below (by_place c2) (equations g) ≡ sum_below (by_place c) (equations g) + count_below (λ i. get_or mk i 0) (equations g)
+  sum_equations =
+      sum_same (by_place c2) (λ i. get_or c i 0 + sign (get_or mk i 0)) (equations g) raised.equation ∙ sum_add (by_place c) (λ i. sign (get_or mk i 0)) (equations g)
 
-  sum-unknowns : sum_below (by_place d2) g.unknowns ≡ sum_below (by_place d) g.unknowns + sum_below (λ u. reached owner mk (u + 1)) g.unknowns
-  sum-unknowns =
-      sum-same (by_place d2) (λ u. get_or d u 0 + reached owner mk (u + 1)) g.unknowns
+  sum_unknowns : sum_below (by_place d2) g.unknowns ≡ sum_below (by_place d) g.unknowns + sum_below (λ u. reached owner mk (u + 1)) g.unknowns
+  sum_unknowns =
+      sum_same (by_place d2) (λ u. get_or d u 0 + reached owner mk (u + 1)) g.unknowns
       (λ u l. let back : u + 1 - 1 ≡ u = omega arith in rw back at (raised.unknown (u + 1) (omega arith) (omega arith)))
-      ∙ sum-add (by_place d) (λ u. reached owner mk (u + 1)) g.unknowns
+      ∙ sum_add (by_place d) (λ u. reached owner mk (u + 1)) g.unknowns
 
-  fewer-unknowns : sum_below (λ u. reached owner mk (u + 1)) g.unknowns + 1 ≤ count_below (λ i. get_or mk i 0) (equations g)
-  fewer-unknowns =
+  fewer_unknowns : sum_below (λ u. reached owner mk (u + 1)) g.unknowns + 1 ≤ count_below (λ i. get_or mk i 0) (equations g)
+  fewer_unknowns =
       let root = get_or q 0 0 in
       let marked = tree.marked 0 some in
       let more : count_below (λ i. get_or mk i 0) (equations g) ≡ suc (count_below (without (λ i. get_or mk i 0) root) (equations g)) =
-      count-without (λ i. get_or mk i 0) root (equations g) (tree.in_range 0 some) marked in
+      count_without (λ i. get_or mk i 0) root (equations g) (tree.in_range 0 some) marked in
       let few : sum_below (λ u. reached owner mk (u + 1)) g.unknowns ≤ count_below (without (λ i. get_or mk i 0) root) (equations g) =
-      sum-injection (λ u. reached owner mk (u + 1)) (λ i. sign (without (λ i. get_or mk i 0) root i)) (λ u. get_or owner (u + 1) 0 - 1) g.unknowns (equations g)
+      sum_injection (λ u. reached owner mk (u + 1)) (λ i. sign (without (λ i. get_or mk i 0) root i)) (λ u. get_or owner (u + 1) 0 - 1) g.unknowns (equations g)
       (λ u l hit.
-      let has = reached-some owner mk (u + 1) hit in
+      let has = reached_some owner mk (u + 1) hit in
       let x = get_or owner (u + 1) 0 - 1 in
       let held = match.owns x (u + 1) (omega arith) (omega arith) (omega (arith, has.0)) in
       let ne : x ≢ root = λ same. let none : get_or p x 0 ≡ 0 = rw same bare in omega (arith, held.1) in
-      let is : without (λ i. get_or mk i 0) root x ≡ get_or mk x 0 = without-other (λ i. get_or mk i 0) root x ne in
-      let one : sign (without (λ i. get_or mk i 0) root x) ≡ 1 = sign-some (without (λ i. get_or mk i 0) root x) (rw is has.1) in
-      (held.0, omega (arith, reached-low owner mk (u + 1))))
+      let is : without (λ i. get_or mk i 0) root x ≡ get_or mk x 0 = without_other (λ i. get_or mk i 0) root x ne in
+      let one : sign (without (λ i. get_or mk i 0) root x) ≡ 1 = sign_some (without (λ i. get_or mk i 0) root x) (rw is has.1) in
+      (held.0, omega (arith, reached_low owner mk (u + 1))))
       (λ u v ul vl hu hv same.
-      let one = reached-some owner mk (u + 1) hu in
-      let two = reached-some owner mk (v + 1) hv in
+      let one = reached_some owner mk (u + 1) hu in
+      let two = reached_some owner mk (v + 1) hv in
       let here = match.owns (get_or owner (u + 1) 0 - 1) (u + 1) (omega arith) (omega arith) (omega (arith, one.0)) in
       let there = match.owns (get_or owner (v + 1) 0 - 1) (v + 1) (omega arith) (omega arith) (omega (arith, two.0)) in
       let is : get_or p (get_or owner (u + 1) 0 - 1) 0 ≡ get_or p (get_or owner (v + 1) 0 - 1) 0 = ap (λ (x : ℕ). get_or p x 0) same in
@@ -130,29 +130,29 @@ module _ (g : Signature) (c d p owner q par mk : List ℕ) (t : ℕ) (sound : Is
       omega arith
 
   module _ (can : CanCoverAll g) where
-    pub gap-smaller : gap (equations g) g.unknowns c2 d2 < gap (equations g) g.unknowns c d
+    pub gap_smaller : gap (equations g) g.unknowns c2 d2 < gap (equations g) g.unknowns c d
     unfolding gap
-    gap-smaller =
-        let after = sums-order g c2 d2 sound fits-raised can in
-        omega (arith, sum-equations, sum-unknowns, fewer-unknowns)
+    gap_smaller =
+        let after = sums_order g c2 d2 sound fits_raised can in
+        omega (arith, sum_equations, sum_unknowns, fewer_unknowns)
 
-    pub small-raised : AreSmall g c d → AreSmall g c2 d2
-    small-raised small =
-        let less = gap-smaller in
+    pub small_raised : AreSmall g c d → AreSmall g c2 d2
+    small_raised small =
+        let less = gap_smaller in
         record {
-          equation = λ h bounds i il. let was = small.equation h bounds i il in omega (arith, raised.equation i il, sign-low (get_or mk i 0));
+          equation = λ h bounds i il. let was = small.equation h bounds i il in omega (arith, raised.equation i il, sign_low (get_or mk i 0));
           unknown = λ h bounds u ul.
               let was = small.unknown h bounds u ul in
               let back : u + 1 - 1 ≡ u = omega arith in
               let d_is : get_or d2 u 0 ≡ get_or d u 0 + reached owner mk (u + 1) = rw back at (raised.unknown (u + 1) (omega arith) (omega arith)) in
-              omega (arith, reached-low owner mk (u + 1));
+              omega (arith, reached_low owner mk (u + 1));
         }
 
-    pub rising-raised : AreRising g c d → AreRising g c2 d2
-    rising-raised rising = record { fits = fits-raised; least = lowest-raised rising.least; small = small-raised rising.small }
+    pub rising_raised : AreRising g c d → AreRising g c2 d2
+    rising_raised rising = record { fits = fits_raised; least = lowest_raised rising.least; small = small_raised rising.small }
 
-pub cost-raised : (s0 s1 s2 x x2 e : ℕ) → s1 ≤ s0 + e → x2 < x → s0 + x * e ≤ s2 → s1 + x2 * e ≤ s2
-cost-raised s0 s1 s2 x x2 e one less was = grind (arith)
+pub cost_raised : (s0 s1 s2 x x2 e : ℕ) → s1 ≤ s0 + e → x2 < x → s0 + x * e ≤ s2 → s1 + x2 * e ≤ s2
+cost_raised s0 s1 s2 x x2 e one less was = grind (arith)
 
 -- Where raising stands: the offsets have gained what the marks have lost. The equations from place t of the queue still have marks.
 pub record IsRaisedTo (m n : ℕ) (owner q mk0 c0 d0 mk c d : List ℕ) (t tail : ℕ) : Type 0 where
@@ -165,21 +165,21 @@ pub record IsRaisedTo (m n : ℕ) (owner q mk0 c0 d0 mk c d : List ℕ) (t tail 
   pub listed : (i : ℕ) → get_or mk i 0 ≢ 0 → (s : ℕ) × (t ≤ s) × (s < tail) × (get_or q s 0 ≡ i)
 
 module _ (E : ℕ → ℕ → Type 0) (m n : ℕ) (p owner q par mk0 c0 d0 : List ℕ) (tail : ℕ) (match : IsMatching E m n p owner) (tree : IsTree E m p q par mk0 0 tail) where
-  mark-in : (x : ℕ) → get_or mk0 x 0 ≢ 0 → x < m
-  mark-in x some = elim (leb_tells m x) [
+  mark_in : (x : ℕ) → get_or mk0 x 0 ≢ 0 → x < m
+  mark_in x some = elim (leb_tells m x) [
     | inl e ↦ absurd (some (get_or-eq_default mk0 0 (let l : length mk0 ≤ x = omega (arith, e.1, tree.mark_all) in l)))
     | inr e ↦ e.1
   ]
 
-  pub raise-begins : length c0 ≡ m → length d0 ≡ n → IsRaisedTo m n owner q mk0 c0 d0 mk0 c0 d0 0 tail
-  raise-begins size_c size_d = record {
+  pub raise_begins : length c0 ≡ m → length d0 ≡ n → IsRaisedTo m n owner q mk0 c0 d0 mk0 c0 d0 0 tail
+  raise_begins size_c size_d = record {
     mark_all = tree.mark_all;
     c_all = size_c;
     d_all = size_d;
     equation = λ i l. refl;
     unknown = λ j above jn. refl;
     marked = λ s above l. tree.marked s l;
-    listed = λ x some. let there = tree.listed x (mark-in x some) some in (there.0, omega arith, there.1, there.2);
+    listed = λ x some. let there = tree.listed x (mark_in x some) some in (there.0, omega arith, there.1, there.2);
   }
 
   module _ (mk c d : List ℕ) (t : ℕ) (tl : t < tail) (to : IsRaisedTo m n owner q mk0 c0 d0 mk c d t tail) where
@@ -187,19 +187,19 @@ module _ (E : ℕ → ℕ → Type 0) (m n : ℕ) (p owner q par mk0 c0 d0 : Lis
     here-in = tree.in_range t tl
 
     here-marked : sign (get_or mk (get_or q t 0) 0) ≡ 1
-    here-marked = sign-some (get_or mk (get_or q t 0) 0) (to.marked t (omega arith) tl)
+    here-marked = sign_some (get_or mk (get_or q t 0) 0) (to.marked t (omega arith) tl)
 
-    pub raise-pair : get_or p (get_or q t 0) 0 ≤ n
-    raise-pair = elim (eqb_tells (get_or p (get_or q t 0) 0) 0) [
+    pub raise_pair : get_or p (get_or q t 0) 0 ≤ n
+    raise_pair = elim (eqb_tells (get_or p (get_or q t 0) 0) 0) [
       | inl e ↦ rw e.1 (omega arith)
       | inr e ↦ (match.owned (get_or q t 0) here-in e.1).0
     ]
 
-    pub raise-inside : (get_or q t 0 < length mk) × (get_or q t 0 < length c)
-    raise-inside = (omega (arith, here-in, to.mark_all), omega (arith, here-in, to.c_all))
+    pub raise_inside : (get_or q t 0 < length mk) × (get_or q t 0 < length c)
+    raise_inside = (omega (arith, here-in, to.mark_all), omega (arith, here-in, to.c_all))
 
-    pub raise-room-equation : ((i : ℕ) → i < m → get_or c0 i 0 + 1 < 4294967296) → get_or c (get_or q t 0) 0 + 1 < 4294967296
-    raise-room-equation room = omega (arith, room (get_or q t 0) here-in, to.equation (get_or q t 0) here-in, here-marked, sign-low (get_or mk0 (get_or q t 0) 0))
+    pub raise_room_equation : ((i : ℕ) → i < m → get_or c0 i 0 + 1 < 4294967296) → get_or c (get_or q t 0) 0 + 1 < 4294967296
+    raise_room_equation room = omega (arith, room (get_or q t 0) here-in, to.equation (get_or q t 0) here-in, here-marked, sign_low (get_or mk0 (get_or q t 0) 0))
 
     holds : get_or p (get_or q t 0) 0 ≢ 0 → get_or owner (get_or p (get_or q t 0) 0) 0 ≡ suc (get_or q t 0)
     holds some = (match.owned (get_or q t 0) here-in some).1
@@ -207,17 +207,17 @@ module _ (E : ℕ → ℕ → Type 0) (m n : ℕ) (p owner q par mk0 c0 d0 : Lis
     here-reached : get_or p (get_or q t 0) 0 ≢ 0 → reached owner mk (get_or p (get_or q t 0) 0) ≡ 1
     here-reached some =
         let back : get_or owner (get_or p (get_or q t 0) 0) 0 - 1 ≡ get_or q t 0 = omega (arith, holds some) in
-        reached-one owner mk (get_or p (get_or q t 0) 0) (omega (arith, holds some)) ∙ ap (λ (x : ℕ). sign (get_or mk x 0)) back ∙ here-marked
+        reached_one owner mk (get_or p (get_or q t 0) 0) (omega (arith, holds some)) ∙ ap (λ (x : ℕ). sign (get_or mk x 0)) back ∙ here-marked
 
-    pub raise-room-unknown : ((u : ℕ) → u < n → get_or d0 u 0 + 1 < 4294967296) → get_or p (get_or q t 0) 0 ≢ 0 → get_or d (get_or p (get_or q t 0) 0 - 1) 0 + 1 < 4294967296
-    raise-room-unknown room some =
+    pub raise_room_unknown : ((u : ℕ) → u < n → get_or d0 u 0 + 1 < 4294967296) → get_or p (get_or q t 0) 0 ≢ 0 → get_or d (get_or p (get_or q t 0) 0 - 1) 0 + 1 < 4294967296
+    raise_room_unknown room some =
         let j = get_or p (get_or q t 0) 0 in
-        let small = room (get_or p (get_or q t 0) 0 - 1) (omega (arith, raise-pair, some)) in
-        let kept = to.unknown (get_or p (get_or q t 0) 0) (omega (arith, some)) raise-pair in
-        omega (arith, here-reached some, reached-low owner mk0 (get_or p (get_or q t 0) 0))
+        let small = room (get_or p (get_or q t 0) 0 - 1) (omega (arith, raise_pair, some)) in
+        let kept = to.unknown (get_or p (get_or q t 0) 0) (omega (arith, some)) raise_pair in
+        omega (arith, here-reached some, reached_low owner mk0 (get_or p (get_or q t 0) 0))
 
     mk-here : get_or (set mk (get_or q t 0) 0) (get_or q t 0) 0 ≡ 0
-    mk-here = get_or-set_same mk (get_or q t 0) 0 0 raise-inside.0
+    mk-here = get_or-set_same mk (get_or q t 0) 0 0 raise_inside.0
 
     mk-there : (x : ℕ) → x ≢ get_or q t 0 → get_or (set mk (get_or q t 0) 0) x 0 ≡ get_or mk x 0
     mk-there x ne = get_or-set_other mk (get_or q t 0) x 0 0 ne
@@ -225,8 +225,8 @@ module _ (E : ℕ → ℕ → Type 0) (m n : ℕ) (p owner q par mk0 c0 d0 : Lis
     reached-here : get_or p (get_or q t 0) 0 ≢ 0 → reached owner (set mk (get_or q t 0) 0) (get_or p (get_or q t 0) 0) ≡ 0
     reached-here some =
         let back : get_or owner (get_or p (get_or q t 0) 0) 0 - 1 ≡ get_or q t 0 = omega (arith, holds some) in
-        reached-one owner (set mk (get_or q t 0) 0) (get_or p (get_or q t 0) 0) (omega (arith, holds some))
-        ∙ ap (λ (x : ℕ). sign (get_or (set mk (get_or q t 0) 0) x 0)) back ∙ sign-zero (get_or (set mk (get_or q t 0) 0) (get_or q t 0) 0) mk-here
+        reached_one owner (set mk (get_or q t 0) 0) (get_or p (get_or q t 0) 0) (omega (arith, holds some))
+        ∙ ap (λ (x : ℕ). sign (get_or (set mk (get_or q t 0) 0) x 0)) back ∙ sign_zero (get_or (set mk (get_or q t 0) 0) (get_or q t 0) 0) mk-here
 
     reached-none : (mk' : List ℕ) (u : ℕ) → get_or owner u 0 ≡ 0 → reached owner mk' u ≡ 0
     reached-none mk' u none = grind (arith, nat_tests, none)
@@ -238,13 +238,13 @@ module _ (E : ℕ → ℕ → Type 0) (m n : ℕ) (p owner q par mk0 c0 d0 : Lis
           let x = get_or owner u 0 - 1 in
           let held = match.owns (get_or owner u 0 - 1) u above un (omega (arith, e.1)) in
           let off : get_or owner u 0 - 1 ≢ get_or q t 0 = λ same. ne (sym held.1 ∙ ap (λ (y : ℕ). get_or p y 0) same) in
-          reached-one owner (set mk (get_or q t 0) 0) u e.1 ∙ ap sign (mk-there (get_or owner u 0 - 1) off) ∙ sym (reached-one owner mk u e.1)
+          reached_one owner (set mk (get_or q t 0) 0) u e.1 ∙ ap sign (mk-there (get_or owner u 0 - 1) off) ∙ sym (reached_one owner mk u e.1)
     ]
 
-    pub raise-next : (d' : List ℕ) → (get_or p (get_or q t 0) 0 ≢ 0 → d' ≡ set d (get_or p (get_or q t 0) 0 - 1) (get_or d (get_or p (get_or q t 0) 0 - 1) 0 + 1))
+    pub raise_next : (d' : List ℕ) → (get_or p (get_or q t 0) 0 ≢ 0 → d' ≡ set d (get_or p (get_or q t 0) 0 - 1) (get_or d (get_or p (get_or q t 0) 0 - 1) 0 + 1))
         → (get_or p (get_or q t 0) 0 ≡ 0 → d' ≡ d)
         → IsRaisedTo m n owner q mk0 c0 d0 (set mk (get_or q t 0) 0) (set c (get_or q t 0) (get_or c (get_or q t 0) 0 + 1)) d' (t + 1) tail
-    raise-next d' some_is none_is = record {
+    raise_next d' some_is none_is = record {
       mark_all = length-set mk (get_or q t 0) 0 ∙ to.mark_all;
       c_all = length-set c (get_or q t 0) (get_or c (get_or q t 0) 0 + 1) ∙ to.c_all;
       d_all = elim (eqb_tells (get_or p (get_or q t 0) 0) 0) [
@@ -253,8 +253,8 @@ module _ (E : ℕ → ℕ → Type 0) (m n : ℕ) (p owner q par mk0 c0 d0 : Lis
       ];
       equation = λ i l. elim (eqb_tells i (get_or q t 0)) [
         | inl e ↦
-            let c_is = get_or-set_same c (get_or q t 0) (get_or c (get_or q t 0) 0 + 1) 0 raise-inside.1 in
-            let z = sign-zero (get_or (set mk (get_or q t 0) 0) (get_or q t 0) 0) mk-here in
+            let c_is = get_or-set_same c (get_or q t 0) (get_or c (get_or q t 0) 0 + 1) 0 raise_inside.1 in
+            let z = sign_zero (get_or (set mk (get_or q t 0) 0) (get_or q t 0) 0) mk-here in
             rw (e.1, c_is, z) (let was = to.equation (get_or q t 0) here-in in omega (arith, here-marked))
         | inr e ↦
             let c_is = get_or-set_other c (get_or q t 0) i (get_or c (get_or q t 0) 0 + 1) 0 e.1 in
@@ -263,10 +263,10 @@ module _ (E : ℕ → ℕ → Type 0) (m n : ℕ) (p owner q par mk0 c0 d0 : Lis
       unknown = λ u above un. elim (eqb_tells u (get_or p (get_or q t 0) 0)) [
         | inl e ↦
             let some : get_or p (get_or q t 0) 0 ≢ 0 = omega (arith, e.1) in
-            let inside : get_or p (get_or q t 0) 0 - 1 < length d = omega (arith, raise-pair, to.d_all) in
+            let inside : get_or p (get_or q t 0) 0 - 1 < length d = omega (arith, raise_pair, to.d_all) in
             let d_is : get_or d' (get_or p (get_or q t 0) 0 - 1) 0 ≡ get_or d (get_or p (get_or q t 0) 0 - 1) 0 + 1 =
             rw (some_is some) (get_or-set_same d (get_or p (get_or q t 0) 0 - 1) (get_or d (get_or p (get_or q t 0) 0 - 1) 0 + 1) 0 inside) in
-            let was = to.unknown (get_or p (get_or q t 0) 0) (omega (arith, some)) raise-pair in
+            let was = to.unknown (get_or p (get_or q t 0) 0) (omega (arith, some)) raise_pair in
             rw e.1 (omega (arith, reached-here some, here-reached some))
         | inr e ↦
             let d_is : get_or d' (u - 1) 0 ≡ get_or d (u - 1) 0 = elim (eqb_tells (get_or p (get_or q t 0) 0) 0) [
@@ -288,19 +288,19 @@ module _ (E : ℕ → ℕ → Type 0) (m n : ℕ) (p owner q par mk0 c0 d0 : Lis
     }
 
   module _ (mk c d : List ℕ) (t : ℕ) (all : tail ≤ t) (to : IsRaisedTo m n owner q mk0 c0 d0 mk c d t tail) where
-    pub raise-clear : (x : ℕ) → get_or mk x 0 ≡ 0
-    raise-clear x = elim (eqb_tells (get_or mk x 0) 0) [
+    pub raise_clear : (x : ℕ) → get_or mk x 0 ≡ 0
+    raise_clear x = elim (eqb_tells (get_or mk x 0) 0) [
       | inl e ↦ e.1
       | inr e ↦ let there = to.listed x e.1 in absurd (omega (arith, there.1, there.2))
     ]
 
-    pub raise-ends : AreRaised m n owner mk0 c0 d0 c d
-    raise-ends = record {
-      equation = λ i l. omega (arith, to.equation i l, sign-zero (get_or mk i 0) (raise-clear i));
+    pub raise_ends : AreRaised m n owner mk0 c0 d0 c d
+    raise_ends = record {
+      equation = λ i l. omega (arith, to.equation i l, sign_zero (get_or mk i 0) (raise_clear i));
       unknown = λ j above jn.
           let none : reached owner mk j ≡ 0 = elim (eqb_tells (reached owner mk j) 0) [
             | inl e ↦ e.1
-            | inr e ↦ let has = reached-some owner mk j e.1 in absurd (has.1 (raise-clear (get_or owner j 0 - 1)))
+            | inr e ↦ let has = reached_some owner mk j e.1 in absurd (has.1 (raise_clear (get_or owner j 0 - 1)))
           ] in
           omega (arith, to.unknown j above jn);
     }

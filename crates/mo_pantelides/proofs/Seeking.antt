@@ -4,18 +4,18 @@ use Rattle.std.proofs.lemmas.Bool.{cases_lt}
 use Rattle.std.proofs.lemmas.Bool.Decides.{eqb_tells}
 use Rattle.mo_incidence.specs.Signature.{Signature, equations, row_len, unknown_at, IsSound}
 use Rattle.mo_match.specs.Searching.{UsesEntry, Uses, tight_of, IsTree, IsPassed, IsSearched, IsFree, IsClosedBehind, Reaches}
-use Rattle.mo_match.proofs.Trees.{below-next, tree-room, tree-push, root-cleared, passed-unused, passed-by, searched-none, searched-next, searched-kept}
-use Rattle.mo_match.proofs.Bounding.{uses-entry, not-lower}
+use Rattle.mo_match.proofs.Trees.{below_next, tree_room, tree_push, root_cleared, passed_unused, passed_by, searched_none, searched_next, searched_kept}
+use Rattle.mo_match.proofs.Bounding.{uses_entry, not_lower}
 use Rattle.mo_pantelides.specs.steps.Fixing.{AreOpen, IsRival, IsFixedTo}
 use Rattle.mo_pantelides.specs.steps.Seeking.{IsTurn, IsSeeking, IsFound, looked}
-use Rattle.mo_pantelides.proofs.Looking.{looked-more, looked-root}
-use Rattle.mo_pantelides.proofs.Tight.{entry-tight, tight-entry, entry-used}
-use Rattle.mo_pantelides.proofs.Fixing.{while_none, while-none, uses-left, left-tight, rival-open, rival-part, rival-given, rival-covers, fixed-more}
+use Rattle.mo_pantelides.proofs.Looking.{looked_more, looked_root}
+use Rattle.mo_pantelides.proofs.Tight.{entry_tight, tight_entry, entry_used}
+use Rattle.mo_pantelides.proofs.Fixing.{while_none, while_none_holds, uses_left, left_tight, rival_open, rival_part, rival_given, rival_covers, fixed_more}
 
 -- marks that are 0 where those before are
-pub tree-remarked : {E : ℕ → ℕ → Type 0} {m : ℕ} {p q par mk : List ℕ} {b t : ℕ} (mk' : List ℕ) → length mk' ≡ length mk → ((x : ℕ) → get_or mk x 0 ≢ 0 → get_or mk' x 0 ≢ 0)
+pub tree_remarked : {E : ℕ → ℕ → Type 0} {m : ℕ} {p q par mk : List ℕ} {b t : ℕ} (mk' : List ℕ) → length mk' ≡ length mk → ((x : ℕ) → get_or mk x 0 ≢ 0 → get_or mk' x 0 ≢ 0)
     → ((x : ℕ) → x < m → get_or mk' x 0 ≢ 0 → get_or mk x 0 ≢ 0) → IsTree E m p q par mk b t → IsTree E m p q par mk' b t
-tree-remarked mk' size kept back tree = record {
+tree_remarked mk' size kept back tree = record {
   queue_all = tree.queue_all;
   parent_all = tree.parent_all;
   mark_all = size ∙ tree.mark_all;
@@ -33,50 +33,50 @@ tree-remarked mk' size kept back tree = record {
 module _ (g : Signature) (c d left p owner t q par mk : List ℕ) (root : ℕ) (rm : root < equations g) (bare : get_or p root 0 ≡ 0) (unfixed : get_or t root 0 ≡ 0)
     (fixed : IsFixedTo g c d left p owner t root root) (tree : IsTree (Uses (tight_of g c left)) (equations g) p q par mk 0 0)
     (spare : (j : ℕ) × IsFree (tight_of g c left) owner root j) where
-  root-mark : get_or (set mk root 1) root 0 ≡ 1
-  root-mark = let l : root < length mk = omega (arith, rm, tree.mark_all) in get_or-set_same mk root 1 0 l
+  root_mark : get_or (set mk root 1) root 0 ≡ 1
+  root_mark = let l : root < length mk = omega (arith, rm, tree.mark_all) in get_or-set_same mk root 1 0 l
 
-  root-first : get_or (set q 0 root) 0 0 ≡ root
-  root-first = let l : 0 < length q = omega (arith, rm, tree.queue_all) in get_or-set_same q 0 root 0 l
+  root_first : get_or (set q 0 root) 0 0 ≡ root
+  root_first = let l : 0 < length q = omega (arith, rm, tree.queue_all) in get_or-set_same q 0 root 0 l
 
-  place-none : (s : ℕ) → s < 1 → get_or (set q 0 root) s 0 ≡ root
-  place-none s l = let e : s ≡ 0 = omega arith in rw e root-first
+  place_none : (s : ℕ) → s < 1 → get_or (set q 0 root) s 0 ≡ root
+  place_none s l = let e : s ≡ 0 = omega arith in rw e root_first
 
-  pub seek-start : IsSeeking g c d left p owner t (set q 0 root) (set par 0 0) (set mk root 1) root 1 1 1
-  seek-start = record {
+  pub seek_start : IsSeeking g c d left p owner t (set q 0 root) (set par 0 0) (set mk root 1) root 1 1 1
+  seek_start = record {
     fixed = fixed;
-    tree = tree-push _ _ _ _ _ _ _ _ tree _ rm (root-cleared tree root rm) 0 (λ some. absurd (some bare)) (λ l. absurd (omega arith));
-    first = root-first;
+    tree = tree_push _ _ _ _ _ _ _ _ tree _ rm (root_cleared tree root rm) 0 (λ some. absurd (some bare)) (λ l. absurd (omega arith));
+    first = root_first;
     bare = bare;
     unfixed = unfixed;
     spare = spare;
     order = (omega arith, omega arith, omega arith);
     within = λ x xm. elim (eqb_tells x root) [
-      | inl e ↦ rw (e.1, root-mark) (omega arith)
-      | inr e ↦ rw (get_or-set_other mk root x 1 0 e.1, root-cleared tree x xm) (omega arith)
+      | inl e ↦ rw (e.1, root_mark) (omega arith)
+      | inr e ↦ rw (get_or-set_other mk root x 1 0 e.1, root_cleared tree x xm) (omega arith)
     ];
     ended = λ s above below. absurd (omega arith);
-    searched = λ s l. rw (place-none s l, root-mark) (searched-none _ _ _ _);
+    searched = λ s l. rw (place_none s l, root_mark) (searched_none _ _ _ _);
     row = λ s k above below. absurd (omega arith);
     children = λ s above below. absurd (omega arith);
-    low = λ r rival n l. let none : n < 1 - 1 = rw root-mark at l in absurd (omega arith);
+    low = λ r rival n l. let none : n < 1 - 1 = rw root_mark at l in absurd (omega arith);
   }
 
 -- ---- an entry
 
 module _ (g : Signature) (c d left p owner t q par mk : List ℕ) (root head loose tail : ℕ) (sound : IsSound g) (open_all : AreOpen g c) (rm : root < equations g)
     (to : IsSeeking g c d left p owner t q par mk root head loose tail) where
-  some-tail : 0 < tail
-  some-tail = omega (arith, to.order)
+  some_tail : 0 < tail
+  some_tail = omega (arith, to.order)
 
   module _ (place : ℕ) (turn : IsTurn head loose tail place) where
     -- the place is one of the queue, and none of those that have been looked at whole
-    pub turn-in : place < tail
-    turn-in = elim (cases_lt loose tail) [
+    pub turn_in : place < tail
+    turn_in = elim (cases_lt loose tail) [
       | inl l ↦ let is = turn.last l in omega arith
       | inr l ↦ elim (cases_lt head tail) [
         | inl h ↦ let is = turn.first l h in omega arith
-        | inr h ↦ let is = turn.root l h in omega (arith, some-tail)
+        | inr h ↦ let is = turn.root l h in omega (arith, some_tail)
       ]
     ]
 
@@ -92,7 +92,7 @@ module _ (g : Signature) (c d left p owner t q par mk : List ℕ) (root head loo
     turn-row : loose ≤ place → suc place ≡ tail
     turn-row le = elim (cases_lt loose tail) [
       | inl l ↦ turn.last l
-      | inr l ↦ absurd (omega (arith, turn-in))
+      | inr l ↦ absurd (omega (arith, turn_in))
     ]
 
     turn-root : place ≡ 0 → (tail ≤ loose) × (tail ≤ head)
@@ -104,19 +104,19 @@ module _ (g : Signature) (c d left p owner t q par mk : List ℕ) (root head loo
       ]
     ]
 
-    pub x-in : get_or q place 0 < equations g
-    x-in = to.tree.in_range place turn-in
+    pub x_in : get_or q place 0 < equations g
+    x_in = to.tree.in_range place turn_in
 
-    pub at-root : get_or q place 0 ≡ root → place ≡ 0
-    at-root e = to.tree.apart place 0 turn-in some-tail (e ∙ sym to.first)
+    pub at_root : get_or q place 0 ≡ root → place ≡ 0
+    at_root e = to.tree.apart place 0 turn_in some_tail (e ∙ sym to.first)
 
     -- no equation in the queue is fixed
-    pub turn-open : get_or t (get_or q place 0) 0 ≡ 0
-    turn-open = elim (eqb_tells (get_or t (get_or q place 0) 0) 0) [
+    pub turn_open : get_or t (get_or q place 0) 0 ≡ 0
+    turn_open = elim (eqb_tells (get_or t (get_or q place 0) 0) 0) [
       | inl e ↦ e.1
       | inr e ↦ elim (eqb_tells place 0) [
         | inl z ↦ absurd (e.1 (rw (z.1, to.first) to.unfixed))
-        | inr z ↦ absurd ((to.tree.rooted place (omega (arith, z.1)) turn-in).0 (to.fixed.done (get_or q place 0) x-in e.1))
+        | inr z ↦ absurd ((to.tree.rooted place (omega (arith, z.1)) turn_in).0 (to.fixed.done (get_or q place 0) x_in e.1))
       ]
     ]
 
@@ -131,25 +131,25 @@ module _ (g : Signature) (c d left p owner t q par mk : List ℕ) (root head loo
     }
 
     -- the root's turn never comes when all its entries have been looked at
-    pub root-left : place ≡ 0 → get_or mk (get_or q place 0) 0 ≡ suc (row_len g (get_or q place 0)) → ⊥
-    root-left none whole =
+    pub root_left : place ≡ 0 → get_or mk (get_or q place 0) 0 ≡ suc (row_len g (get_or q place 0)) → ⊥
+    root_left none whole =
         let spare = to.spare in
-        let entry = uses-entry (tight_of g c left) root spare.0 spare.1.used in
+        let entry = uses_entry (tight_of g c left) root spare.0 spare.1.used in
         let at : get_or q place 0 ≡ root = rw none to.first in
         let all : get_or mk root 0 - 1 ≡ row_len g root = let e = rw at at whole in omega (arith, e) in
-        let done = rw (to.first, all) at (to.searched 0 some-tail) in
+        let done = rw (to.first, all) at (to.searched 0 some_tail) in
         let there = (done.passed entry.0 entry.1).inner entry.3 in
         there.0 (rw entry.2 spare.1.unowned)
 
     module _ (k : ℕ) (mark_is : get_or mk (get_or q place 0) 0 ≡ k + 1) (kl : k < row_len g (get_or q place 0)) where
       mk-here : get_or (set mk (get_or q place 0) (k + 2)) (get_or q place 0) 0 ≡ k + 2
-      mk-here = let l : get_or q place 0 < length mk = omega (arith, x-in, to.tree.mark_all) in get_or-set_same mk (get_or q place 0) (k + 2) 0 l
+      mk-here = let l : get_or q place 0 < length mk = omega (arith, x_in, to.tree.mark_all) in get_or-set_same mk (get_or q place 0) (k + 2) 0 l
 
       mk-other : (y : ℕ) → y ≢ get_or q place 0 → get_or (set mk (get_or q place 0) (k + 2)) y 0 ≡ get_or mk y 0
       mk-other y ne = get_or-set_other mk (get_or q place 0) y (k + 2) 0 ne
 
       other-place : (s : ℕ) → s < tail → s ≢ place → get_or q s 0 ≢ get_or q place 0
-      other-place s l ne e = ne (to.tree.apart s place l turn-in e)
+      other-place s l ne e = ne (to.tree.apart s place l turn_in e)
 
       mk-kept : (y : ℕ) → get_or mk y 0 ≢ 0 → get_or (set mk (get_or q place 0) (k + 2)) y 0 ≢ 0
       mk-kept y some = elim (eqb_tells y (get_or q place 0)) [
@@ -157,9 +157,9 @@ module _ (g : Signature) (c d left p owner t q par mk : List ℕ) (root head loo
         | inr e ↦ rw (mk-other y e.1) some
       ]
 
-      pub tree-looked : IsTree (Uses (tight_of g c left)) (equations g) p q par (set mk (get_or q place 0) (k + 2)) 0 tail
-      tree-looked =
-          tree-remarked _ (length-set mk (get_or q place 0) (k + 2)) mk-kept
+      pub tree_looked : IsTree (Uses (tight_of g c left)) (equations g) p q par (set mk (get_or q place 0) (k + 2)) 0 tail
+      tree_looked =
+          tree_remarked _ (length-set mk (get_or q place 0) (k + 2)) mk-kept
           (λ y ym some. elim (eqb_tells y (get_or q place 0)) [
             | inl e ↦ rw (e.1, mark_is) (omega arith)
             | inr e ↦ rw (mk-other y e.1) at some
@@ -183,18 +183,18 @@ module _ (g : Signature) (c d left p owner t q par mk : List ℕ) (root head loo
       bound none r rival =
           let at : get_or q place 0 ≡ root = rw none to.first in
           let back : get_or mk root 0 - 1 ≡ k = let e = rw at at mark_is in omega (arith, e) in
-          let done = rw (to.first, back) at (to.searched 0 some-tail) in
-          let le : unknown_at g root k ≤ while_none (get_or t root 0) (r root) = not-lower (tight_of g c left) p owner q par mk tail root k sound to.fixed.matching to.tree some-tail to.first to.bare done (behind none)
-          (λ x. while_none (get_or t x 0) (r x)) (rival-part g c d left p owner t root root sound open_all to.fixed r rival)
-          (rival-covers g c d left p owner t root root sound open_all to.fixed r rival)
-          (rw at at kl) (rival-given g c d left p owner t root root sound open_all to.fixed r rival root rm to.unfixed) in
-          rw (while-none (get_or t root 0) (r root) to.unfixed) at le
+          let done = rw (to.first, back) at (to.searched 0 some_tail) in
+          let le : unknown_at g root k ≤ while_none (get_or t root 0) (r root) = not_lower (tight_of g c left) p owner q par mk tail root k sound to.fixed.matching to.tree some_tail to.first to.bare done (behind none)
+          (λ x. while_none (get_or t x 0) (r x)) (rival_part g c d left p owner t root root sound open_all to.fixed r rival)
+          (rival_covers g c d left p owner t root root sound open_all to.fixed r rival)
+          (rw at at kl) (rival_given g c d left p owner t root root sound open_all to.fixed r rival root rm to.unfixed) in
+          rw (while_none_holds (get_or t root 0) (r root) to.unfixed) at le
 
       low-looked : (r : ℕ → ℕ) → IsRival g c d t root r → (n : ℕ) → n < get_or (set mk (get_or q place 0) (k + 2)) root 0 - 1 → unknown_at g root n ≤ r root
       low-looked r rival n l = elim (eqb_tells root (get_or q place 0)) [
         | inr e ↦ to.low r rival n (rw (mk-other root e.1) at l)
         | inl e ↦
-            let none = at-root (sym e.1) in
+            let none = at_root (sym e.1) in
             let upto : n < k + 2 - 1 = rw (e.1, mk-here) at l in
             let was : get_or mk root 0 ≡ k + 1 = rw (← e.1) at mark_is in
             elim (eqb_tells n k) [
@@ -213,10 +213,10 @@ module _ (g : Signature) (c d left p owner t q par mk : List ℕ) (root head loo
       searched-looked mk' kept passed s l = elim (eqb_tells s place) [
         | inl e ↦
             let back : get_or mk (get_or q place 0) 0 - 1 ≡ k = omega (arith, mark_is) in
-            let done = rw back at (to.searched place turn-in) in
+            let done = rw back at (to.searched place turn_in) in
             let next : k + 2 - 1 ≡ k + 1 = omega arith in
-            rw (e.1, mk-here, next) (searched-next mk' done (λ y some. kept y (mk-kept y some)) passed)
-        | inr e ↦ rw (mk-other (get_or q s 0) (other-place s l e.1)) (searched-kept mk' (λ y some. kept y (mk-kept y some)) (to.searched s l))
+            rw (e.1, mk-here, next) (searched_next mk' done (λ y some. kept y (mk-kept y some)) passed)
+        | inr e ↦ rw (mk-other (get_or q s 0) (other-place s l e.1)) (searched_kept mk' (λ y some. kept y (mk-kept y some)) (to.searched s l))
       ]
 
       ended-looked : (s : ℕ) → 0 < s → s < head → get_or (set mk (get_or q place 0) (k + 2)) (get_or q s 0) 0 ≡ suc (row_len g (get_or q s 0))
@@ -224,12 +224,12 @@ module _ (g : Signature) (c d left p owner t q par mk : List ℕ) (root head loo
           rw (mk-other (get_or q s 0) (other-place s (omega (arith, below, to.order)) (turn-other s above below))) (to.ended s above below)
 
       -- an entry that leads to no other equation, or to one with a mark
-      pub seek-passed : (loose' : ℕ) → loose ≤ loose' → loose' ≤ tail → IsPassed (tight_of g c left) owner (set mk (get_or q place 0) (k + 2)) (get_or q place 0) k
+      pub seek_passed : (loose' : ℕ) → loose ≤ loose' → loose' ≤ tail → IsPassed (tight_of g c left) owner (set mk (get_or q place 0) (k + 2)) (get_or q place 0) k
           → (loose' ≤ place → UsesEntry (tight_of g c left) (get_or q place 0) k → unknown_at g (get_or q place 0) k ≡ get_or p (get_or q place 0) 0)
           → IsSeeking g c d left p owner t q par (set mk (get_or q place 0) (k + 2)) root head loose' tail
-      seek-passed loose' more upto passed strict = record {
+      seek_passed loose' more upto passed strict = record {
         fixed = to.fixed;
-        tree = tree-looked;
+        tree = tree_looked;
         first = to.first;
         bare = to.bare;
         unfixed = to.unfixed;
@@ -241,7 +241,7 @@ module _ (g : Signature) (c d left p owner t q par mk : List ℕ) (root head loo
         row = λ s n above below. elim (eqb_tells s place) [
           | inl e ↦ rw (e.1, mk-here) (λ l may. elim (eqb_tells n k) [
             | inl z ↦ inl (rw z.1 (strict (omega (arith, e.1, above)) (rw z.1 at may)))
-            | inr z ↦ to.row place n (omega (arith, e.1)) turn-in (omega (arith, l, mark_is, z.1)) may
+            | inr z ↦ to.row place n (omega (arith, e.1)) turn_in (omega (arith, l, mark_is, z.1)) may
           ])
           | inr e ↦ rw (mk-other (get_or q s 0) (other-place s below e.1)) (to.row s n (omega arith) below)
         ];
@@ -254,7 +254,7 @@ module _ (g : Signature) (c d left p owner t q par mk : List ℕ) (root head loo
           (has : get_or p y 0 ≢ 0) (may : UsesEntry (tight_of g c left) (get_or q place 0) k) (owned : get_or owner (unknown_at g (get_or q place 0) k) 0 ≡ suc y) where
         -- its mark
         y-here : get_or (set (set mk (get_or q place 0) (k + 2)) y 1) y 0 ≡ 1
-        y-here = let l : y < length (set mk (get_or q place 0) (k + 2)) = omega (arith, ym, tree-looked.mark_all) in get_or-set_same (set mk (get_or q place 0) (k + 2)) y 1 0 l
+        y-here = let l : y < length (set mk (get_or q place 0) (k + 2)) = omega (arith, ym, tree_looked.mark_all) in get_or-set_same (set mk (get_or q place 0) (k + 2)) y 1 0 l
 
         y-other : (z : ℕ) → z ≢ y → get_or (set (set mk (get_or q place 0) (k + 2)) y 1) z 0 ≡ get_or (set mk (get_or q place 0) (k + 2)) z 0
         y-other z ne = get_or-set_other (set mk (get_or q place 0) (k + 2)) y z 1 0 ne
@@ -266,7 +266,7 @@ module _ (g : Signature) (c d left p owner t q par mk : List ℕ) (root head loo
         ]
 
         room : tail < equations g
-        room = tree-room _ _ _ _ _ _ _ _ tree-looked y ym unmarked
+        room = tree_room _ _ _ _ _ _ _ _ tree_looked y ym unmarked
 
         q-here : get_or (set q tail y) tail 0 ≡ y
         q-here = let l : tail < length q = omega (arith, room, to.tree.queue_all) in get_or-set_same q tail y 0 l
@@ -281,24 +281,24 @@ module _ (g : Signature) (c d left p owner t q par mk : List ℕ) (root head loo
         par-before s l = let ne : s ≢ tail = omega arith in get_or-set_other par tail s place 0 ne
 
         y-apart : (s : ℕ) → s < tail → get_or q s 0 ≢ y
-        y-apart s l e = tree-looked.marked s l (rw e unmarked)
+        y-apart s l e = tree_looked.marked s l (rw e unmarked)
 
         y-root : root ≢ y
         y-root e = has (rw e at to.bare)
 
         pushed : IsTree (Uses (tight_of g c left)) (equations g) p (set q tail y) (set par tail place) (set (set mk (get_or q place 0) (k + 2)) y 1) 0 (tail + 1)
-        pushed = tree-push _ _ _ _ _ _ _ _ tree-looked y ym unmarked place
-            (λ _. (turn-in, rw held (entry-used g c left (get_or q place 0) (unknown_at g (get_or q place 0) k) k kl refl (entry-tight g c left (get_or q place 0) k may))))
+        pushed = tree_push _ _ _ _ _ _ _ _ tree_looked y ym unmarked place
+            (λ _. (turn_in, rw held (entry_used g c left (get_or q place 0) (unknown_at g (get_or q place 0) k) k kl refl (entry_tight g c left (get_or q place 0) k may))))
             (λ _. (has, omega arith))
 
         passed-y : IsPassed (tight_of g c left) owner (set (set mk (get_or q place 0) (k + 2)) y 1) (get_or q place 0) k
         passed-y = record { inner = λ _. let back : suc y - 1 ≡ y = omega arith in rw (owned, back, y-here) (omega arith, omega arith) }
 
-        pub seek-met : IsSeeking g c d left p owner t (set q tail y) (set par tail place) (set (set mk (get_or q place 0) (k + 2)) y 1) root head loose (tail + 1)
-        seek-met = record {
+        pub seek_met : IsSeeking g c d left p owner t (set q tail y) (set par tail place) (set (set mk (get_or q place 0) (k + 2)) y 1) root head loose (tail + 1)
+        seek_met = record {
           fixed = to.fixed;
           tree = pushed;
-          first = q-before 0 some-tail ∙ to.first;
+          first = q-before 0 some_tail ∙ to.first;
           bare = to.bare;
           unfixed = to.unfixed;
           spare = to.spare;
@@ -310,18 +310,18 @@ module _ (g : Signature) (c d left p owner t q par mk : List ℕ) (root head loo
           ended = λ s above below.
               let l : s < tail = omega (arith, to.order) in
               rw (q-before s l, y-other (get_or q s 0) (y-apart s l)) (ended-looked s above below);
-          searched = λ s l. elim (below-next s tail l) [
+          searched = λ s l. elim (below_next s tail l) [
             | inl h ↦ rw (q-before s h, y-other (get_or q s 0) (y-apart s h)) (searched-looked _ y-kept passed-y s h)
-            | inr e ↦ rw (e, q-here, y-here) (searched-none _ _ _ _)
+            | inr e ↦ rw (e, q-here, y-here) (searched_none _ _ _ _)
           ];
-          row = λ s n above l. elim (below-next s tail l) [
+          row = λ s n above l. elim (below_next s tail l) [
             | inr e ↦ rw (e, q-here, y-here) (λ bad. absurd (omega arith))
             | inl h ↦ rw (q-before s h, y-other (get_or q s 0) (y-apart s h)) (elim (eqb_tells s place) [
               | inl e ↦ rw (e.1, mk-here) (λ upto may'. elim (eqb_tells n k) [
                 | inl z ↦
                     let last : suc place ≡ tail = turn-row (omega (arith, e.1, above)) in
                     inr (omega (arith, last), rw (z.1, last, q-here) (sym held))
-                | inr z ↦ elim (to.row place n (omega (arith, e.1, above)) turn-in (omega (arith, upto, mark_is, z.1)) may') [
+                | inr z ↦ elim (to.row place n (omega (arith, e.1, above)) turn_in (omega (arith, upto, mark_is, z.1)) may') [
                   | inl own ↦ inl own
                   | inr next ↦ inr (omega (arith, next.0), rw (q-before (suc place) next.0) next.1)
                 ]
@@ -332,7 +332,7 @@ module _ (g : Signature) (c d left p owner t q par mk : List ℕ) (root head loo
               ])
             ])
           ];
-          children = λ s above l. rw (y-other root y-root) (elim (below-next s tail l) [
+          children = λ s above l. rw (y-other root y-root) (elim (below_next s tail l) [
             | inl h ↦ rw (q-before s h, par-before s h) (children-looked s above h)
             | inr e ↦ rw (e, q-here, par-here) (λ none.
                 let at : get_or q place 0 ≡ root = rw none to.first in
@@ -341,15 +341,15 @@ module _ (g : Signature) (c d left p owner t q par mk : List ℕ) (root head loo
           low = rw (y-other root y-root) low-looked;
         }
 
-      pub seek-unused : (UsesEntry (tight_of g c left) (get_or q place 0) k → ⊥) → IsSeeking g c d left p owner t q par (set mk (get_or q place 0) (k + 2)) root head loose tail
-      seek-unused no_use = seek-passed loose (omega arith) (omega (arith, to.order)) (passed-unused no_use) (λ _ may. absurd (no_use may))
+      pub seek_unused : (UsesEntry (tight_of g c left) (get_or q place 0) k → ⊥) → IsSeeking g c d left p owner t q par (set mk (get_or q place 0) (k + 2)) root head loose tail
+      seek_unused no_use = seek_passed loose (omega arith) (omega (arith, to.order)) (passed_unused no_use) (λ _ may. absurd (no_use may))
 
       module _ (j : ℕ) (j_is : j ≡ unknown_at g (get_or q place 0) k) (known : (0 < j) × (j ≤ g.unknowns)) where
-        pub seek-own : get_or owner j 0 ≡ suc (get_or q place 0) → IsSeeking g c d left p owner t q par (set mk (get_or q place 0) (k + 2)) root head loose tail
-        seek-own owned =
+        pub seek_own : get_or owner j 0 ≡ suc (get_or q place 0) → IsSeeking g c d left p owner t q par (set mk (get_or q place 0) (k + 2)) root head loose tail
+        seek_own owned =
             let held = to.fixed.matching.owns (get_or q place 0) j known.0 known.1 owned in
             let back : get_or owner j 0 - 1 ≡ get_or q place 0 = omega (arith, owned) in
-            seek-passed loose (omega arith) (omega (arith, to.order)) (passed-by j j_is (omega (arith, owned)) (rw (back, mk-here) (omega arith))) (λ _ _. sym j_is ∙ sym held.1)
+            seek_passed loose (omega arith) (omega (arith, to.order)) (passed_by j j_is (omega (arith, owned)) (rw (back, mk-here) (omega arith))) (λ _ _. sym j_is ∙ sym held.1)
 
         module _ (may : UsesEntry (tight_of g c left) (get_or q place 0) k) (has : get_or owner j 0 ≢ 0) where
           pub holder-in : get_or owner j 0 - 1 < equations g
@@ -359,7 +359,7 @@ module _ (g : Signature) (c d left p owner t q par mk : List ℕ) (root head loo
           holder-pair = (to.fixed.matching.owns (get_or owner j 0 - 1) j known.0 known.1 (omega (arith, has))).1
 
           pub holder-room : get_or (set mk (get_or q place 0) (k + 2)) (get_or owner j 0 - 1) 0 ≡ 0 → tail < equations g
-          holder-room unmarked = tree-room _ _ _ _ _ _ _ _ tree-looked (get_or owner j 0 - 1) holder-in unmarked
+          holder-room unmarked = tree_room _ _ _ _ _ _ _ _ tree_looked (get_or owner j 0 - 1) holder-in unmarked
 
           pub seek-reached : (q' par' mk' : List ℕ) (loose' tail' : ℕ) → Reaches q par (set mk (get_or q place 0) (k + 2)) tail (get_or owner j 0 - 1) place q' par' mk' tail'
               → (get_or (set mk (get_or q place 0) (k + 2)) (get_or owner j 0 - 1) 0 ≢ 0 → loose' ≡ tail)
@@ -369,32 +369,32 @@ module _ (g : Signature) (c d left p owner t q par mk : List ℕ) (root head loo
             | inl e ↦
                 let is = reaches.new e.1 in
                 let owned : get_or owner (unknown_at g (get_or q place 0) k) 0 ≡ suc (get_or owner j 0 - 1) = rw (← j_is) (omega (arith, has)) in
-                rw (is.0, is.1, is.2, is.3, stays e.1) (seek-met (get_or owner j 0 - 1) holder-in e.1 (holder-pair ∙ j_is) (rw holder-pair (omega (arith, known.0))) may owned)
+                rw (is.0, is.1, is.2, is.3, stays e.1) (seek_met (get_or owner j 0 - 1) holder-in e.1 (holder-pair ∙ j_is) (rw holder-pair (omega (arith, known.0))) may owned)
             | inr e ↦
                 let is = reaches.old e.1 in
-                rw (is.0, is.1, is.2, is.3, collapses e.1) (seek-passed tail (omega (arith, to.order)) (omega arith) (passed-by j j_is has e.1) (λ le. absurd (omega (arith, le, turn-in))))
+                rw (is.0, is.1, is.2, is.3, collapses e.1) (seek_passed tail (omega (arith, to.order)) (omega arith) (passed_by j j_is has e.1) (λ le. absurd (omega (arith, le, turn_in))))
           ]
 
           pub reached-looked : (q' par' mk' : List ℕ) (tail' : ℕ) → Reaches q par (set mk (get_or q place 0) (k + 2)) tail (get_or owner j 0 - 1) place q' par' mk' tail'
               → looked g t mk' ≡ looked g t (set mk (get_or q place 0) (k + 2))
           reached-looked q' par' mk' tail' reaches = elim (eqb_tells (get_or (set mk (get_or q place 0) (k + 2)) (get_or owner j 0 - 1) 0) 0) [
-            | inl e ↦ rw (reaches.new e.1).2 (looked-root g t (set mk (get_or q place 0) (k + 2)) (get_or owner j 0 - 1) e.1 (omega (arith, holder-in, tree-looked.mark_all)))
+            | inl e ↦ rw (reaches.new e.1).2 (looked_root g t (set mk (get_or q place 0) (k + 2)) (get_or owner j 0 - 1) e.1 (omega (arith, holder-in, tree_looked.mark_all)))
             | inr e ↦ rw (reaches.old e.1).2 refl
           ]
 
-      pub entry-looked : looked g t (set mk (get_or q place 0) (k + 2)) ≡ looked g t mk + 1
-      entry-looked = looked-more g t mk (set mk (get_or q place 0) (k + 2)) (get_or q place 0) k x-in turn-open mark_is mk-here (λ y ne. rw (mk-other y ne) refl)
+      pub entry_looked : looked g t (set mk (get_or q place 0) (k + 2)) ≡ looked g t mk + 1
+      entry_looked = looked_more g t mk (set mk (get_or q place 0) (k + 2)) (get_or q place 0) k x_in turn_open mark_is mk-here (λ y ne. rw (mk-other y ne) refl)
 
       -- an entry that leads to an unknown that no equation has
-      pub seek-free : (free : ℕ) → IsFree (tight_of g c left) owner (get_or q place 0) free → free ≡ unknown_at g (get_or q place 0) k
+      pub seek_free : (free : ℕ) → IsFree (tight_of g c left) owner (get_or q place 0) free → free ≡ unknown_at g (get_or q place 0) k
           → IsFound g c d left p owner t q par (set mk (get_or q place 0) (k + 2)) root place free tail
-      seek-free free is_free is = record {
+      seek_free free is_free is = record {
         fixed = to.fixed;
-        tree = tree-looked;
+        tree = tree_looked;
         first = to.first;
         bare = to.bare;
         unfixed = to.unfixed;
-        place_in = turn-in;
+        place_in = turn_in;
         within = within-looked;
         free_there = is_free;
         low = λ j handed r rival. elim handed [
@@ -414,9 +414,9 @@ module _ (g : Signature) (c d left p owner t q par mk : List ℕ) (root head loo
 
     module _ (whole : get_or mk (get_or q place 0) 0 ≡ suc (row_len g (get_or q place 0))) where
       -- the first one that had entries left
-      pub seek-ended : tail ≤ loose → IsSeeking g c d left p owner t q par mk root (head + 1) loose tail
-      seek-ended le = elim (cases_lt head tail) [
-        | inr h ↦ absurd (root-left (turn.root le h) whole)
+      pub seek_ended : tail ≤ loose → IsSeeking g c d left p owner t q par mk root (head + 1) loose tail
+      seek_ended le = elim (cases_lt head tail) [
+        | inr h ↦ absurd (root_left (turn.root le h) whole)
         | inl h ↦ record {
           fixed = to.fixed;
           tree = to.tree;
@@ -426,7 +426,7 @@ module _ (g : Signature) (c d left p owner t q par mk : List ℕ) (root head loo
           spare = to.spare;
           order = (omega arith, omega (arith, to.order), omega (arith, to.order));
           within = to.within;
-          ended = λ s above below. elim (below-next s head below) [
+          ended = λ s above below. elim (below_next s head below) [
             | inl l ↦ to.ended s above l
             | inr e ↦ rw (e, ← turn.first le h) whole
           ];
@@ -443,41 +443,41 @@ module _ (g : Signature) (c d left p owner t q par mk : List ℕ) (root head loo
         last = turn.last some
 
         x-root : get_or q place 0 ≢ root
-        x-root e = let none = at-root e in omega (arith, last, to.order)
+        x-root e = let none = at_root e in omega (arith, last, to.order)
 
         x-has : get_or p (get_or q place 0) 0 ≢ 0
-        x-has = (to.tree.rooted place (omega (arith, last, to.order)) turn-in).0
+        x-has = (to.tree.rooted place (omega (arith, last, to.order)) turn_in).0
 
-        pub u-some : u ≢ 0
-        u-some = rw u_is at x-has
+        pub u_some : u ≢ 0
+        u_some = rw u_is at x-has
 
         -- no other unknown is left for it
         only : (j : ℕ) → Uses (tight_of g c left) (get_or q place 0) j → j ≡ u
         only j used =
-            let entry = uses-entry (tight_of g c left) (get_or q place 0) j used in
-            elim (to.row place entry.0 (omega (arith, last)) turn-in (omega (arith, whole, entry.1)) entry.3) [
+            let entry = uses_entry (tight_of g c left) (get_or q place 0) j used in
+            elim (to.row place entry.0 (omega (arith, last)) turn_in (omega (arith, whole, entry.1)) entry.3) [
               | inl own ↦ sym entry.2 ∙ own ∙ u_is
               | inr next ↦ absurd (omega (arith, next.0, last))
             ]
 
         x-fixed : IsFixedTo g c d (set left (u - 1) 4294967295) (set p (get_or q place 0) 0) (set owner u 0) (set t (get_or q place 0) u) root root
-        x-fixed = fixed-more g c d left p owner t root root sound open_all to.fixed (get_or q place 0) x-in turn-open u u_is u-some root (omega arith) (λ y l. inl l)
+        x-fixed = fixed_more g c d left p owner t root root sound open_all to.fixed (get_or q place 0) x_in turn_open u u_is u_some root (omega arith) (λ y l. inl l)
             (λ r rival.
             let back : IsRival g c d t root r = record {
               assigns = rival.assigns;
               covers = rival.covers;
-              same = λ y l. let ne : y ≢ get_or q place 0 = λ e. to.fixed.before y l (rw e turn-open) in rival.same y l ∙ get_or-set_other t (get_or q place 0) y u 0 ne;
+              same = λ y l. let ne : y ≢ get_or q place 0 = λ e. to.fixed.before y l (rw e turn_open) in rival.same y l ∙ get_or-set_other t (get_or q place 0) y u 0 ne;
             } in
-            only (r (get_or q place 0)) (rival-open g c d left p owner t root root sound open_all to.fixed r back (get_or q place 0) x-in turn-open))
-            (λ r l rival. absurd (to.fixed.before (get_or q place 0) l turn-open))
+            only (r (get_or q place 0)) (rival_open g c d left p owner t root root sound open_all to.fixed r back (get_or q place 0) x_in turn_open))
+            (λ r l rival. absurd (to.fixed.before (get_or q place 0) l turn_open))
 
-        pub u-known : (0 < u) × (u ≤ g.unknowns)
-        u-known =
-            let known = left-tight g c d left p owner t root root sound open_all to.fixed (get_or q place 0) u x-in (rw u_is at (to.fixed.matching.edge (get_or q place 0) x-in x-has)) in
+        pub u_known : (0 < u) × (u ≤ g.unknowns)
+        u_known =
+            let known = left_tight g c d left p owner t root root sound open_all to.fixed (get_or q place 0) u x_in (rw u_is at (to.fixed.matching.edge (get_or q place 0) x_in x-has)) in
             (known.0, known.1)
 
         u-owner : get_or owner u 0 ≡ suc (get_or q place 0)
-        u-owner = rw u_is at (to.fixed.matching.owned (get_or q place 0) x-in x-has).1
+        u-owner = rw u_is at (to.fixed.matching.owned (get_or q place 0) x_in x-has).1
 
         p-other : (z : ℕ) → z ≢ get_or q place 0 → get_or (set p (get_or q place 0) 0) z 0 ≡ get_or p z 0
         p-other z ne = get_or-set_other p (get_or q place 0) z 0 0 ne
@@ -486,29 +486,29 @@ module _ (g : Signature) (c d left p owner t q par mk : List ℕ) (root head loo
         mk-off z ne = get_or-set_other mk (get_or q place 0) z 0 0 ne
 
         mk-none : get_or (set mk (get_or q place 0) 0) (get_or q place 0) 0 ≡ 0
-        mk-none = let l : get_or q place 0 < length mk = omega (arith, x-in, to.tree.mark_all) in get_or-set_same mk (get_or q place 0) 0 0 l
+        mk-none = let l : get_or q place 0 < length mk = omega (arith, x_in, to.tree.mark_all) in get_or-set_same mk (get_or q place 0) 0 0 l
 
         place-off : (s : ℕ) → s < tail - 1 → get_or q s 0 ≢ get_or q place 0
-        place-off s l e = let same : s ≡ place = to.tree.apart s place (omega arith) turn-in e in omega (arith, last)
+        place-off s l e = let same : s ≡ place = to.tree.apart s place (omega arith) turn_in e in omega (arith, last)
 
         x-pair : (z : ℕ) → z < equations g → z ≢ get_or q place 0 → get_or p z 0 ≢ u
         x-pair z zm ne e =
-            let has : get_or p z 0 ≢ 0 = rw e u-some in
+            let has : get_or p z 0 ≢ 0 = rw e u_some in
             let owned = rw (e, u-owner) at (to.fixed.matching.owned z zm has).1 in
             ne (omega (arith, owned))
 
         -- what may be used then might be used before, at another unknown
         use-back : (i k : ℕ) → i < equations g → k < row_len g i → UsesEntry (tight_of g c (set left (u - 1) 4294967295)) i k → (unknown_at g i k ≢ u) × UsesEntry (tight_of g c left) i k
         use-back i k im kl may =
-            let e = entry-tight g c (set left (u - 1) 4294967295) i k may in
+            let e = entry_tight g c (set left (u - 1) 4294967295) i k may in
             let known = sound.known i k im kl in
             let low = open_all.entry i k im kl in
             let ne : unknown_at g i k ≢ u = λ same.
-            let inside : u - 1 < length left = omega (arith, u-known, to.fixed.left_all) in
+            let inside : u - 1 < length left = omega (arith, u_known, to.fixed.left_all) in
             let high : get_or (set left (u - 1) 4294967295) (unknown_at g i k - 1) 0 ≡ 4294967295 = rw same (get_or-set_same left (u - 1) 4294967295 0 inside) in
             omega (arith, e, low, high) in
-            let apart : unknown_at g i k - 1 ≢ u - 1 = omega (arith, ne, known.0, u-known.0) in
-            (ne, tight-entry g c left i k (rw (get_or-set_other left (u - 1) (unknown_at g i k - 1) 4294967295 0 apart) at e))
+            let apart : unknown_at g i k - 1 ≢ u - 1 = omega (arith, ne, known.0, u_known.0) in
+            (ne, tight_entry g c left i k (rw (get_or-set_other left (u - 1) (unknown_at g i k - 1) 4294967295 0 apart) at e))
 
         searched-off : (i n : ℕ) → i < equations g → n ≤ row_len g i → IsSearched (tight_of g c left) owner mk i n
             → IsSearched (tight_of g c (set left (u - 1) 4294967295)) (set owner u 0) (set mk (get_or q place 0) 0) i n
@@ -544,13 +544,13 @@ module _ (g : Signature) (c d left p owner t q par mk : List ℕ) (root head loo
               let there = to.tree.linked s (omega arith) has in
               let ne = x-pair (get_or q s 0) (to.tree.in_range s (omega arith)) (place-off s l) in (
                 there.0,
-                uses-left g c left u u-known.0 (get_or q (get_or par s 0) 0) (get_or p (get_or q s 0) 0) (omega (arith, has)) ne there.1,
+                uses_left g c left u u_known.0 (get_or q (get_or par s 0) 0) (get_or p (get_or q s 0) 0) (omega (arith, has)) ne there.1,
               ));
           rooted = λ s above l. rw (p-other (get_or q s 0) (place-off s l)) (to.tree.rooted s above (omega arith));
         }
 
-        pub seek-fixed : IsSeeking g c d (set left (u - 1) 4294967295) (set p (get_or q place 0) 0) (set owner u 0) (set t (get_or q place 0) u) q par (set mk (get_or q place 0) 0) root head loose (tail - 1)
-        seek-fixed =
+        pub seek_fixed : IsSeeking g c d (set left (u - 1) 4294967295) (set p (get_or q place 0) 0) (set owner u 0) (set t (get_or q place 0) u) q par (set mk (get_or q place 0) 0) root head loose (tail - 1)
+        seek_fixed =
             let ne : root ≢ get_or q place 0 = λ e. x-root (sym e) in
             record {
               fixed = x-fixed;
@@ -566,7 +566,7 @@ module _ (g : Signature) (c d left p owner t q par mk : List ℕ) (root head loo
                       positive = spare.1.positive;
                       known = spare.1.known;
                       unowned = get_or-set_other owner u spare.0 0 0 other ∙ spare.1.unowned;
-                      used = uses-left g c left u u-known.0 root spare.0 spare.1.positive other spare.1.used;
+                      used = uses_left g c left u u_known.0 root spare.0 spare.1.positive other spare.1.used;
                     },
                   );
               order = (omega (arith, to.order), omega (arith, to.order), omega arith);
@@ -599,6 +599,6 @@ module _ (g : Signature) (c d left p owner t q par mk : List ℕ) (root head loo
                   to.low r (record {
                     assigns = rival.assigns;
                     covers = rival.covers;
-                    same = λ y yl. let off : y ≢ get_or q place 0 = λ e. to.fixed.before y yl (rw e turn-open) in rival.same y yl ∙ get_or-set_other t (get_or q place 0) y u 0 off;
+                    same = λ y yl. let off : y ≢ get_or q place 0 = λ e. to.fixed.before y yl (rw e turn_open) in rival.same y yl ∙ get_or-set_other t (get_or q place 0) y u 0 off;
                   }) n l);
             }

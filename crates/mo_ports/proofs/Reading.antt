@@ -20,11 +20,11 @@ pub starts : (told : Option Contents) (name bytes : List ℕ) → bytes ≡ [] �
 starts None name bytes is = tt
 starts (Some contents) name bytes is = is
 
-grows-at : (all : Option (List ℕ)) (at count : ℕ) (bytes after buf : List ℕ)
+grows_at : (all : Option (List ℕ)) (at count : ℕ) (bytes after buf : List ℕ)
     → bytes ≡ take at (unwrap_or all []) → ReadsAt all at buf count → after ≡ bytes ++ take count buf
     → after ≡ take (at + count) (unwrap_or all [])
-grows-at None at count bytes after buf is reads step = absurd reads
-grows-at (Some all) at count bytes after buf is reads step =
+grows_at None at count bytes after buf is reads step = absurd reads
+grows_at (Some all) at count bytes after buf is reads step =
     step ∙ ap (λ (x : List ℕ). x ++ take count buf) is ∙ ap (λ (x : List ℕ). take at all ++ x) reads.0 ∙ sym (take-add at count all)
 
 -- a read gives the bytes that follow
@@ -37,4 +37,4 @@ pub grows : (told now : Option Contents) (name : List ℕ) (at count : ℕ) (byt
 grows None now name at count bytes after buf same is reads step = tt
 grows (Some contents) now name at count bytes after buf same is reads step =
     let P : Option Contents → Type 0 = λ o. IfSome o (λ contents'. ReadsAt (contents' name) at buf count) in
-    grows-at (contents name) at count bytes after buf is (subst P same reads) step
+    grows_at (contents name) at count bytes after buf is (subst P same reads) step

@@ -44,9 +44,9 @@ module _ (table : Table) (walked : Walked) where
   pub all_checked : (frame : Frame) → each_checked check (redeclares_in (spoken_in table (sources_of frame))) ≡ redeclarations_checked table walked frame
   all_checked frame = all_spoken (spoken_in table (sources_of frame))
 
-is_some-map : {A B : Type 0} (f : A → B) (o : Option A) → is_some o ≡ is_some (option_map f o)
-is_some-map f None = refl
-is_some-map f (Some a) = refl
+is_some_map : {A B : Type 0} (f : A → B) (o : Option A) → is_some o ≡ is_some (option_map f o)
+is_some_map f None = refl
+is_some_map f (Some a) = refl
 
 pub walk_is : (world : World) (walk : Walk) (frame : ℕ) (members : List MemberEntry) (leaf : Bool) (redeclared : List Named) →
     members ≡ map entry_of walk.members → leaf ≡ is_some walk.leaf →
@@ -57,6 +57,6 @@ walk_is world walk frame members leaf redeclared are is named =
     ap (λ (ms : List MemberEntry). each_checked (found_checked (table_in world) (map (member_in (frames_of world)) ms) leaf) (map (named_seen (frames_of world)) redeclared)) are
     ∙ ap (λ (ms : List Member). each_checked (found_checked (table_in world) ms leaf) (map (named_seen (frames_of world)) redeclared)) (members_are (frames_of world) walk.members)
     ∙ ap (λ (l : Bool). each_checked (found_checked (table_in world) (members_in (walk_seen (frames_of world) walk)) l) (map (named_seen (frames_of world)) redeclared))
-    (is ∙ is_some-map (λ (frame : FrameId). frame_in (frames_of world) frame.0) walk.leaf)
+    (is ∙ is_some_map (λ (frame : FrameId). frame_in (frames_of world) frame.0) walk.leaf)
     ∙ ap (each_checked (found_checked (table_in world) (members_in (walk_seen (frames_of world) walk)) (is_some (walk_seen (frames_of world) walk).leaf))) named
     ∙ all_checked (table_in world) (walk_seen (frames_of world) walk) (frame_at world frame)

@@ -17,7 +17,7 @@ use Rattle.mo_scope.specs.Rows.{Table, Declares, Modifiers}
 use Rattle.mo_scope.specs.Frames.{Given, Listed, Argued, Replacing, Source}
 use Rattle.mo_scope.specs.Parts.{Redeclaration, Saying, Modifies, Redeclares, begins_with, behind_name, declared_in, held, names_left, pending_behind, redeclarations_in, said_behind, said_by_argument, said_by_element, said_further}
 use Rattle.mo_scope.specs.Spoken.{Spoken, spoken_argument, spoken_rest, spoken_element, spoken_of, spoken_in}
-use Rattle.mo_scope.proofs.Sayings.{said_left, said_list, said_redeclare, said_replaceable, argument_named, further_named, element_named, flat_map-flat_map}
+use Rattle.mo_scope.proofs.Sayings.{said_left, said_list, said_redeclare, said_replaceable, argument_named, further_named, element_named, flat_map_flat_map}
 use Rattle.mo_scope.specs.Arguments.{asked_argument, asked_rest}
 use Rattle.mo_scope.specs.declared.source.Source.{Source as SourceAt}
 use Rattle.mo_scope.specs.Sights.{source_seen}
@@ -169,7 +169,7 @@ module _ (table : Table) (source : Source) where
       redeclares_in (spoken_of table source) ≡ flat_map (λ argument. redeclares_in (spoken_argument table source argument)) modifiers.list
   listed_speaks modifiers is =
       ap (λ given. redeclares_in (spoken_given table source given)) is
-      ∙ (flat_map-flat_map redeclares_of (spoken_argument table source) modifiers.list)
+      ∙ (flat_map_flat_map redeclares_of (spoken_argument table source) modifiers.list)
 
   pub argued_speaks : (argument : ArgumentOf Give) (passed : ℕ) → source.piece.given ≡ Argued argument passed →
       redeclares_in (spoken_of table source)
@@ -178,13 +178,13 @@ module _ (table : Table) (source : Source) where
   argued_speaks argument passed is =
       ap (λ given. redeclares_in (spoken_given table source given)) is
       ∙ (flat_map-append redeclares_of (spoken_rest table source argument passed) (flat_map (spoken_argument table source) (held (Argued argument passed)).list)
-      ∙ ap (λ ys. redeclares_in (spoken_rest table source argument passed) ++ ys) (flat_map-flat_map redeclares_of (spoken_argument table source) (held (Argued argument passed)).list))
+      ∙ ap (λ ys. redeclares_in (spoken_rest table source argument passed) ++ ys) (flat_map_flat_map redeclares_of (spoken_argument table source) (held (Argued argument passed)).list))
 
   pub replacing_speaks : (elements : List Element) → source.piece.given ≡ Replacing elements →
       redeclares_in (spoken_of table source) ≡ flat_map (λ element. redeclares_in (spoken_element table source (declared_in table element))) elements
   replacing_speaks elements is =
       ap (λ given. redeclares_in (spoken_given table source given)) is
-      ∙ (flat_map-flat_map redeclares_of (λ element. spoken_element table source (declared_in table element)) elements)
+      ∙ (flat_map_flat_map redeclares_of (λ element. spoken_element table source (declared_in table element)) elements)
 
 -- ---- lists that are gathered
 

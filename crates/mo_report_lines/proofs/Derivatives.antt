@@ -3,7 +3,7 @@ use Rattle.std.proofs.Common.{◌≡◌, ℕ, zero, suc, ◌+◌, ◌<◌, true,
 use Rattle.mo_syntax.specs.declared.token.TokenKind.TheVariants.{Ident}
 use Rattle.mo_tables.specs.Words.{code_in, keywords}
 use Rattle.mo_tables.specs.declared.keywords.TheConstants.{DER}
-use Rattle.mo_tables.proofs.Names.{keyword-der}
+use Rattle.mo_tables.proofs.Names.{keyword_der}
 use Rattle.mo_flat.specs.Text.{derivative_text}
 use Rattle.mo_lexer.specs.Bytes.{is_word_byte}
 use Rattle.mo_lexer.specs.Spelling.{Spells}
@@ -42,7 +42,7 @@ no_name_opens inner front after n ends e =
     let h = name_headed (codes "der(" ++ inner) front after n ends e in
     let w = front_word (codes "der(" ++ inner) h.name h.after refl h.ends h.spells h.is in
     let word : h.name ≡ codes "der" = w.1 in
-    let found : code_in keywords h.name ≡ Some DER = ap (code_in keywords) word ∙ keyword-der in
+    let found : code_in keywords h.name ≡ Some DER = ap (code_in keywords) word ∙ keyword_der in
     let none : code_in keywords h.name ≡ None = w.0 in cc
 
 closed_stops : (depth : ℕ) (other : List ℕ) → stops in_name other ≡ true → stops in_name (closed depth other) ≡ true

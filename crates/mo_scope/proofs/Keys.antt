@@ -10,7 +10,7 @@ use Rattle.std.proofs.lemmas.Grind.{flat_map-append}
 use Rattle.std.proofs.lemmas.List.{take_more, map-append}
 use Rattle.mo_syntax.specs.Classes.{Under}
 use Rattle.mo_syntax.specs.ClassTable.{path_eq}
-use Rattle.mo_syntax.proofs.Searching.{paths_same, path_eq-same}
+use Rattle.mo_syntax.proofs.Searching.{paths_same, path_eq_same}
 use Rattle.mo_scope.specs.declared.row.Part.{Part as PartAt}
 use Rattle.mo_scope.specs.Held.{path_key, parts_or_none, placed_by, placed_among}
 use Rattle.mo_scope.specs.Rows.{Part, ClassEntry, placed_part}
@@ -99,7 +99,7 @@ same_tests false false f g = refl
 -- paths are told apart by their keys
 pub path_key_eq : (xs ys : List (List ℕ)) → bytes_eq (path_key xs) (path_key ys) ≡ path_eq xs ys
 path_key_eq xs ys = same_tests _ _
-    (λ h. let same : xs ≡ ys = path_key_same xs ys ((bytes_eq-Decides (path_key xs) (path_key ys)).0 h) in ap (λ l. path_eq l ys) same ∙ path_eq-same ys)
+    (λ h. let same : xs ≡ ys = path_key_same xs ys ((bytes_eq-Decides (path_key xs) (path_key ys)).0 h) in ap (λ l. path_eq l ys) same ∙ path_eq_same ys)
     (λ h. (bytes_eq-Decides (path_key xs) (path_key ys)).1 (ap path_key (paths_same xs ys h)))
 
 -- ---- numbers that are held

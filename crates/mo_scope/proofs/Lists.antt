@@ -20,9 +20,9 @@ valueless_passed source argument passed is above = rw (is, drop_all passed argum
 
 -- ---- whether a list has an element
 
-pub is_some-copied : {A : Type 0} (o : Option (Bor A)) → is_some (option_copied o) ≡ is_some o
-is_some-copied None = refl
-is_some-copied (Some a) = refl
+pub is_some_copied : {A : Type 0} (o : Option (Bor A)) → is_some (option_copied o) ≡ is_some o
+is_some_copied None = refl
+is_some_copied (Some a) = refl
 
 module _ {X Y : Type 0} (f : X → List Y) (xs : List X) (i : ℕ) (x : X) (below : i < length xs) (at : x ≡ get_or xs i x) where
   pub rest_is : flat_map f (drop i xs) ≡ f x ++ flat_map f (drop (i + 1) xs)

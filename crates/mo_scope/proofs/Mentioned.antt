@@ -24,7 +24,7 @@ use Rattle.mo_scope.specs.Rows.{Table, declared_by, number_of_element}
 use Rattle.mo_scope.specs.Sights.{source_seen}
 use Rattle.mo_scope.specs.Worlds.{SourceEntry, source_in, sources_in}
 use Rattle.mo_scope.proofs.Keys.{updates_items}
-use Rattle.mo_scope.proofs.Sayings.{argument_skipped, further_skipped, element_skipped, flat_map-flat_map}
+use Rattle.mo_scope.proofs.Sayings.{argument_skipped, further_skipped, element_skipped, flat_map_flat_map}
 
 flat_map_same : {X Y : Type 0} (f g : X → List Y) → ((x : X) → f x ≡ g x) → (xs : List X) → flat_map f xs ≡ flat_map g xs
 flat_map_same f g same [] = refl
@@ -79,7 +79,7 @@ module _ (table : Table) (name index : List ℕ) where
 
   found_says : (sources : List Source) (mentions : List Mention) → flat_map (said_at table name index sources) (flat_map (if_of name) mentions) ≡ flat_map (said_at table name index sources) mentions
   found_says sources mentions =
-      flat_map-flat_map (said_at table name index sources) (if_of name) mentions
+      flat_map_flat_map (said_at table name index sources) (if_of name) mentions
       ∙ flat_map_same (λ mention. flat_map (said_at table name index sources) (if_of name mention)) (said_at table name index sources) (if_of_says sources) mentions
 
   -- the sources of the mentions are those that stand behind so many

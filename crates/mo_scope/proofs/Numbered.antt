@@ -43,65 +43,65 @@ alike_members F G n alike (x ∷ xs) below =
 
 -- ---- one after another
 
-pub frames_from-append : (F : List Frame) (xs ys : List FrameEntry) → frames_from F (xs ++ ys) ≡ frames_from (frames_from F xs) ys
-frames_from-append F [] ys = refl
-frames_from-append F (x ∷ xs) ys = frames_from-append (F ++ frame_of_entry F x ∷ []) xs ys
+pub frames_from_append : (F : List Frame) (xs ys : List FrameEntry) → frames_from F (xs ++ ys) ≡ frames_from (frames_from F xs) ys
+frames_from_append F [] ys = refl
+frames_from_append F (x ∷ xs) ys = frames_from_append (F ++ frame_of_entry F x ∷ []) xs ys
 
 one_more : (F : List Frame) (f : Frame) → length (F ++ f ∷ []) ≡ length F + 1
 one_more F f = grind (arith, common_steps)
 
-pub length-frames_from : (F : List Frame) (xs : List FrameEntry) → length (frames_from F xs) ≡ length F + length xs
-length-frames_from F [] = omega arith
-length-frames_from F (x ∷ xs) =
-    length-frames_from (F ++ frame_of_entry F x ∷ []) xs ∙ omega (arith, one_more F (frame_of_entry F x))
+pub length_frames_from : (F : List Frame) (xs : List FrameEntry) → length (frames_from F xs) ≡ length F + length xs
+length_frames_from F [] = omega arith
+length_frames_from F (x ∷ xs) =
+    length_frames_from (F ++ frame_of_entry F x ∷ []) xs ∙ omega (arith, one_more F (frame_of_entry F x))
 
-pub frames_from-keeps : (F : List Frame) (xs : List FrameEntry) → Alike (frames_from F xs) F (length F)
-frames_from-keeps F [] m below = refl
-frames_from-keeps F (x ∷ xs) m below =
-    frames_from-keeps (F ++ frame_of_entry F x ∷ []) xs m (omega (arith, one_more F (frame_of_entry F x)))
+pub frames_from_keeps : (F : List Frame) (xs : List FrameEntry) → Alike (frames_from F xs) F (length F)
+frames_from_keeps F [] m below = refl
+frames_from_keeps F (x ∷ xs) m below =
+    frames_from_keeps (F ++ frame_of_entry F x ∷ []) xs m (omega (arith, one_more F (frame_of_entry F x)))
     ∙ get_or-append F (frame_of_entry F x ∷ []) Top m below
 
 at_end : (F : List Frame) (f : Frame) → frame_in (F ++ f ∷ []) (length F) ≡ f
 at_end [] f = refl
 at_end (x ∷ F) f = at_end F f
 
-pub frames_from-at : (F : List Frame) (xs : List FrameEntry) (c k : ℕ) (e : FrameEntry) → slice_get xs k ≡ Some e → IsEntry c (length F + k) e →
+pub frames_from_at : (F : List Frame) (xs : List FrameEntry) (c k : ℕ) (e : FrameEntry) → slice_get xs k ≡ Some e → IsEntry c (length F + k) e →
     frame_in (frames_from F xs) (length F + k) ≡ frame_of_entry (frames_from F xs) e
-frames_from-at F [] c k e at is = cc
-frames_from-at F (x ∷ xs) c zero e at is =
+frames_from_at F [] c k e at is = cc
+frames_from_at F (x ∷ xs) c zero e at is =
     let all : List Frame = frames_from (F ++ frame_of_entry F x ∷ []) xs in
     let same : x ≡ e = grind arith in
     ap (frame_in all) (omega arith)
-    ∙ frames_from-keeps (F ++ frame_of_entry F x ∷ []) xs (length F) (omega (arith, one_more F (frame_of_entry F x)))
+    ∙ frames_from_keeps (F ++ frame_of_entry F x ∷ []) xs (length F) (omega (arith, one_more F (frame_of_entry F x)))
     ∙ at_end F (frame_of_entry F x)
     ∙ ap (frame_of_entry F) same
     ∙ alike_entry F all c (length F + zero) (λ m below.
-    sym (frames_from-keeps F (x ∷ xs) m (omega arith))) e is
-frames_from-at F (x ∷ xs) c (suc k) e at is =
+    sym (frames_from_keeps F (x ∷ xs) m (omega arith))) e is
+frames_from_at F (x ∷ xs) c (suc k) e at is =
     let moved : length F + suc k ≡ length (F ++ frame_of_entry F x ∷ []) + k = omega (arith, one_more F (frame_of_entry F x)) in
     ap (frame_in (frames_from (F ++ frame_of_entry F x ∷ []) xs)) moved
-    ∙ frames_from-at (F ++ frame_of_entry F x ∷ []) xs c k e at (subst (λ n. IsEntry c n e) moved is)
+    ∙ frames_from_at (F ++ frame_of_entry F x ∷ []) xs c k e at (subst (λ n. IsEntry c n e) moved is)
 
 -- ---- in a world
 
-pub length-frames_of : (w : World) → length (frames_of w) ≡ length w.entries
+pub length_frames_of : (w : World) → length (frames_of w) ≡ length w.entries
 unfolding frames_of
-length-frames_of w = length-frames_from [] w.entries ∙ omega arith
+length_frames_of w = length_frames_from [] w.entries ∙ omega arith
 
 pub frame_at_entry : (w : World) (c n : ℕ) (e : FrameEntry) → slice_get w.entries n ≡ Some e → IsEntry c n e → frame_at w n ≡ frame_of_entry (frames_of w) e
 unfolding frames_of
 frame_at_entry w c n e at is =
     let from_zero : n ≡ zero + n = omega arith in
     ap (frame_in (frames_from [] w.entries)) from_zero
-    ∙ frames_from-at [] w.entries c n e at (subst (λ k. IsEntry c k e) from_zero is)
+    ∙ frames_from_at [] w.entries c n e at (subst (λ k. IsEntry c k e) from_zero is)
 
 -- each old number keeps its frame
 pub frames_stay : (old new : World) → Grows old new → Alike (frames_of new) (frames_of old) (length old.entries)
 unfolding frames_of
 frames_stay old new grows m below =
     ap (λ xs. frame_in (frames_from [] xs) m) grows.entries
-    ∙ ap (λ F. frame_in F m) (frames_from-append [] old.entries grows.more)
-    ∙ frames_from-keeps (frames_from [] old.entries) grows.more m (omega (arith, length-frames_from [] old.entries))
+    ∙ ap (λ F. frame_in F m) (frames_from_append [] old.entries grows.more)
+    ∙ frames_from_keeps (frames_from [] old.entries) grows.more m (omega (arith, length_frames_from [] old.entries))
 
 -- ---- in a sound world
 
@@ -173,18 +173,18 @@ sound_grown old new e sound files entries tables is =
 
 -- ---- reading
 
-pub listed-gathered : (xs : List Source) → listed (gathered xs) ≡ xs
-listed-gathered [] = refl
-listed-gathered (x ∷ xs) = ap (λ ys. x ∷ ys) (listed-gathered xs)
+pub listed_gathered : (xs : List Source) → listed (gathered xs) ≡ xs
+listed_gathered [] = refl
+listed_gathered (x ∷ xs) = ap (λ ys. x ∷ ys) (listed_gathered xs)
 
 pub sources_at : (w : World) (n : ℕ) (e : FrameEntry) → frame_at w n ≡ frame_of_entry (frames_of w) e → sources_in (frames_of w) e.sources ≡ sources_of (frame_at w n)
-sources_at w n e is = sym (ap sources_of is ∙ listed-gathered (sources_in (frames_of w) e.sources))
+sources_at w n e is = sym (ap sources_of is ∙ listed_gathered (sources_in (frames_of w) e.sources))
 
 no_top : (F : List Frame) (xs : List FrameEntry) (k : ℕ) → k < length xs → is_top (frame_in (frames_from F xs) (length F + k)) ≡ false
 no_top F [] k below = absurd (search arith)
 no_top F (x ∷ xs) zero below =
     ap (λ n. is_top (frame_in (frames_from (F ++ frame_of_entry F x ∷ []) xs) n)) (omega arith)
-    ∙ ap is_top (frames_from-keeps (F ++ frame_of_entry F x ∷ []) xs (length F) (omega (arith, one_more F (frame_of_entry F x))))
+    ∙ ap is_top (frames_from_keeps (F ++ frame_of_entry F x ∷ []) xs (length F) (omega (arith, one_more F (frame_of_entry F x))))
     ∙ ap is_top (at_end F (frame_of_entry F x))
 no_top F (x ∷ xs) (suc k) below =
     let moved : length F + suc k ≡ length (F ++ frame_of_entry F x ∷ []) + k = omega (arith, one_more F (frame_of_entry F x)) in
@@ -267,9 +267,9 @@ pub frame_pushed : {A : Type 0} (seen : A → FrameEntry) (kept : A → Option (
 unfolding frames_of
 frame_pushed seen kept files xs ys x w n is pushed at =
     ap (λ es. frame_in (frames_from [] es) n) (entries_pushed seen xs ys x pushed)
-    ∙ ap (λ F. frame_in F n) (frames_from-append [] (map seen xs) (seen x ∷ []))
+    ∙ ap (λ F. frame_in F n) (frames_from_append [] (map seen xs) (seen x ∷ []))
     ∙ ap (frame_in (frames_from [] (map seen xs) ++ frame_of_entry (frames_from [] (map seen xs)) (seen x) ∷ []))
-    (at ∙ sym (length-map xs seen) ∙ sym (length-frames_from [] (map seen xs) ∙ omega arith))
+    (at ∙ sym (length-map xs seen) ∙ sym (length_frames_from [] (map seen xs) ∙ omega arith))
     ∙ at_end (frames_from [] (map seen xs)) (frame_of_entry (frames_from [] (map seen xs)) (seen x))
     ∙ ap (λ v. frame_of_entry (frames_from [] v.entries) (seen x)) is
 

@@ -105,9 +105,9 @@ pushed_more f r y old new gives is = mapped_more f old new is.0 y is.2 (IfOk-at_
 pub nothing_more : {B : Type 0} (old none : List B) → none ≡ [] → old ≡ old ++ none
 nothing_more old none is = sym (ap (λ ys. old ++ ys) is ∙ append-nil old)
 
-pub flat_map-flat_map : {X Y Z : Type 0} (g : Y → List Z) (f : X → List Y) (xs : List X) → flat_map g (flat_map f xs) ≡ flat_map (λ x. flat_map g (f x)) xs
-flat_map-flat_map g f [] = refl
-flat_map-flat_map g f (x ∷ xs) = flat_map-append g (f x) (flat_map f xs) ∙ ap (λ ys. flat_map g (f x) ++ ys) (flat_map-flat_map g f xs)
+pub flat_map_flat_map : {X Y Z : Type 0} (g : Y → List Z) (f : X → List Y) (xs : List X) → flat_map g (flat_map f xs) ≡ flat_map (λ x. flat_map g (f x)) xs
+flat_map_flat_map g f [] = refl
+flat_map_flat_map g f (x ∷ xs) = flat_map-append g (f x) (flat_map f xs) ∙ ap (λ ys. flat_map g (f x) ++ ys) (flat_map_flat_map g f xs)
 
 -- ---- lists that are taken apart
 
@@ -158,6 +158,6 @@ declared_is member index wins replaced limited has limit = by wins member.declar
     by (Some w) None is has lim = rw (sym has, lim, is) (append-nil (own_source member index))
     by (Some w) (Some limit) is has lim = rw (sym has, lim, is) (append-nil (constraint_source member index limit))
 
-pub is_some-map : {A B : Type 0} (f : A → B) (o : Option A) → is_some o ≡ is_some (option_map f o)
-is_some-map f None = refl
-is_some-map f (Some a) = refl
+pub is_some_map : {A B : Type 0} (f : A → B) (o : Option A) → is_some o ≡ is_some (option_map f o)
+is_some_map f None = refl
+is_some_map f (Some a) = refl

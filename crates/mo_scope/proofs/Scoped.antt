@@ -18,7 +18,7 @@ use Rattle.mo_scope.specs.declared.source.Source.{Source as SourceAt}
 use Rattle.mo_scope.specs.Sights.{redeclaration_in, source_seen}
 use Rattle.mo_scope.specs.Worlds.{SourceEntry, World, AreFrames, IsFrame, frames_from, frames_of, frame_at, source_in, sources_in}
 use Rattle.mo_scope.proofs.laws.Standing.{every_append, every_map, if_list}
-use Rattle.mo_scope.proofs.Numbered.{is_no_top, length-frames_from}
+use Rattle.mo_scope.proofs.Numbered.{is_no_top, length_frames_from}
 
 -- ---- what sources say
 
@@ -146,7 +146,7 @@ real_below w n real = by (below_or w n)
     by : (n < length w.entries) ⊎ (length w.entries ≤ n) → n < length w.entries
     by (inl below) = below
     by (inr above) =
-        let long : length (frames_from [] w.entries) ≤ n = omega (arith, above, length-frames_from [] w.entries) in
+        let long : length (frames_from [] w.entries) ≤ n = omega (arith, above, length_frames_from [] w.entries) in
         absurd (same_not (ap is_top (get_past (frames_from [] w.entries) n _ long)) real)
 
 -- the sources have real scopes where their frames have numbers

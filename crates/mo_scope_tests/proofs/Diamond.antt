@@ -139,8 +139,8 @@ free_more limit c busy small free = λ n below.
 -- ---- the elements of each class
 
 -- of a class with one base, which has those
-through-one : ℕ → Walked → Walked
-through-one base w = record {
+through_one : ℕ → Walked → Walked
+through_one base w = record {
   members = map (through_base (plain base)) w.members;
   bases = (plain base ∷ []) ∷ map (λ frames. plain base ∷ frames) w.bases;
   sections = map (λ frames. plain base ∷ frames) w.sections ++ (plain base ∷ []) ∷ [];
@@ -148,8 +148,8 @@ through-one base w = record {
 }
 
 -- with one more base, of which all that it inherits counts already
-and-also : ℕ → Walked → Walked
-and-also base w = record {
+and_also : ℕ → Walked → Walked
+and_also base w = record {
   members = w.members;
   bases = w.bases ++ (plain base ∷ []) ∷ [];
   sections = w.sections ++ (plain base ∷ []) ∷ [];
@@ -157,8 +157,8 @@ and-also base w = record {
 }
 
 -- of Ck, with the number of k
-at-top : ℕ → Walked
-at-top zero = record {
+at_top : ℕ → Walked
+at_top zero = record {
   members = record {
     member = record {
       name = codes "x";
@@ -173,7 +173,7 @@ at-top zero = record {
   sections = [];
   leaf = None;
 }
-at-top (suc k) = and-also (3 * k + 8) (through-one (3 * k + 7) (through-one (3 * k + 6) (at-top k)))
+at_top (suc k) = and_also (3 * k + 8) (through_one (3 * k + 7) (through_one (3 * k + 6) (at_top k)))
 
 -- The class has these elements, while none of the classes up to it is having its bases found.
 abbrev Has : ℕ → ℕ → Walked → Type 0
@@ -181,499 +181,499 @@ Has n class w = (busy : List ℕ) (place : Place) → Free (class + 1) busy → 
 
 -- ---- level by level
 
-top-0 : (n : ℕ) → Has (suc n) 6 (at-top 0)
-unfolding walked diamond at-top
-top-0 n busy place free = rw (free 6 (omega arith)) refl
-
-left-1 : (n : ℕ) → Has n 6 (at-top 0) → Has (suc n) 7 (through-one 6 (at-top 0))
-unfolding walked diamond at-top through-one and-also
-left-1 n base busy place free = rw (free 7 (omega arith), base (busy ++ 7 ∷ []) (byte 100) (free_more 7 7 busy (omega arith) free)) refl
-
-right-1 : (n : ℕ) → Has n 6 (at-top 0) → Has (suc n) 8 (through-one 6 (at-top 0))
-unfolding walked diamond at-top through-one and-also
-right-1 n base busy place free = rw (free 8 (omega arith), base (busy ++ 8 ∷ []) (byte 120) (free_more 7 8 busy (omega arith) free)) refl
-
-top-1 : (n : ℕ) → Has n 7 (through-one 6 (at-top 0)) → Has n 8 (through-one 6 (at-top 0)) → Has (suc n) 9 (at-top 1)
-unfolding walked diamond at-top through-one and-also
-top-1 n left right busy place free = rw (free 9 (omega arith), left (busy ++ 9 ∷ []) (byte 140) (free_more 8 9 busy (omega arith) free), right (busy ++ 9 ∷ []) (byte 160) (free_more 9 9 busy (omega arith) free)) refl
-
-left-2 : (n : ℕ) → Has n 9 (at-top 1) → Has (suc n) 10 (through-one 9 (at-top 1))
-unfolding walked diamond at-top through-one and-also
-left-2 n base busy place free = rw (free 10 (omega arith), base (busy ++ 10 ∷ []) (byte 200) (free_more 10 10 busy (omega arith) free)) refl
-
-right-2 : (n : ℕ) → Has n 9 (at-top 1) → Has (suc n) 11 (through-one 9 (at-top 1))
-unfolding walked diamond at-top through-one and-also
-right-2 n base busy place free = rw (free 11 (omega arith), base (busy ++ 11 ∷ []) (byte 220) (free_more 10 11 busy (omega arith) free)) refl
-
-top-2 : (n : ℕ) → Has n 10 (through-one 9 (at-top 1)) → Has n 11 (through-one 9 (at-top 1)) → Has (suc n) 12 (at-top 2)
-unfolding walked diamond at-top through-one and-also
-top-2 n left right busy place free = rw (free 12 (omega arith), left (busy ++ 12 ∷ []) (byte 240) (free_more 11 12 busy (omega arith) free), right (busy ++ 12 ∷ []) (byte 260) (free_more 12 12 busy (omega arith) free)) refl
-
-left-3 : (n : ℕ) → Has n 12 (at-top 2) → Has (suc n) 13 (through-one 12 (at-top 2))
-unfolding walked diamond at-top through-one and-also
-left-3 n base busy place free = rw (free 13 (omega arith), base (busy ++ 13 ∷ []) (byte 300) (free_more 13 13 busy (omega arith) free)) refl
-
-right-3 : (n : ℕ) → Has n 12 (at-top 2) → Has (suc n) 14 (through-one 12 (at-top 2))
-unfolding walked diamond at-top through-one and-also
-right-3 n base busy place free = rw (free 14 (omega arith), base (busy ++ 14 ∷ []) (byte 320) (free_more 13 14 busy (omega arith) free)) refl
-
-top-3 : (n : ℕ) → Has n 13 (through-one 12 (at-top 2)) → Has n 14 (through-one 12 (at-top 2)) → Has (suc n) 15 (at-top 3)
-unfolding walked diamond at-top through-one and-also
-top-3 n left right busy place free = rw (free 15 (omega arith), left (busy ++ 15 ∷ []) (byte 340) (free_more 14 15 busy (omega arith) free), right (busy ++ 15 ∷ []) (byte 360) (free_more 15 15 busy (omega arith) free)) refl
-
-left-4 : (n : ℕ) → Has n 15 (at-top 3) → Has (suc n) 16 (through-one 15 (at-top 3))
-unfolding walked diamond at-top through-one and-also
-left-4 n base busy place free = rw (free 16 (omega arith), base (busy ++ 16 ∷ []) (byte 400) (free_more 16 16 busy (omega arith) free)) refl
-
-right-4 : (n : ℕ) → Has n 15 (at-top 3) → Has (suc n) 17 (through-one 15 (at-top 3))
-unfolding walked diamond at-top through-one and-also
-right-4 n base busy place free = rw (free 17 (omega arith), base (busy ++ 17 ∷ []) (byte 420) (free_more 16 17 busy (omega arith) free)) refl
-
-top-4 : (n : ℕ) → Has n 16 (through-one 15 (at-top 3)) → Has n 17 (through-one 15 (at-top 3)) → Has (suc n) 18 (at-top 4)
-unfolding walked diamond at-top through-one and-also
-top-4 n left right busy place free = rw (free 18 (omega arith), left (busy ++ 18 ∷ []) (byte 440) (free_more 17 18 busy (omega arith) free), right (busy ++ 18 ∷ []) (byte 460) (free_more 18 18 busy (omega arith) free)) refl
-
-left-5 : (n : ℕ) → Has n 18 (at-top 4) → Has (suc n) 19 (through-one 18 (at-top 4))
-unfolding walked diamond at-top through-one and-also
-left-5 n base busy place free = rw (free 19 (omega arith), base (busy ++ 19 ∷ []) (byte 500) (free_more 19 19 busy (omega arith) free)) refl
-
-right-5 : (n : ℕ) → Has n 18 (at-top 4) → Has (suc n) 20 (through-one 18 (at-top 4))
-unfolding walked diamond at-top through-one and-also
-right-5 n base busy place free = rw (free 20 (omega arith), base (busy ++ 20 ∷ []) (byte 520) (free_more 19 20 busy (omega arith) free)) refl
-
-top-5 : (n : ℕ) → Has n 19 (through-one 18 (at-top 4)) → Has n 20 (through-one 18 (at-top 4)) → Has (suc n) 21 (at-top 5)
-unfolding walked diamond at-top through-one and-also
-top-5 n left right busy place free = rw (free 21 (omega arith), left (busy ++ 21 ∷ []) (byte 540) (free_more 20 21 busy (omega arith) free), right (busy ++ 21 ∷ []) (byte 560) (free_more 21 21 busy (omega arith) free)) refl
-
-left-6 : (n : ℕ) → Has n 21 (at-top 5) → Has (suc n) 22 (through-one 21 (at-top 5))
-unfolding walked diamond at-top through-one and-also
-left-6 n base busy place free = rw (free 22 (omega arith), base (busy ++ 22 ∷ []) (byte 600) (free_more 22 22 busy (omega arith) free)) refl
-
-right-6 : (n : ℕ) → Has n 21 (at-top 5) → Has (suc n) 23 (through-one 21 (at-top 5))
-unfolding walked diamond at-top through-one and-also
-right-6 n base busy place free = rw (free 23 (omega arith), base (busy ++ 23 ∷ []) (byte 620) (free_more 22 23 busy (omega arith) free)) refl
-
-top-6 : (n : ℕ) → Has n 22 (through-one 21 (at-top 5)) → Has n 23 (through-one 21 (at-top 5)) → Has (suc n) 24 (at-top 6)
-unfolding walked diamond at-top through-one and-also
-top-6 n left right busy place free = rw (free 24 (omega arith), left (busy ++ 24 ∷ []) (byte 640) (free_more 23 24 busy (omega arith) free), right (busy ++ 24 ∷ []) (byte 660) (free_more 24 24 busy (omega arith) free)) refl
-
-left-7 : (n : ℕ) → Has n 24 (at-top 6) → Has (suc n) 25 (through-one 24 (at-top 6))
-unfolding walked diamond at-top through-one and-also
-left-7 n base busy place free = rw (free 25 (omega arith), base (busy ++ 25 ∷ []) (byte 700) (free_more 25 25 busy (omega arith) free)) refl
-
-right-7 : (n : ℕ) → Has n 24 (at-top 6) → Has (suc n) 26 (through-one 24 (at-top 6))
-unfolding walked diamond at-top through-one and-also
-right-7 n base busy place free = rw (free 26 (omega arith), base (busy ++ 26 ∷ []) (byte 720) (free_more 25 26 busy (omega arith) free)) refl
-
-top-7 : (n : ℕ) → Has n 25 (through-one 24 (at-top 6)) → Has n 26 (through-one 24 (at-top 6)) → Has (suc n) 27 (at-top 7)
-unfolding walked diamond at-top through-one and-also
-top-7 n left right busy place free = rw (free 27 (omega arith), left (busy ++ 27 ∷ []) (byte 740) (free_more 26 27 busy (omega arith) free), right (busy ++ 27 ∷ []) (byte 760) (free_more 27 27 busy (omega arith) free)) refl
-
-left-8 : (n : ℕ) → Has n 27 (at-top 7) → Has (suc n) 28 (through-one 27 (at-top 7))
-unfolding walked diamond at-top through-one and-also
-left-8 n base busy place free = rw (free 28 (omega arith), base (busy ++ 28 ∷ []) (byte 800) (free_more 28 28 busy (omega arith) free)) refl
-
-right-8 : (n : ℕ) → Has n 27 (at-top 7) → Has (suc n) 29 (through-one 27 (at-top 7))
-unfolding walked diamond at-top through-one and-also
-right-8 n base busy place free = rw (free 29 (omega arith), base (busy ++ 29 ∷ []) (byte 820) (free_more 28 29 busy (omega arith) free)) refl
-
-top-8 : (n : ℕ) → Has n 28 (through-one 27 (at-top 7)) → Has n 29 (through-one 27 (at-top 7)) → Has (suc n) 30 (at-top 8)
-unfolding walked diamond at-top through-one and-also
-top-8 n left right busy place free = rw (free 30 (omega arith), left (busy ++ 30 ∷ []) (byte 840) (free_more 29 30 busy (omega arith) free), right (busy ++ 30 ∷ []) (byte 860) (free_more 30 30 busy (omega arith) free)) refl
-
-left-9 : (n : ℕ) → Has n 30 (at-top 8) → Has (suc n) 31 (through-one 30 (at-top 8))
-unfolding walked diamond at-top through-one and-also
-left-9 n base busy place free = rw (free 31 (omega arith), base (busy ++ 31 ∷ []) (byte 900) (free_more 31 31 busy (omega arith) free)) refl
-
-right-9 : (n : ℕ) → Has n 30 (at-top 8) → Has (suc n) 32 (through-one 30 (at-top 8))
-unfolding walked diamond at-top through-one and-also
-right-9 n base busy place free = rw (free 32 (omega arith), base (busy ++ 32 ∷ []) (byte 920) (free_more 31 32 busy (omega arith) free)) refl
-
-top-9 : (n : ℕ) → Has n 31 (through-one 30 (at-top 8)) → Has n 32 (through-one 30 (at-top 8)) → Has (suc n) 33 (at-top 9)
-unfolding walked diamond at-top through-one and-also
-top-9 n left right busy place free = rw (free 33 (omega arith), left (busy ++ 33 ∷ []) (byte 940) (free_more 32 33 busy (omega arith) free), right (busy ++ 33 ∷ []) (byte 960) (free_more 33 33 busy (omega arith) free)) refl
-
-left-10 : (n : ℕ) → Has n 33 (at-top 9) → Has (suc n) 34 (through-one 33 (at-top 9))
-unfolding walked diamond at-top through-one and-also
-left-10 n base busy place free = rw (free 34 (omega arith), base (busy ++ 34 ∷ []) (byte 1000) (free_more 34 34 busy (omega arith) free)) refl
-
-right-10 : (n : ℕ) → Has n 33 (at-top 9) → Has (suc n) 35 (through-one 33 (at-top 9))
-unfolding walked diamond at-top through-one and-also
-right-10 n base busy place free = rw (free 35 (omega arith), base (busy ++ 35 ∷ []) (byte 1020) (free_more 34 35 busy (omega arith) free)) refl
-
-top-10 : (n : ℕ) → Has n 34 (through-one 33 (at-top 9)) → Has n 35 (through-one 33 (at-top 9)) → Has (suc n) 36 (at-top 10)
-unfolding walked diamond at-top through-one and-also
-top-10 n left right busy place free = rw (free 36 (omega arith), left (busy ++ 36 ∷ []) (byte 1040) (free_more 35 36 busy (omega arith) free), right (busy ++ 36 ∷ []) (byte 1060) (free_more 36 36 busy (omega arith) free)) refl
-
-left-11 : (n : ℕ) → Has n 36 (at-top 10) → Has (suc n) 37 (through-one 36 (at-top 10))
-unfolding walked diamond at-top through-one and-also
-left-11 n base busy place free = rw (free 37 (omega arith), base (busy ++ 37 ∷ []) (byte 1100) (free_more 37 37 busy (omega arith) free)) refl
-
-right-11 : (n : ℕ) → Has n 36 (at-top 10) → Has (suc n) 38 (through-one 36 (at-top 10))
-unfolding walked diamond at-top through-one and-also
-right-11 n base busy place free = rw (free 38 (omega arith), base (busy ++ 38 ∷ []) (byte 1120) (free_more 37 38 busy (omega arith) free)) refl
-
-top-11 : (n : ℕ) → Has n 37 (through-one 36 (at-top 10)) → Has n 38 (through-one 36 (at-top 10)) → Has (suc n) 39 (at-top 11)
-unfolding walked diamond at-top through-one and-also
-top-11 n left right busy place free = rw (free 39 (omega arith), left (busy ++ 39 ∷ []) (byte 1140) (free_more 38 39 busy (omega arith) free), right (busy ++ 39 ∷ []) (byte 1160) (free_more 39 39 busy (omega arith) free)) refl
-
-left-12 : (n : ℕ) → Has n 39 (at-top 11) → Has (suc n) 40 (through-one 39 (at-top 11))
-unfolding walked diamond at-top through-one and-also
-left-12 n base busy place free = rw (free 40 (omega arith), base (busy ++ 40 ∷ []) (byte 1200) (free_more 40 40 busy (omega arith) free)) refl
-
-right-12 : (n : ℕ) → Has n 39 (at-top 11) → Has (suc n) 41 (through-one 39 (at-top 11))
-unfolding walked diamond at-top through-one and-also
-right-12 n base busy place free = rw (free 41 (omega arith), base (busy ++ 41 ∷ []) (byte 1220) (free_more 40 41 busy (omega arith) free)) refl
-
-top-12 : (n : ℕ) → Has n 40 (through-one 39 (at-top 11)) → Has n 41 (through-one 39 (at-top 11)) → Has (suc n) 42 (at-top 12)
-unfolding walked diamond at-top through-one and-also
-top-12 n left right busy place free = rw (free 42 (omega arith), left (busy ++ 42 ∷ []) (byte 1240) (free_more 41 42 busy (omega arith) free), right (busy ++ 42 ∷ []) (byte 1260) (free_more 42 42 busy (omega arith) free)) refl
-
-left-13 : (n : ℕ) → Has n 42 (at-top 12) → Has (suc n) 43 (through-one 42 (at-top 12))
-unfolding walked diamond at-top through-one and-also
-left-13 n base busy place free = rw (free 43 (omega arith), base (busy ++ 43 ∷ []) (byte 1300) (free_more 43 43 busy (omega arith) free)) refl
-
-right-13 : (n : ℕ) → Has n 42 (at-top 12) → Has (suc n) 44 (through-one 42 (at-top 12))
-unfolding walked diamond at-top through-one and-also
-right-13 n base busy place free = rw (free 44 (omega arith), base (busy ++ 44 ∷ []) (byte 1320) (free_more 43 44 busy (omega arith) free)) refl
-
-top-13 : (n : ℕ) → Has n 43 (through-one 42 (at-top 12)) → Has n 44 (through-one 42 (at-top 12)) → Has (suc n) 45 (at-top 13)
-unfolding walked diamond at-top through-one and-also
-top-13 n left right busy place free = rw (free 45 (omega arith), left (busy ++ 45 ∷ []) (byte 1340) (free_more 44 45 busy (omega arith) free), right (busy ++ 45 ∷ []) (byte 1360) (free_more 45 45 busy (omega arith) free)) refl
-
-left-14 : (n : ℕ) → Has n 45 (at-top 13) → Has (suc n) 46 (through-one 45 (at-top 13))
-unfolding walked diamond at-top through-one and-also
-left-14 n base busy place free = rw (free 46 (omega arith), base (busy ++ 46 ∷ []) (byte 1400) (free_more 46 46 busy (omega arith) free)) refl
-
-right-14 : (n : ℕ) → Has n 45 (at-top 13) → Has (suc n) 47 (through-one 45 (at-top 13))
-unfolding walked diamond at-top through-one and-also
-right-14 n base busy place free = rw (free 47 (omega arith), base (busy ++ 47 ∷ []) (byte 1420) (free_more 46 47 busy (omega arith) free)) refl
-
-top-14 : (n : ℕ) → Has n 46 (through-one 45 (at-top 13)) → Has n 47 (through-one 45 (at-top 13)) → Has (suc n) 48 (at-top 14)
-unfolding walked diamond at-top through-one and-also
-top-14 n left right busy place free = rw (free 48 (omega arith), left (busy ++ 48 ∷ []) (byte 1440) (free_more 47 48 busy (omega arith) free), right (busy ++ 48 ∷ []) (byte 1460) (free_more 48 48 busy (omega arith) free)) refl
-
-left-15 : (n : ℕ) → Has n 48 (at-top 14) → Has (suc n) 49 (through-one 48 (at-top 14))
-unfolding walked diamond at-top through-one and-also
-left-15 n base busy place free = rw (free 49 (omega arith), base (busy ++ 49 ∷ []) (byte 1500) (free_more 49 49 busy (omega arith) free)) refl
-
-right-15 : (n : ℕ) → Has n 48 (at-top 14) → Has (suc n) 50 (through-one 48 (at-top 14))
-unfolding walked diamond at-top through-one and-also
-right-15 n base busy place free = rw (free 50 (omega arith), base (busy ++ 50 ∷ []) (byte 1520) (free_more 49 50 busy (omega arith) free)) refl
-
-top-15 : (n : ℕ) → Has n 49 (through-one 48 (at-top 14)) → Has n 50 (through-one 48 (at-top 14)) → Has (suc n) 51 (at-top 15)
-unfolding walked diamond at-top through-one and-also
-top-15 n left right busy place free = rw (free 51 (omega arith), left (busy ++ 51 ∷ []) (byte 1540) (free_more 50 51 busy (omega arith) free), right (busy ++ 51 ∷ []) (byte 1560) (free_more 51 51 busy (omega arith) free)) refl
-
-left-16 : (n : ℕ) → Has n 51 (at-top 15) → Has (suc n) 52 (through-one 51 (at-top 15))
-unfolding walked diamond at-top through-one and-also
-left-16 n base busy place free = rw (free 52 (omega arith), base (busy ++ 52 ∷ []) (byte 1600) (free_more 52 52 busy (omega arith) free)) refl
-
-right-16 : (n : ℕ) → Has n 51 (at-top 15) → Has (suc n) 53 (through-one 51 (at-top 15))
-unfolding walked diamond at-top through-one and-also
-right-16 n base busy place free = rw (free 53 (omega arith), base (busy ++ 53 ∷ []) (byte 1620) (free_more 52 53 busy (omega arith) free)) refl
-
-top-16 : (n : ℕ) → Has n 52 (through-one 51 (at-top 15)) → Has n 53 (through-one 51 (at-top 15)) → Has (suc n) 54 (at-top 16)
-unfolding walked diamond at-top through-one and-also
-top-16 n left right busy place free = rw (free 54 (omega arith), left (busy ++ 54 ∷ []) (byte 1640) (free_more 53 54 busy (omega arith) free), right (busy ++ 54 ∷ []) (byte 1660) (free_more 54 54 busy (omega arith) free)) refl
-
-left-17 : (n : ℕ) → Has n 54 (at-top 16) → Has (suc n) 55 (through-one 54 (at-top 16))
-unfolding walked diamond at-top through-one and-also
-left-17 n base busy place free = rw (free 55 (omega arith), base (busy ++ 55 ∷ []) (byte 1700) (free_more 55 55 busy (omega arith) free)) refl
-
-right-17 : (n : ℕ) → Has n 54 (at-top 16) → Has (suc n) 56 (through-one 54 (at-top 16))
-unfolding walked diamond at-top through-one and-also
-right-17 n base busy place free = rw (free 56 (omega arith), base (busy ++ 56 ∷ []) (byte 1720) (free_more 55 56 busy (omega arith) free)) refl
-
-top-17 : (n : ℕ) → Has n 55 (through-one 54 (at-top 16)) → Has n 56 (through-one 54 (at-top 16)) → Has (suc n) 57 (at-top 17)
-unfolding walked diamond at-top through-one and-also
-top-17 n left right busy place free = rw (free 57 (omega arith), left (busy ++ 57 ∷ []) (byte 1740) (free_more 56 57 busy (omega arith) free), right (busy ++ 57 ∷ []) (byte 1760) (free_more 57 57 busy (omega arith) free)) refl
-
-left-18 : (n : ℕ) → Has n 57 (at-top 17) → Has (suc n) 58 (through-one 57 (at-top 17))
-unfolding walked diamond at-top through-one and-also
-left-18 n base busy place free = rw (free 58 (omega arith), base (busy ++ 58 ∷ []) (byte 1800) (free_more 58 58 busy (omega arith) free)) refl
-
-right-18 : (n : ℕ) → Has n 57 (at-top 17) → Has (suc n) 59 (through-one 57 (at-top 17))
-unfolding walked diamond at-top through-one and-also
-right-18 n base busy place free = rw (free 59 (omega arith), base (busy ++ 59 ∷ []) (byte 1820) (free_more 58 59 busy (omega arith) free)) refl
-
-top-18 : (n : ℕ) → Has n 58 (through-one 57 (at-top 17)) → Has n 59 (through-one 57 (at-top 17)) → Has (suc n) 60 (at-top 18)
-unfolding walked diamond at-top through-one and-also
-top-18 n left right busy place free = rw (free 60 (omega arith), left (busy ++ 60 ∷ []) (byte 1840) (free_more 59 60 busy (omega arith) free), right (busy ++ 60 ∷ []) (byte 1860) (free_more 60 60 busy (omega arith) free)) refl
-
-left-19 : (n : ℕ) → Has n 60 (at-top 18) → Has (suc n) 61 (through-one 60 (at-top 18))
-unfolding walked diamond at-top through-one and-also
-left-19 n base busy place free = rw (free 61 (omega arith), base (busy ++ 61 ∷ []) (byte 1900) (free_more 61 61 busy (omega arith) free)) refl
-
-right-19 : (n : ℕ) → Has n 60 (at-top 18) → Has (suc n) 62 (through-one 60 (at-top 18))
-unfolding walked diamond at-top through-one and-also
-right-19 n base busy place free = rw (free 62 (omega arith), base (busy ++ 62 ∷ []) (byte 1920) (free_more 61 62 busy (omega arith) free)) refl
-
-top-19 : (n : ℕ) → Has n 61 (through-one 60 (at-top 18)) → Has n 62 (through-one 60 (at-top 18)) → Has (suc n) 63 (at-top 19)
-unfolding walked diamond at-top through-one and-also
-top-19 n left right busy place free = rw (free 63 (omega arith), left (busy ++ 63 ∷ []) (byte 1940) (free_more 62 63 busy (omega arith) free), right (busy ++ 63 ∷ []) (byte 1960) (free_more 63 63 busy (omega arith) free)) refl
-
-left-20 : (n : ℕ) → Has n 63 (at-top 19) → Has (suc n) 64 (through-one 63 (at-top 19))
-unfolding walked diamond at-top through-one and-also
-left-20 n base busy place free = rw (free 64 (omega arith), base (busy ++ 64 ∷ []) (byte 2000) (free_more 64 64 busy (omega arith) free)) refl
-
-right-20 : (n : ℕ) → Has n 63 (at-top 19) → Has (suc n) 65 (through-one 63 (at-top 19))
-unfolding walked diamond at-top through-one and-also
-right-20 n base busy place free = rw (free 65 (omega arith), base (busy ++ 65 ∷ []) (byte 2020) (free_more 64 65 busy (omega arith) free)) refl
-
-top-20 : (n : ℕ) → Has n 64 (through-one 63 (at-top 19)) → Has n 65 (through-one 63 (at-top 19)) → Has (suc n) 66 (at-top 20)
-unfolding walked diamond at-top through-one and-also
-top-20 n left right busy place free = rw (free 66 (omega arith), left (busy ++ 66 ∷ []) (byte 2040) (free_more 65 66 busy (omega arith) free), right (busy ++ 66 ∷ []) (byte 2060) (free_more 66 66 busy (omega arith) free)) refl
-
-left-21 : (n : ℕ) → Has n 66 (at-top 20) → Has (suc n) 67 (through-one 66 (at-top 20))
-unfolding walked diamond at-top through-one and-also
-left-21 n base busy place free = rw (free 67 (omega arith), base (busy ++ 67 ∷ []) (byte 2100) (free_more 67 67 busy (omega arith) free)) refl
-
-right-21 : (n : ℕ) → Has n 66 (at-top 20) → Has (suc n) 68 (through-one 66 (at-top 20))
-unfolding walked diamond at-top through-one and-also
-right-21 n base busy place free = rw (free 68 (omega arith), base (busy ++ 68 ∷ []) (byte 2120) (free_more 67 68 busy (omega arith) free)) refl
-
-top-21 : (n : ℕ) → Has n 67 (through-one 66 (at-top 20)) → Has n 68 (through-one 66 (at-top 20)) → Has (suc n) 69 (at-top 21)
-unfolding walked diamond at-top through-one and-also
-top-21 n left right busy place free = rw (free 69 (omega arith), left (busy ++ 69 ∷ []) (byte 2140) (free_more 68 69 busy (omega arith) free), right (busy ++ 69 ∷ []) (byte 2160) (free_more 69 69 busy (omega arith) free)) refl
-
-left-22 : (n : ℕ) → Has n 69 (at-top 21) → Has (suc n) 70 (through-one 69 (at-top 21))
-unfolding walked diamond at-top through-one and-also
-left-22 n base busy place free = rw (free 70 (omega arith), base (busy ++ 70 ∷ []) (byte 2200) (free_more 70 70 busy (omega arith) free)) refl
-
-right-22 : (n : ℕ) → Has n 69 (at-top 21) → Has (suc n) 71 (through-one 69 (at-top 21))
-unfolding walked diamond at-top through-one and-also
-right-22 n base busy place free = rw (free 71 (omega arith), base (busy ++ 71 ∷ []) (byte 2220) (free_more 70 71 busy (omega arith) free)) refl
-
-top-22 : (n : ℕ) → Has n 70 (through-one 69 (at-top 21)) → Has n 71 (through-one 69 (at-top 21)) → Has (suc n) 72 (at-top 22)
-unfolding walked diamond at-top through-one and-also
-top-22 n left right busy place free = rw (free 72 (omega arith), left (busy ++ 72 ∷ []) (byte 2240) (free_more 71 72 busy (omega arith) free), right (busy ++ 72 ∷ []) (byte 2260) (free_more 72 72 busy (omega arith) free)) refl
-
-left-23 : (n : ℕ) → Has n 72 (at-top 22) → Has (suc n) 73 (through-one 72 (at-top 22))
-unfolding walked diamond at-top through-one and-also
-left-23 n base busy place free = rw (free 73 (omega arith), base (busy ++ 73 ∷ []) (byte 2300) (free_more 73 73 busy (omega arith) free)) refl
-
-right-23 : (n : ℕ) → Has n 72 (at-top 22) → Has (suc n) 74 (through-one 72 (at-top 22))
-unfolding walked diamond at-top through-one and-also
-right-23 n base busy place free = rw (free 74 (omega arith), base (busy ++ 74 ∷ []) (byte 2320) (free_more 73 74 busy (omega arith) free)) refl
-
-top-23 : (n : ℕ) → Has n 73 (through-one 72 (at-top 22)) → Has n 74 (through-one 72 (at-top 22)) → Has (suc n) 75 (at-top 23)
-unfolding walked diamond at-top through-one and-also
-top-23 n left right busy place free = rw (free 75 (omega arith), left (busy ++ 75 ∷ []) (byte 2340) (free_more 74 75 busy (omega arith) free), right (busy ++ 75 ∷ []) (byte 2360) (free_more 75 75 busy (omega arith) free)) refl
-
-left-24 : (n : ℕ) → Has n 75 (at-top 23) → Has (suc n) 76 (through-one 75 (at-top 23))
-unfolding walked diamond at-top through-one and-also
-left-24 n base busy place free = rw (free 76 (omega arith), base (busy ++ 76 ∷ []) (byte 2400) (free_more 76 76 busy (omega arith) free)) refl
-
-right-24 : (n : ℕ) → Has n 75 (at-top 23) → Has (suc n) 77 (through-one 75 (at-top 23))
-unfolding walked diamond at-top through-one and-also
-right-24 n base busy place free = rw (free 77 (omega arith), base (busy ++ 77 ∷ []) (byte 2420) (free_more 76 77 busy (omega arith) free)) refl
-
-top-24 : (n : ℕ) → Has n 76 (through-one 75 (at-top 23)) → Has n 77 (through-one 75 (at-top 23)) → Has (suc n) 78 (at-top 24)
-unfolding walked diamond at-top through-one and-also
-top-24 n left right busy place free = rw (free 78 (omega arith), left (busy ++ 78 ∷ []) (byte 2440) (free_more 77 78 busy (omega arith) free), right (busy ++ 78 ∷ []) (byte 2460) (free_more 78 78 busy (omega arith) free)) refl
+top_0 : (n : ℕ) → Has (suc n) 6 (at_top 0)
+unfolding walked diamond at_top
+top_0 n busy place free = rw (free 6 (omega arith)) refl
+
+left_1 : (n : ℕ) → Has n 6 (at_top 0) → Has (suc n) 7 (through_one 6 (at_top 0))
+unfolding walked diamond at_top through_one and_also
+left_1 n base busy place free = rw (free 7 (omega arith), base (busy ++ 7 ∷ []) (byte 100) (free_more 7 7 busy (omega arith) free)) refl
+
+right_1 : (n : ℕ) → Has n 6 (at_top 0) → Has (suc n) 8 (through_one 6 (at_top 0))
+unfolding walked diamond at_top through_one and_also
+right_1 n base busy place free = rw (free 8 (omega arith), base (busy ++ 8 ∷ []) (byte 120) (free_more 7 8 busy (omega arith) free)) refl
+
+top_1 : (n : ℕ) → Has n 7 (through_one 6 (at_top 0)) → Has n 8 (through_one 6 (at_top 0)) → Has (suc n) 9 (at_top 1)
+unfolding walked diamond at_top through_one and_also
+top_1 n left right busy place free = rw (free 9 (omega arith), left (busy ++ 9 ∷ []) (byte 140) (free_more 8 9 busy (omega arith) free), right (busy ++ 9 ∷ []) (byte 160) (free_more 9 9 busy (omega arith) free)) refl
+
+left_2 : (n : ℕ) → Has n 9 (at_top 1) → Has (suc n) 10 (through_one 9 (at_top 1))
+unfolding walked diamond at_top through_one and_also
+left_2 n base busy place free = rw (free 10 (omega arith), base (busy ++ 10 ∷ []) (byte 200) (free_more 10 10 busy (omega arith) free)) refl
+
+right_2 : (n : ℕ) → Has n 9 (at_top 1) → Has (suc n) 11 (through_one 9 (at_top 1))
+unfolding walked diamond at_top through_one and_also
+right_2 n base busy place free = rw (free 11 (omega arith), base (busy ++ 11 ∷ []) (byte 220) (free_more 10 11 busy (omega arith) free)) refl
+
+top_2 : (n : ℕ) → Has n 10 (through_one 9 (at_top 1)) → Has n 11 (through_one 9 (at_top 1)) → Has (suc n) 12 (at_top 2)
+unfolding walked diamond at_top through_one and_also
+top_2 n left right busy place free = rw (free 12 (omega arith), left (busy ++ 12 ∷ []) (byte 240) (free_more 11 12 busy (omega arith) free), right (busy ++ 12 ∷ []) (byte 260) (free_more 12 12 busy (omega arith) free)) refl
+
+left_3 : (n : ℕ) → Has n 12 (at_top 2) → Has (suc n) 13 (through_one 12 (at_top 2))
+unfolding walked diamond at_top through_one and_also
+left_3 n base busy place free = rw (free 13 (omega arith), base (busy ++ 13 ∷ []) (byte 300) (free_more 13 13 busy (omega arith) free)) refl
+
+right_3 : (n : ℕ) → Has n 12 (at_top 2) → Has (suc n) 14 (through_one 12 (at_top 2))
+unfolding walked diamond at_top through_one and_also
+right_3 n base busy place free = rw (free 14 (omega arith), base (busy ++ 14 ∷ []) (byte 320) (free_more 13 14 busy (omega arith) free)) refl
+
+top_3 : (n : ℕ) → Has n 13 (through_one 12 (at_top 2)) → Has n 14 (through_one 12 (at_top 2)) → Has (suc n) 15 (at_top 3)
+unfolding walked diamond at_top through_one and_also
+top_3 n left right busy place free = rw (free 15 (omega arith), left (busy ++ 15 ∷ []) (byte 340) (free_more 14 15 busy (omega arith) free), right (busy ++ 15 ∷ []) (byte 360) (free_more 15 15 busy (omega arith) free)) refl
+
+left_4 : (n : ℕ) → Has n 15 (at_top 3) → Has (suc n) 16 (through_one 15 (at_top 3))
+unfolding walked diamond at_top through_one and_also
+left_4 n base busy place free = rw (free 16 (omega arith), base (busy ++ 16 ∷ []) (byte 400) (free_more 16 16 busy (omega arith) free)) refl
+
+right_4 : (n : ℕ) → Has n 15 (at_top 3) → Has (suc n) 17 (through_one 15 (at_top 3))
+unfolding walked diamond at_top through_one and_also
+right_4 n base busy place free = rw (free 17 (omega arith), base (busy ++ 17 ∷ []) (byte 420) (free_more 16 17 busy (omega arith) free)) refl
+
+top_4 : (n : ℕ) → Has n 16 (through_one 15 (at_top 3)) → Has n 17 (through_one 15 (at_top 3)) → Has (suc n) 18 (at_top 4)
+unfolding walked diamond at_top through_one and_also
+top_4 n left right busy place free = rw (free 18 (omega arith), left (busy ++ 18 ∷ []) (byte 440) (free_more 17 18 busy (omega arith) free), right (busy ++ 18 ∷ []) (byte 460) (free_more 18 18 busy (omega arith) free)) refl
+
+left_5 : (n : ℕ) → Has n 18 (at_top 4) → Has (suc n) 19 (through_one 18 (at_top 4))
+unfolding walked diamond at_top through_one and_also
+left_5 n base busy place free = rw (free 19 (omega arith), base (busy ++ 19 ∷ []) (byte 500) (free_more 19 19 busy (omega arith) free)) refl
+
+right_5 : (n : ℕ) → Has n 18 (at_top 4) → Has (suc n) 20 (through_one 18 (at_top 4))
+unfolding walked diamond at_top through_one and_also
+right_5 n base busy place free = rw (free 20 (omega arith), base (busy ++ 20 ∷ []) (byte 520) (free_more 19 20 busy (omega arith) free)) refl
+
+top_5 : (n : ℕ) → Has n 19 (through_one 18 (at_top 4)) → Has n 20 (through_one 18 (at_top 4)) → Has (suc n) 21 (at_top 5)
+unfolding walked diamond at_top through_one and_also
+top_5 n left right busy place free = rw (free 21 (omega arith), left (busy ++ 21 ∷ []) (byte 540) (free_more 20 21 busy (omega arith) free), right (busy ++ 21 ∷ []) (byte 560) (free_more 21 21 busy (omega arith) free)) refl
+
+left_6 : (n : ℕ) → Has n 21 (at_top 5) → Has (suc n) 22 (through_one 21 (at_top 5))
+unfolding walked diamond at_top through_one and_also
+left_6 n base busy place free = rw (free 22 (omega arith), base (busy ++ 22 ∷ []) (byte 600) (free_more 22 22 busy (omega arith) free)) refl
+
+right_6 : (n : ℕ) → Has n 21 (at_top 5) → Has (suc n) 23 (through_one 21 (at_top 5))
+unfolding walked diamond at_top through_one and_also
+right_6 n base busy place free = rw (free 23 (omega arith), base (busy ++ 23 ∷ []) (byte 620) (free_more 22 23 busy (omega arith) free)) refl
+
+top_6 : (n : ℕ) → Has n 22 (through_one 21 (at_top 5)) → Has n 23 (through_one 21 (at_top 5)) → Has (suc n) 24 (at_top 6)
+unfolding walked diamond at_top through_one and_also
+top_6 n left right busy place free = rw (free 24 (omega arith), left (busy ++ 24 ∷ []) (byte 640) (free_more 23 24 busy (omega arith) free), right (busy ++ 24 ∷ []) (byte 660) (free_more 24 24 busy (omega arith) free)) refl
+
+left_7 : (n : ℕ) → Has n 24 (at_top 6) → Has (suc n) 25 (through_one 24 (at_top 6))
+unfolding walked diamond at_top through_one and_also
+left_7 n base busy place free = rw (free 25 (omega arith), base (busy ++ 25 ∷ []) (byte 700) (free_more 25 25 busy (omega arith) free)) refl
+
+right_7 : (n : ℕ) → Has n 24 (at_top 6) → Has (suc n) 26 (through_one 24 (at_top 6))
+unfolding walked diamond at_top through_one and_also
+right_7 n base busy place free = rw (free 26 (omega arith), base (busy ++ 26 ∷ []) (byte 720) (free_more 25 26 busy (omega arith) free)) refl
+
+top_7 : (n : ℕ) → Has n 25 (through_one 24 (at_top 6)) → Has n 26 (through_one 24 (at_top 6)) → Has (suc n) 27 (at_top 7)
+unfolding walked diamond at_top through_one and_also
+top_7 n left right busy place free = rw (free 27 (omega arith), left (busy ++ 27 ∷ []) (byte 740) (free_more 26 27 busy (omega arith) free), right (busy ++ 27 ∷ []) (byte 760) (free_more 27 27 busy (omega arith) free)) refl
+
+left_8 : (n : ℕ) → Has n 27 (at_top 7) → Has (suc n) 28 (through_one 27 (at_top 7))
+unfolding walked diamond at_top through_one and_also
+left_8 n base busy place free = rw (free 28 (omega arith), base (busy ++ 28 ∷ []) (byte 800) (free_more 28 28 busy (omega arith) free)) refl
+
+right_8 : (n : ℕ) → Has n 27 (at_top 7) → Has (suc n) 29 (through_one 27 (at_top 7))
+unfolding walked diamond at_top through_one and_also
+right_8 n base busy place free = rw (free 29 (omega arith), base (busy ++ 29 ∷ []) (byte 820) (free_more 28 29 busy (omega arith) free)) refl
+
+top_8 : (n : ℕ) → Has n 28 (through_one 27 (at_top 7)) → Has n 29 (through_one 27 (at_top 7)) → Has (suc n) 30 (at_top 8)
+unfolding walked diamond at_top through_one and_also
+top_8 n left right busy place free = rw (free 30 (omega arith), left (busy ++ 30 ∷ []) (byte 840) (free_more 29 30 busy (omega arith) free), right (busy ++ 30 ∷ []) (byte 860) (free_more 30 30 busy (omega arith) free)) refl
+
+left_9 : (n : ℕ) → Has n 30 (at_top 8) → Has (suc n) 31 (through_one 30 (at_top 8))
+unfolding walked diamond at_top through_one and_also
+left_9 n base busy place free = rw (free 31 (omega arith), base (busy ++ 31 ∷ []) (byte 900) (free_more 31 31 busy (omega arith) free)) refl
+
+right_9 : (n : ℕ) → Has n 30 (at_top 8) → Has (suc n) 32 (through_one 30 (at_top 8))
+unfolding walked diamond at_top through_one and_also
+right_9 n base busy place free = rw (free 32 (omega arith), base (busy ++ 32 ∷ []) (byte 920) (free_more 31 32 busy (omega arith) free)) refl
+
+top_9 : (n : ℕ) → Has n 31 (through_one 30 (at_top 8)) → Has n 32 (through_one 30 (at_top 8)) → Has (suc n) 33 (at_top 9)
+unfolding walked diamond at_top through_one and_also
+top_9 n left right busy place free = rw (free 33 (omega arith), left (busy ++ 33 ∷ []) (byte 940) (free_more 32 33 busy (omega arith) free), right (busy ++ 33 ∷ []) (byte 960) (free_more 33 33 busy (omega arith) free)) refl
+
+left_10 : (n : ℕ) → Has n 33 (at_top 9) → Has (suc n) 34 (through_one 33 (at_top 9))
+unfolding walked diamond at_top through_one and_also
+left_10 n base busy place free = rw (free 34 (omega arith), base (busy ++ 34 ∷ []) (byte 1000) (free_more 34 34 busy (omega arith) free)) refl
+
+right_10 : (n : ℕ) → Has n 33 (at_top 9) → Has (suc n) 35 (through_one 33 (at_top 9))
+unfolding walked diamond at_top through_one and_also
+right_10 n base busy place free = rw (free 35 (omega arith), base (busy ++ 35 ∷ []) (byte 1020) (free_more 34 35 busy (omega arith) free)) refl
+
+top_10 : (n : ℕ) → Has n 34 (through_one 33 (at_top 9)) → Has n 35 (through_one 33 (at_top 9)) → Has (suc n) 36 (at_top 10)
+unfolding walked diamond at_top through_one and_also
+top_10 n left right busy place free = rw (free 36 (omega arith), left (busy ++ 36 ∷ []) (byte 1040) (free_more 35 36 busy (omega arith) free), right (busy ++ 36 ∷ []) (byte 1060) (free_more 36 36 busy (omega arith) free)) refl
+
+left_11 : (n : ℕ) → Has n 36 (at_top 10) → Has (suc n) 37 (through_one 36 (at_top 10))
+unfolding walked diamond at_top through_one and_also
+left_11 n base busy place free = rw (free 37 (omega arith), base (busy ++ 37 ∷ []) (byte 1100) (free_more 37 37 busy (omega arith) free)) refl
+
+right_11 : (n : ℕ) → Has n 36 (at_top 10) → Has (suc n) 38 (through_one 36 (at_top 10))
+unfolding walked diamond at_top through_one and_also
+right_11 n base busy place free = rw (free 38 (omega arith), base (busy ++ 38 ∷ []) (byte 1120) (free_more 37 38 busy (omega arith) free)) refl
+
+top_11 : (n : ℕ) → Has n 37 (through_one 36 (at_top 10)) → Has n 38 (through_one 36 (at_top 10)) → Has (suc n) 39 (at_top 11)
+unfolding walked diamond at_top through_one and_also
+top_11 n left right busy place free = rw (free 39 (omega arith), left (busy ++ 39 ∷ []) (byte 1140) (free_more 38 39 busy (omega arith) free), right (busy ++ 39 ∷ []) (byte 1160) (free_more 39 39 busy (omega arith) free)) refl
+
+left_12 : (n : ℕ) → Has n 39 (at_top 11) → Has (suc n) 40 (through_one 39 (at_top 11))
+unfolding walked diamond at_top through_one and_also
+left_12 n base busy place free = rw (free 40 (omega arith), base (busy ++ 40 ∷ []) (byte 1200) (free_more 40 40 busy (omega arith) free)) refl
+
+right_12 : (n : ℕ) → Has n 39 (at_top 11) → Has (suc n) 41 (through_one 39 (at_top 11))
+unfolding walked diamond at_top through_one and_also
+right_12 n base busy place free = rw (free 41 (omega arith), base (busy ++ 41 ∷ []) (byte 1220) (free_more 40 41 busy (omega arith) free)) refl
+
+top_12 : (n : ℕ) → Has n 40 (through_one 39 (at_top 11)) → Has n 41 (through_one 39 (at_top 11)) → Has (suc n) 42 (at_top 12)
+unfolding walked diamond at_top through_one and_also
+top_12 n left right busy place free = rw (free 42 (omega arith), left (busy ++ 42 ∷ []) (byte 1240) (free_more 41 42 busy (omega arith) free), right (busy ++ 42 ∷ []) (byte 1260) (free_more 42 42 busy (omega arith) free)) refl
+
+left_13 : (n : ℕ) → Has n 42 (at_top 12) → Has (suc n) 43 (through_one 42 (at_top 12))
+unfolding walked diamond at_top through_one and_also
+left_13 n base busy place free = rw (free 43 (omega arith), base (busy ++ 43 ∷ []) (byte 1300) (free_more 43 43 busy (omega arith) free)) refl
+
+right_13 : (n : ℕ) → Has n 42 (at_top 12) → Has (suc n) 44 (through_one 42 (at_top 12))
+unfolding walked diamond at_top through_one and_also
+right_13 n base busy place free = rw (free 44 (omega arith), base (busy ++ 44 ∷ []) (byte 1320) (free_more 43 44 busy (omega arith) free)) refl
+
+top_13 : (n : ℕ) → Has n 43 (through_one 42 (at_top 12)) → Has n 44 (through_one 42 (at_top 12)) → Has (suc n) 45 (at_top 13)
+unfolding walked diamond at_top through_one and_also
+top_13 n left right busy place free = rw (free 45 (omega arith), left (busy ++ 45 ∷ []) (byte 1340) (free_more 44 45 busy (omega arith) free), right (busy ++ 45 ∷ []) (byte 1360) (free_more 45 45 busy (omega arith) free)) refl
+
+left_14 : (n : ℕ) → Has n 45 (at_top 13) → Has (suc n) 46 (through_one 45 (at_top 13))
+unfolding walked diamond at_top through_one and_also
+left_14 n base busy place free = rw (free 46 (omega arith), base (busy ++ 46 ∷ []) (byte 1400) (free_more 46 46 busy (omega arith) free)) refl
+
+right_14 : (n : ℕ) → Has n 45 (at_top 13) → Has (suc n) 47 (through_one 45 (at_top 13))
+unfolding walked diamond at_top through_one and_also
+right_14 n base busy place free = rw (free 47 (omega arith), base (busy ++ 47 ∷ []) (byte 1420) (free_more 46 47 busy (omega arith) free)) refl
+
+top_14 : (n : ℕ) → Has n 46 (through_one 45 (at_top 13)) → Has n 47 (through_one 45 (at_top 13)) → Has (suc n) 48 (at_top 14)
+unfolding walked diamond at_top through_one and_also
+top_14 n left right busy place free = rw (free 48 (omega arith), left (busy ++ 48 ∷ []) (byte 1440) (free_more 47 48 busy (omega arith) free), right (busy ++ 48 ∷ []) (byte 1460) (free_more 48 48 busy (omega arith) free)) refl
+
+left_15 : (n : ℕ) → Has n 48 (at_top 14) → Has (suc n) 49 (through_one 48 (at_top 14))
+unfolding walked diamond at_top through_one and_also
+left_15 n base busy place free = rw (free 49 (omega arith), base (busy ++ 49 ∷ []) (byte 1500) (free_more 49 49 busy (omega arith) free)) refl
+
+right_15 : (n : ℕ) → Has n 48 (at_top 14) → Has (suc n) 50 (through_one 48 (at_top 14))
+unfolding walked diamond at_top through_one and_also
+right_15 n base busy place free = rw (free 50 (omega arith), base (busy ++ 50 ∷ []) (byte 1520) (free_more 49 50 busy (omega arith) free)) refl
+
+top_15 : (n : ℕ) → Has n 49 (through_one 48 (at_top 14)) → Has n 50 (through_one 48 (at_top 14)) → Has (suc n) 51 (at_top 15)
+unfolding walked diamond at_top through_one and_also
+top_15 n left right busy place free = rw (free 51 (omega arith), left (busy ++ 51 ∷ []) (byte 1540) (free_more 50 51 busy (omega arith) free), right (busy ++ 51 ∷ []) (byte 1560) (free_more 51 51 busy (omega arith) free)) refl
+
+left_16 : (n : ℕ) → Has n 51 (at_top 15) → Has (suc n) 52 (through_one 51 (at_top 15))
+unfolding walked diamond at_top through_one and_also
+left_16 n base busy place free = rw (free 52 (omega arith), base (busy ++ 52 ∷ []) (byte 1600) (free_more 52 52 busy (omega arith) free)) refl
+
+right_16 : (n : ℕ) → Has n 51 (at_top 15) → Has (suc n) 53 (through_one 51 (at_top 15))
+unfolding walked diamond at_top through_one and_also
+right_16 n base busy place free = rw (free 53 (omega arith), base (busy ++ 53 ∷ []) (byte 1620) (free_more 52 53 busy (omega arith) free)) refl
+
+top_16 : (n : ℕ) → Has n 52 (through_one 51 (at_top 15)) → Has n 53 (through_one 51 (at_top 15)) → Has (suc n) 54 (at_top 16)
+unfolding walked diamond at_top through_one and_also
+top_16 n left right busy place free = rw (free 54 (omega arith), left (busy ++ 54 ∷ []) (byte 1640) (free_more 53 54 busy (omega arith) free), right (busy ++ 54 ∷ []) (byte 1660) (free_more 54 54 busy (omega arith) free)) refl
+
+left_17 : (n : ℕ) → Has n 54 (at_top 16) → Has (suc n) 55 (through_one 54 (at_top 16))
+unfolding walked diamond at_top through_one and_also
+left_17 n base busy place free = rw (free 55 (omega arith), base (busy ++ 55 ∷ []) (byte 1700) (free_more 55 55 busy (omega arith) free)) refl
+
+right_17 : (n : ℕ) → Has n 54 (at_top 16) → Has (suc n) 56 (through_one 54 (at_top 16))
+unfolding walked diamond at_top through_one and_also
+right_17 n base busy place free = rw (free 56 (omega arith), base (busy ++ 56 ∷ []) (byte 1720) (free_more 55 56 busy (omega arith) free)) refl
+
+top_17 : (n : ℕ) → Has n 55 (through_one 54 (at_top 16)) → Has n 56 (through_one 54 (at_top 16)) → Has (suc n) 57 (at_top 17)
+unfolding walked diamond at_top through_one and_also
+top_17 n left right busy place free = rw (free 57 (omega arith), left (busy ++ 57 ∷ []) (byte 1740) (free_more 56 57 busy (omega arith) free), right (busy ++ 57 ∷ []) (byte 1760) (free_more 57 57 busy (omega arith) free)) refl
+
+left_18 : (n : ℕ) → Has n 57 (at_top 17) → Has (suc n) 58 (through_one 57 (at_top 17))
+unfolding walked diamond at_top through_one and_also
+left_18 n base busy place free = rw (free 58 (omega arith), base (busy ++ 58 ∷ []) (byte 1800) (free_more 58 58 busy (omega arith) free)) refl
+
+right_18 : (n : ℕ) → Has n 57 (at_top 17) → Has (suc n) 59 (through_one 57 (at_top 17))
+unfolding walked diamond at_top through_one and_also
+right_18 n base busy place free = rw (free 59 (omega arith), base (busy ++ 59 ∷ []) (byte 1820) (free_more 58 59 busy (omega arith) free)) refl
+
+top_18 : (n : ℕ) → Has n 58 (through_one 57 (at_top 17)) → Has n 59 (through_one 57 (at_top 17)) → Has (suc n) 60 (at_top 18)
+unfolding walked diamond at_top through_one and_also
+top_18 n left right busy place free = rw (free 60 (omega arith), left (busy ++ 60 ∷ []) (byte 1840) (free_more 59 60 busy (omega arith) free), right (busy ++ 60 ∷ []) (byte 1860) (free_more 60 60 busy (omega arith) free)) refl
+
+left_19 : (n : ℕ) → Has n 60 (at_top 18) → Has (suc n) 61 (through_one 60 (at_top 18))
+unfolding walked diamond at_top through_one and_also
+left_19 n base busy place free = rw (free 61 (omega arith), base (busy ++ 61 ∷ []) (byte 1900) (free_more 61 61 busy (omega arith) free)) refl
+
+right_19 : (n : ℕ) → Has n 60 (at_top 18) → Has (suc n) 62 (through_one 60 (at_top 18))
+unfolding walked diamond at_top through_one and_also
+right_19 n base busy place free = rw (free 62 (omega arith), base (busy ++ 62 ∷ []) (byte 1920) (free_more 61 62 busy (omega arith) free)) refl
+
+top_19 : (n : ℕ) → Has n 61 (through_one 60 (at_top 18)) → Has n 62 (through_one 60 (at_top 18)) → Has (suc n) 63 (at_top 19)
+unfolding walked diamond at_top through_one and_also
+top_19 n left right busy place free = rw (free 63 (omega arith), left (busy ++ 63 ∷ []) (byte 1940) (free_more 62 63 busy (omega arith) free), right (busy ++ 63 ∷ []) (byte 1960) (free_more 63 63 busy (omega arith) free)) refl
+
+left_20 : (n : ℕ) → Has n 63 (at_top 19) → Has (suc n) 64 (through_one 63 (at_top 19))
+unfolding walked diamond at_top through_one and_also
+left_20 n base busy place free = rw (free 64 (omega arith), base (busy ++ 64 ∷ []) (byte 2000) (free_more 64 64 busy (omega arith) free)) refl
+
+right_20 : (n : ℕ) → Has n 63 (at_top 19) → Has (suc n) 65 (through_one 63 (at_top 19))
+unfolding walked diamond at_top through_one and_also
+right_20 n base busy place free = rw (free 65 (omega arith), base (busy ++ 65 ∷ []) (byte 2020) (free_more 64 65 busy (omega arith) free)) refl
+
+top_20 : (n : ℕ) → Has n 64 (through_one 63 (at_top 19)) → Has n 65 (through_one 63 (at_top 19)) → Has (suc n) 66 (at_top 20)
+unfolding walked diamond at_top through_one and_also
+top_20 n left right busy place free = rw (free 66 (omega arith), left (busy ++ 66 ∷ []) (byte 2040) (free_more 65 66 busy (omega arith) free), right (busy ++ 66 ∷ []) (byte 2060) (free_more 66 66 busy (omega arith) free)) refl
+
+left_21 : (n : ℕ) → Has n 66 (at_top 20) → Has (suc n) 67 (through_one 66 (at_top 20))
+unfolding walked diamond at_top through_one and_also
+left_21 n base busy place free = rw (free 67 (omega arith), base (busy ++ 67 ∷ []) (byte 2100) (free_more 67 67 busy (omega arith) free)) refl
+
+right_21 : (n : ℕ) → Has n 66 (at_top 20) → Has (suc n) 68 (through_one 66 (at_top 20))
+unfolding walked diamond at_top through_one and_also
+right_21 n base busy place free = rw (free 68 (omega arith), base (busy ++ 68 ∷ []) (byte 2120) (free_more 67 68 busy (omega arith) free)) refl
+
+top_21 : (n : ℕ) → Has n 67 (through_one 66 (at_top 20)) → Has n 68 (through_one 66 (at_top 20)) → Has (suc n) 69 (at_top 21)
+unfolding walked diamond at_top through_one and_also
+top_21 n left right busy place free = rw (free 69 (omega arith), left (busy ++ 69 ∷ []) (byte 2140) (free_more 68 69 busy (omega arith) free), right (busy ++ 69 ∷ []) (byte 2160) (free_more 69 69 busy (omega arith) free)) refl
+
+left_22 : (n : ℕ) → Has n 69 (at_top 21) → Has (suc n) 70 (through_one 69 (at_top 21))
+unfolding walked diamond at_top through_one and_also
+left_22 n base busy place free = rw (free 70 (omega arith), base (busy ++ 70 ∷ []) (byte 2200) (free_more 70 70 busy (omega arith) free)) refl
+
+right_22 : (n : ℕ) → Has n 69 (at_top 21) → Has (suc n) 71 (through_one 69 (at_top 21))
+unfolding walked diamond at_top through_one and_also
+right_22 n base busy place free = rw (free 71 (omega arith), base (busy ++ 71 ∷ []) (byte 2220) (free_more 70 71 busy (omega arith) free)) refl
+
+top_22 : (n : ℕ) → Has n 70 (through_one 69 (at_top 21)) → Has n 71 (through_one 69 (at_top 21)) → Has (suc n) 72 (at_top 22)
+unfolding walked diamond at_top through_one and_also
+top_22 n left right busy place free = rw (free 72 (omega arith), left (busy ++ 72 ∷ []) (byte 2240) (free_more 71 72 busy (omega arith) free), right (busy ++ 72 ∷ []) (byte 2260) (free_more 72 72 busy (omega arith) free)) refl
+
+left_23 : (n : ℕ) → Has n 72 (at_top 22) → Has (suc n) 73 (through_one 72 (at_top 22))
+unfolding walked diamond at_top through_one and_also
+left_23 n base busy place free = rw (free 73 (omega arith), base (busy ++ 73 ∷ []) (byte 2300) (free_more 73 73 busy (omega arith) free)) refl
+
+right_23 : (n : ℕ) → Has n 72 (at_top 22) → Has (suc n) 74 (through_one 72 (at_top 22))
+unfolding walked diamond at_top through_one and_also
+right_23 n base busy place free = rw (free 74 (omega arith), base (busy ++ 74 ∷ []) (byte 2320) (free_more 73 74 busy (omega arith) free)) refl
+
+top_23 : (n : ℕ) → Has n 73 (through_one 72 (at_top 22)) → Has n 74 (through_one 72 (at_top 22)) → Has (suc n) 75 (at_top 23)
+unfolding walked diamond at_top through_one and_also
+top_23 n left right busy place free = rw (free 75 (omega arith), left (busy ++ 75 ∷ []) (byte 2340) (free_more 74 75 busy (omega arith) free), right (busy ++ 75 ∷ []) (byte 2360) (free_more 75 75 busy (omega arith) free)) refl
+
+left_24 : (n : ℕ) → Has n 75 (at_top 23) → Has (suc n) 76 (through_one 75 (at_top 23))
+unfolding walked diamond at_top through_one and_also
+left_24 n base busy place free = rw (free 76 (omega arith), base (busy ++ 76 ∷ []) (byte 2400) (free_more 76 76 busy (omega arith) free)) refl
+
+right_24 : (n : ℕ) → Has n 75 (at_top 23) → Has (suc n) 77 (through_one 75 (at_top 23))
+unfolding walked diamond at_top through_one and_also
+right_24 n base busy place free = rw (free 77 (omega arith), base (busy ++ 77 ∷ []) (byte 2420) (free_more 76 77 busy (omega arith) free)) refl
+
+top_24 : (n : ℕ) → Has n 76 (through_one 75 (at_top 23)) → Has n 77 (through_one 75 (at_top 23)) → Has (suc n) 78 (at_top 24)
+unfolding walked diamond at_top through_one and_also
+top_24 n left right busy place free = rw (free 78 (omega arith), left (busy ++ 78 ∷ []) (byte 2440) (free_more 77 78 busy (omega arith) free), right (busy ++ 78 ∷ []) (byte 2460) (free_more 78 78 busy (omega arith) free)) refl
 
-left-25 : (n : ℕ) → Has n 78 (at-top 24) → Has (suc n) 79 (through-one 78 (at-top 24))
-unfolding walked diamond at-top through-one and-also
-left-25 n base busy place free = rw (free 79 (omega arith), base (busy ++ 79 ∷ []) (byte 2500) (free_more 79 79 busy (omega arith) free)) refl
+left_25 : (n : ℕ) → Has n 78 (at_top 24) → Has (suc n) 79 (through_one 78 (at_top 24))
+unfolding walked diamond at_top through_one and_also
+left_25 n base busy place free = rw (free 79 (omega arith), base (busy ++ 79 ∷ []) (byte 2500) (free_more 79 79 busy (omega arith) free)) refl
 
-right-25 : (n : ℕ) → Has n 78 (at-top 24) → Has (suc n) 80 (through-one 78 (at-top 24))
-unfolding walked diamond at-top through-one and-also
-right-25 n base busy place free = rw (free 80 (omega arith), base (busy ++ 80 ∷ []) (byte 2520) (free_more 79 80 busy (omega arith) free)) refl
+right_25 : (n : ℕ) → Has n 78 (at_top 24) → Has (suc n) 80 (through_one 78 (at_top 24))
+unfolding walked diamond at_top through_one and_also
+right_25 n base busy place free = rw (free 80 (omega arith), base (busy ++ 80 ∷ []) (byte 2520) (free_more 79 80 busy (omega arith) free)) refl
 
-top-25 : (n : ℕ) → Has n 79 (through-one 78 (at-top 24)) → Has n 80 (through-one 78 (at-top 24)) → Has (suc n) 81 (at-top 25)
-unfolding walked diamond at-top through-one and-also
-top-25 n left right busy place free = rw (free 81 (omega arith), left (busy ++ 81 ∷ []) (byte 2540) (free_more 80 81 busy (omega arith) free), right (busy ++ 81 ∷ []) (byte 2560) (free_more 81 81 busy (omega arith) free)) refl
+top_25 : (n : ℕ) → Has n 79 (through_one 78 (at_top 24)) → Has n 80 (through_one 78 (at_top 24)) → Has (suc n) 81 (at_top 25)
+unfolding walked diamond at_top through_one and_also
+top_25 n left right busy place free = rw (free 81 (omega arith), left (busy ++ 81 ∷ []) (byte 2540) (free_more 80 81 busy (omega arith) free), right (busy ++ 81 ∷ []) (byte 2560) (free_more 81 81 busy (omega arith) free)) refl
 
-left-26 : (n : ℕ) → Has n 81 (at-top 25) → Has (suc n) 82 (through-one 81 (at-top 25))
-unfolding walked diamond at-top through-one and-also
-left-26 n base busy place free = rw (free 82 (omega arith), base (busy ++ 82 ∷ []) (byte 2600) (free_more 82 82 busy (omega arith) free)) refl
+left_26 : (n : ℕ) → Has n 81 (at_top 25) → Has (suc n) 82 (through_one 81 (at_top 25))
+unfolding walked diamond at_top through_one and_also
+left_26 n base busy place free = rw (free 82 (omega arith), base (busy ++ 82 ∷ []) (byte 2600) (free_more 82 82 busy (omega arith) free)) refl
 
-right-26 : (n : ℕ) → Has n 81 (at-top 25) → Has (suc n) 83 (through-one 81 (at-top 25))
-unfolding walked diamond at-top through-one and-also
-right-26 n base busy place free = rw (free 83 (omega arith), base (busy ++ 83 ∷ []) (byte 2620) (free_more 82 83 busy (omega arith) free)) refl
+right_26 : (n : ℕ) → Has n 81 (at_top 25) → Has (suc n) 83 (through_one 81 (at_top 25))
+unfolding walked diamond at_top through_one and_also
+right_26 n base busy place free = rw (free 83 (omega arith), base (busy ++ 83 ∷ []) (byte 2620) (free_more 82 83 busy (omega arith) free)) refl
 
-top-26 : (n : ℕ) → Has n 82 (through-one 81 (at-top 25)) → Has n 83 (through-one 81 (at-top 25)) → Has (suc n) 84 (at-top 26)
-unfolding walked diamond at-top through-one and-also
-top-26 n left right busy place free = rw (free 84 (omega arith), left (busy ++ 84 ∷ []) (byte 2640) (free_more 83 84 busy (omega arith) free), right (busy ++ 84 ∷ []) (byte 2660) (free_more 84 84 busy (omega arith) free)) refl
+top_26 : (n : ℕ) → Has n 82 (through_one 81 (at_top 25)) → Has n 83 (through_one 81 (at_top 25)) → Has (suc n) 84 (at_top 26)
+unfolding walked diamond at_top through_one and_also
+top_26 n left right busy place free = rw (free 84 (omega arith), left (busy ++ 84 ∷ []) (byte 2640) (free_more 83 84 busy (omega arith) free), right (busy ++ 84 ∷ []) (byte 2660) (free_more 84 84 busy (omega arith) free)) refl
 
-left-27 : (n : ℕ) → Has n 84 (at-top 26) → Has (suc n) 85 (through-one 84 (at-top 26))
-unfolding walked diamond at-top through-one and-also
-left-27 n base busy place free = rw (free 85 (omega arith), base (busy ++ 85 ∷ []) (byte 2700) (free_more 85 85 busy (omega arith) free)) refl
+left_27 : (n : ℕ) → Has n 84 (at_top 26) → Has (suc n) 85 (through_one 84 (at_top 26))
+unfolding walked diamond at_top through_one and_also
+left_27 n base busy place free = rw (free 85 (omega arith), base (busy ++ 85 ∷ []) (byte 2700) (free_more 85 85 busy (omega arith) free)) refl
 
-right-27 : (n : ℕ) → Has n 84 (at-top 26) → Has (suc n) 86 (through-one 84 (at-top 26))
-unfolding walked diamond at-top through-one and-also
-right-27 n base busy place free = rw (free 86 (omega arith), base (busy ++ 86 ∷ []) (byte 2720) (free_more 85 86 busy (omega arith) free)) refl
+right_27 : (n : ℕ) → Has n 84 (at_top 26) → Has (suc n) 86 (through_one 84 (at_top 26))
+unfolding walked diamond at_top through_one and_also
+right_27 n base busy place free = rw (free 86 (omega arith), base (busy ++ 86 ∷ []) (byte 2720) (free_more 85 86 busy (omega arith) free)) refl
 
-top-27 : (n : ℕ) → Has n 85 (through-one 84 (at-top 26)) → Has n 86 (through-one 84 (at-top 26)) → Has (suc n) 87 (at-top 27)
-unfolding walked diamond at-top through-one and-also
-top-27 n left right busy place free = rw (free 87 (omega arith), left (busy ++ 87 ∷ []) (byte 2740) (free_more 86 87 busy (omega arith) free), right (busy ++ 87 ∷ []) (byte 2760) (free_more 87 87 busy (omega arith) free)) refl
+top_27 : (n : ℕ) → Has n 85 (through_one 84 (at_top 26)) → Has n 86 (through_one 84 (at_top 26)) → Has (suc n) 87 (at_top 27)
+unfolding walked diamond at_top through_one and_also
+top_27 n left right busy place free = rw (free 87 (omega arith), left (busy ++ 87 ∷ []) (byte 2740) (free_more 86 87 busy (omega arith) free), right (busy ++ 87 ∷ []) (byte 2760) (free_more 87 87 busy (omega arith) free)) refl
 
-left-28 : (n : ℕ) → Has n 87 (at-top 27) → Has (suc n) 88 (through-one 87 (at-top 27))
-unfolding walked diamond at-top through-one and-also
-left-28 n base busy place free = rw (free 88 (omega arith), base (busy ++ 88 ∷ []) (byte 2800) (free_more 88 88 busy (omega arith) free)) refl
+left_28 : (n : ℕ) → Has n 87 (at_top 27) → Has (suc n) 88 (through_one 87 (at_top 27))
+unfolding walked diamond at_top through_one and_also
+left_28 n base busy place free = rw (free 88 (omega arith), base (busy ++ 88 ∷ []) (byte 2800) (free_more 88 88 busy (omega arith) free)) refl
 
-right-28 : (n : ℕ) → Has n 87 (at-top 27) → Has (suc n) 89 (through-one 87 (at-top 27))
-unfolding walked diamond at-top through-one and-also
-right-28 n base busy place free = rw (free 89 (omega arith), base (busy ++ 89 ∷ []) (byte 2820) (free_more 88 89 busy (omega arith) free)) refl
+right_28 : (n : ℕ) → Has n 87 (at_top 27) → Has (suc n) 89 (through_one 87 (at_top 27))
+unfolding walked diamond at_top through_one and_also
+right_28 n base busy place free = rw (free 89 (omega arith), base (busy ++ 89 ∷ []) (byte 2820) (free_more 88 89 busy (omega arith) free)) refl
 
-top-28 : (n : ℕ) → Has n 88 (through-one 87 (at-top 27)) → Has n 89 (through-one 87 (at-top 27)) → Has (suc n) 90 (at-top 28)
-unfolding walked diamond at-top through-one and-also
-top-28 n left right busy place free = rw (free 90 (omega arith), left (busy ++ 90 ∷ []) (byte 2840) (free_more 89 90 busy (omega arith) free), right (busy ++ 90 ∷ []) (byte 2860) (free_more 90 90 busy (omega arith) free)) refl
+top_28 : (n : ℕ) → Has n 88 (through_one 87 (at_top 27)) → Has n 89 (through_one 87 (at_top 27)) → Has (suc n) 90 (at_top 28)
+unfolding walked diamond at_top through_one and_also
+top_28 n left right busy place free = rw (free 90 (omega arith), left (busy ++ 90 ∷ []) (byte 2840) (free_more 89 90 busy (omega arith) free), right (busy ++ 90 ∷ []) (byte 2860) (free_more 90 90 busy (omega arith) free)) refl
 
-left-29 : (n : ℕ) → Has n 90 (at-top 28) → Has (suc n) 91 (through-one 90 (at-top 28))
-unfolding walked diamond at-top through-one and-also
-left-29 n base busy place free = rw (free 91 (omega arith), base (busy ++ 91 ∷ []) (byte 2900) (free_more 91 91 busy (omega arith) free)) refl
+left_29 : (n : ℕ) → Has n 90 (at_top 28) → Has (suc n) 91 (through_one 90 (at_top 28))
+unfolding walked diamond at_top through_one and_also
+left_29 n base busy place free = rw (free 91 (omega arith), base (busy ++ 91 ∷ []) (byte 2900) (free_more 91 91 busy (omega arith) free)) refl
 
-right-29 : (n : ℕ) → Has n 90 (at-top 28) → Has (suc n) 92 (through-one 90 (at-top 28))
-unfolding walked diamond at-top through-one and-also
-right-29 n base busy place free = rw (free 92 (omega arith), base (busy ++ 92 ∷ []) (byte 2920) (free_more 91 92 busy (omega arith) free)) refl
+right_29 : (n : ℕ) → Has n 90 (at_top 28) → Has (suc n) 92 (through_one 90 (at_top 28))
+unfolding walked diamond at_top through_one and_also
+right_29 n base busy place free = rw (free 92 (omega arith), base (busy ++ 92 ∷ []) (byte 2920) (free_more 91 92 busy (omega arith) free)) refl
 
-top-29 : (n : ℕ) → Has n 91 (through-one 90 (at-top 28)) → Has n 92 (through-one 90 (at-top 28)) → Has (suc n) 93 (at-top 29)
-unfolding walked diamond at-top through-one and-also
-top-29 n left right busy place free = rw (free 93 (omega arith), left (busy ++ 93 ∷ []) (byte 2940) (free_more 92 93 busy (omega arith) free), right (busy ++ 93 ∷ []) (byte 2960) (free_more 93 93 busy (omega arith) free)) refl
+top_29 : (n : ℕ) → Has n 91 (through_one 90 (at_top 28)) → Has n 92 (through_one 90 (at_top 28)) → Has (suc n) 93 (at_top 29)
+unfolding walked diamond at_top through_one and_also
+top_29 n left right busy place free = rw (free 93 (omega arith), left (busy ++ 93 ∷ []) (byte 2940) (free_more 92 93 busy (omega arith) free), right (busy ++ 93 ∷ []) (byte 2960) (free_more 93 93 busy (omega arith) free)) refl
 
-left-30 : (n : ℕ) → Has n 93 (at-top 29) → Has (suc n) 94 (through-one 93 (at-top 29))
-unfolding walked diamond at-top through-one and-also
-left-30 n base busy place free = rw (free 94 (omega arith), base (busy ++ 94 ∷ []) (byte 3000) (free_more 94 94 busy (omega arith) free)) refl
+left_30 : (n : ℕ) → Has n 93 (at_top 29) → Has (suc n) 94 (through_one 93 (at_top 29))
+unfolding walked diamond at_top through_one and_also
+left_30 n base busy place free = rw (free 94 (omega arith), base (busy ++ 94 ∷ []) (byte 3000) (free_more 94 94 busy (omega arith) free)) refl
 
-right-30 : (n : ℕ) → Has n 93 (at-top 29) → Has (suc n) 95 (through-one 93 (at-top 29))
-unfolding walked diamond at-top through-one and-also
-right-30 n base busy place free = rw (free 95 (omega arith), base (busy ++ 95 ∷ []) (byte 3020) (free_more 94 95 busy (omega arith) free)) refl
+right_30 : (n : ℕ) → Has n 93 (at_top 29) → Has (suc n) 95 (through_one 93 (at_top 29))
+unfolding walked diamond at_top through_one and_also
+right_30 n base busy place free = rw (free 95 (omega arith), base (busy ++ 95 ∷ []) (byte 3020) (free_more 94 95 busy (omega arith) free)) refl
 
-top-30 : (n : ℕ) → Has n 94 (through-one 93 (at-top 29)) → Has n 95 (through-one 93 (at-top 29)) → Has (suc n) 96 (at-top 30)
-unfolding walked diamond at-top through-one and-also
-top-30 n left right busy place free = rw (free 96 (omega arith), left (busy ++ 96 ∷ []) (byte 3040) (free_more 95 96 busy (omega arith) free), right (busy ++ 96 ∷ []) (byte 3060) (free_more 96 96 busy (omega arith) free)) refl
+top_30 : (n : ℕ) → Has n 94 (through_one 93 (at_top 29)) → Has n 95 (through_one 93 (at_top 29)) → Has (suc n) 96 (at_top 30)
+unfolding walked diamond at_top through_one and_also
+top_30 n left right busy place free = rw (free 96 (omega arith), left (busy ++ 96 ∷ []) (byte 3040) (free_more 95 96 busy (omega arith) free), right (busy ++ 96 ∷ []) (byte 3060) (free_more 96 96 busy (omega arith) free)) refl
 
-left-31 : (n : ℕ) → Has n 96 (at-top 30) → Has (suc n) 97 (through-one 96 (at-top 30))
-unfolding walked diamond at-top through-one and-also
-left-31 n base busy place free = rw (free 97 (omega arith), base (busy ++ 97 ∷ []) (byte 3100) (free_more 97 97 busy (omega arith) free)) refl
+left_31 : (n : ℕ) → Has n 96 (at_top 30) → Has (suc n) 97 (through_one 96 (at_top 30))
+unfolding walked diamond at_top through_one and_also
+left_31 n base busy place free = rw (free 97 (omega arith), base (busy ++ 97 ∷ []) (byte 3100) (free_more 97 97 busy (omega arith) free)) refl
 
-right-31 : (n : ℕ) → Has n 96 (at-top 30) → Has (suc n) 98 (through-one 96 (at-top 30))
-unfolding walked diamond at-top through-one and-also
-right-31 n base busy place free = rw (free 98 (omega arith), base (busy ++ 98 ∷ []) (byte 3120) (free_more 97 98 busy (omega arith) free)) refl
+right_31 : (n : ℕ) → Has n 96 (at_top 30) → Has (suc n) 98 (through_one 96 (at_top 30))
+unfolding walked diamond at_top through_one and_also
+right_31 n base busy place free = rw (free 98 (omega arith), base (busy ++ 98 ∷ []) (byte 3120) (free_more 97 98 busy (omega arith) free)) refl
 
-top-31 : (n : ℕ) → Has n 97 (through-one 96 (at-top 30)) → Has n 98 (through-one 96 (at-top 30)) → Has (suc n) 99 (at-top 31)
-unfolding walked diamond at-top through-one and-also
-top-31 n left right busy place free = rw (free 99 (omega arith), left (busy ++ 99 ∷ []) (byte 3140) (free_more 98 99 busy (omega arith) free), right (busy ++ 99 ∷ []) (byte 3160) (free_more 99 99 busy (omega arith) free)) refl
+top_31 : (n : ℕ) → Has n 97 (through_one 96 (at_top 30)) → Has n 98 (through_one 96 (at_top 30)) → Has (suc n) 99 (at_top 31)
+unfolding walked diamond at_top through_one and_also
+top_31 n left right busy place free = rw (free 99 (omega arith), left (busy ++ 99 ∷ []) (byte 3140) (free_more 98 99 busy (omega arith) free), right (busy ++ 99 ∷ []) (byte 3160) (free_more 99 99 busy (omega arith) free)) refl
 
-left-32 : (n : ℕ) → Has n 99 (at-top 31) → Has (suc n) 100 (through-one 99 (at-top 31))
-unfolding walked diamond at-top through-one and-also
-left-32 n base busy place free = rw (free 100 (omega arith), base (busy ++ 100 ∷ []) (byte 3200) (free_more 100 100 busy (omega arith) free)) refl
+left_32 : (n : ℕ) → Has n 99 (at_top 31) → Has (suc n) 100 (through_one 99 (at_top 31))
+unfolding walked diamond at_top through_one and_also
+left_32 n base busy place free = rw (free 100 (omega arith), base (busy ++ 100 ∷ []) (byte 3200) (free_more 100 100 busy (omega arith) free)) refl
 
-right-32 : (n : ℕ) → Has n 99 (at-top 31) → Has (suc n) 101 (through-one 99 (at-top 31))
-unfolding walked diamond at-top through-one and-also
-right-32 n base busy place free = rw (free 101 (omega arith), base (busy ++ 101 ∷ []) (byte 3220) (free_more 100 101 busy (omega arith) free)) refl
+right_32 : (n : ℕ) → Has n 99 (at_top 31) → Has (suc n) 101 (through_one 99 (at_top 31))
+unfolding walked diamond at_top through_one and_also
+right_32 n base busy place free = rw (free 101 (omega arith), base (busy ++ 101 ∷ []) (byte 3220) (free_more 100 101 busy (omega arith) free)) refl
 
-top-32 : (n : ℕ) → Has n 100 (through-one 99 (at-top 31)) → Has n 101 (through-one 99 (at-top 31)) → Has (suc n) 102 (at-top 32)
-unfolding walked diamond at-top through-one and-also
-top-32 n left right busy place free = rw (free 102 (omega arith), left (busy ++ 102 ∷ []) (byte 3240) (free_more 101 102 busy (omega arith) free), right (busy ++ 102 ∷ []) (byte 3260) (free_more 102 102 busy (omega arith) free)) refl
+top_32 : (n : ℕ) → Has n 100 (through_one 99 (at_top 31)) → Has n 101 (through_one 99 (at_top 31)) → Has (suc n) 102 (at_top 32)
+unfolding walked diamond at_top through_one and_also
+top_32 n left right busy place free = rw (free 102 (omega arith), left (busy ++ 102 ∷ []) (byte 3240) (free_more 101 102 busy (omega arith) free), right (busy ++ 102 ∷ []) (byte 3260) (free_more 102 102 busy (omega arith) free)) refl
 
--- ---- from top-0 to the top
+-- ---- from top_0 to the top
 
-has-top-0 : Has 39 6 (at-top 0)
-has-top-0 = top-0 38
+has_top_0 : Has 39 6 (at_top 0)
+has_top_0 = top_0 38
 
-has-top-1 : Has 41 9 (at-top 1)
-has-top-1 = top-1 40 (left-1 39 has-top-0) (right-1 39 has-top-0)
+has_top_1 : Has 41 9 (at_top 1)
+has_top_1 = top_1 40 (left_1 39 has_top_0) (right_1 39 has_top_0)
 
-has-top-2 : Has 43 12 (at-top 2)
-has-top-2 = top-2 42 (left-2 41 has-top-1) (right-2 41 has-top-1)
+has_top_2 : Has 43 12 (at_top 2)
+has_top_2 = top_2 42 (left_2 41 has_top_1) (right_2 41 has_top_1)
 
-has-top-3 : Has 45 15 (at-top 3)
-has-top-3 = top-3 44 (left-3 43 has-top-2) (right-3 43 has-top-2)
+has_top_3 : Has 45 15 (at_top 3)
+has_top_3 = top_3 44 (left_3 43 has_top_2) (right_3 43 has_top_2)
 
-has-top-4 : Has 47 18 (at-top 4)
-has-top-4 = top-4 46 (left-4 45 has-top-3) (right-4 45 has-top-3)
+has_top_4 : Has 47 18 (at_top 4)
+has_top_4 = top_4 46 (left_4 45 has_top_3) (right_4 45 has_top_3)
 
-has-top-5 : Has 49 21 (at-top 5)
-has-top-5 = top-5 48 (left-5 47 has-top-4) (right-5 47 has-top-4)
+has_top_5 : Has 49 21 (at_top 5)
+has_top_5 = top_5 48 (left_5 47 has_top_4) (right_5 47 has_top_4)
 
-has-top-6 : Has 51 24 (at-top 6)
-has-top-6 = top-6 50 (left-6 49 has-top-5) (right-6 49 has-top-5)
+has_top_6 : Has 51 24 (at_top 6)
+has_top_6 = top_6 50 (left_6 49 has_top_5) (right_6 49 has_top_5)
 
-has-top-7 : Has 53 27 (at-top 7)
-has-top-7 = top-7 52 (left-7 51 has-top-6) (right-7 51 has-top-6)
+has_top_7 : Has 53 27 (at_top 7)
+has_top_7 = top_7 52 (left_7 51 has_top_6) (right_7 51 has_top_6)
 
-has-top-8 : Has 55 30 (at-top 8)
-has-top-8 = top-8 54 (left-8 53 has-top-7) (right-8 53 has-top-7)
+has_top_8 : Has 55 30 (at_top 8)
+has_top_8 = top_8 54 (left_8 53 has_top_7) (right_8 53 has_top_7)
 
-has-top-9 : Has 57 33 (at-top 9)
-has-top-9 = top-9 56 (left-9 55 has-top-8) (right-9 55 has-top-8)
+has_top_9 : Has 57 33 (at_top 9)
+has_top_9 = top_9 56 (left_9 55 has_top_8) (right_9 55 has_top_8)
 
-has-top-10 : Has 59 36 (at-top 10)
-has-top-10 = top-10 58 (left-10 57 has-top-9) (right-10 57 has-top-9)
+has_top_10 : Has 59 36 (at_top 10)
+has_top_10 = top_10 58 (left_10 57 has_top_9) (right_10 57 has_top_9)
 
-has-top-11 : Has 61 39 (at-top 11)
-has-top-11 = top-11 60 (left-11 59 has-top-10) (right-11 59 has-top-10)
+has_top_11 : Has 61 39 (at_top 11)
+has_top_11 = top_11 60 (left_11 59 has_top_10) (right_11 59 has_top_10)
 
-has-top-12 : Has 63 42 (at-top 12)
-has-top-12 = top-12 62 (left-12 61 has-top-11) (right-12 61 has-top-11)
+has_top_12 : Has 63 42 (at_top 12)
+has_top_12 = top_12 62 (left_12 61 has_top_11) (right_12 61 has_top_11)
 
-has-top-13 : Has 65 45 (at-top 13)
-has-top-13 = top-13 64 (left-13 63 has-top-12) (right-13 63 has-top-12)
+has_top_13 : Has 65 45 (at_top 13)
+has_top_13 = top_13 64 (left_13 63 has_top_12) (right_13 63 has_top_12)
 
-has-top-14 : Has 67 48 (at-top 14)
-has-top-14 = top-14 66 (left-14 65 has-top-13) (right-14 65 has-top-13)
+has_top_14 : Has 67 48 (at_top 14)
+has_top_14 = top_14 66 (left_14 65 has_top_13) (right_14 65 has_top_13)
 
-has-top-15 : Has 69 51 (at-top 15)
-has-top-15 = top-15 68 (left-15 67 has-top-14) (right-15 67 has-top-14)
+has_top_15 : Has 69 51 (at_top 15)
+has_top_15 = top_15 68 (left_15 67 has_top_14) (right_15 67 has_top_14)
 
-has-top-16 : Has 71 54 (at-top 16)
-has-top-16 = top-16 70 (left-16 69 has-top-15) (right-16 69 has-top-15)
+has_top_16 : Has 71 54 (at_top 16)
+has_top_16 = top_16 70 (left_16 69 has_top_15) (right_16 69 has_top_15)
 
-has-top-17 : Has 73 57 (at-top 17)
-has-top-17 = top-17 72 (left-17 71 has-top-16) (right-17 71 has-top-16)
+has_top_17 : Has 73 57 (at_top 17)
+has_top_17 = top_17 72 (left_17 71 has_top_16) (right_17 71 has_top_16)
 
-has-top-18 : Has 75 60 (at-top 18)
-has-top-18 = top-18 74 (left-18 73 has-top-17) (right-18 73 has-top-17)
+has_top_18 : Has 75 60 (at_top 18)
+has_top_18 = top_18 74 (left_18 73 has_top_17) (right_18 73 has_top_17)
 
-has-top-19 : Has 77 63 (at-top 19)
-has-top-19 = top-19 76 (left-19 75 has-top-18) (right-19 75 has-top-18)
+has_top_19 : Has 77 63 (at_top 19)
+has_top_19 = top_19 76 (left_19 75 has_top_18) (right_19 75 has_top_18)
 
-has-top-20 : Has 79 66 (at-top 20)
-has-top-20 = top-20 78 (left-20 77 has-top-19) (right-20 77 has-top-19)
+has_top_20 : Has 79 66 (at_top 20)
+has_top_20 = top_20 78 (left_20 77 has_top_19) (right_20 77 has_top_19)
 
-has-top-21 : Has 81 69 (at-top 21)
-has-top-21 = top-21 80 (left-21 79 has-top-20) (right-21 79 has-top-20)
+has_top_21 : Has 81 69 (at_top 21)
+has_top_21 = top_21 80 (left_21 79 has_top_20) (right_21 79 has_top_20)
 
-has-top-22 : Has 83 72 (at-top 22)
-has-top-22 = top-22 82 (left-22 81 has-top-21) (right-22 81 has-top-21)
+has_top_22 : Has 83 72 (at_top 22)
+has_top_22 = top_22 82 (left_22 81 has_top_21) (right_22 81 has_top_21)
 
-has-top-23 : Has 85 75 (at-top 23)
-has-top-23 = top-23 84 (left-23 83 has-top-22) (right-23 83 has-top-22)
+has_top_23 : Has 85 75 (at_top 23)
+has_top_23 = top_23 84 (left_23 83 has_top_22) (right_23 83 has_top_22)
 
-has-top-24 : Has 87 78 (at-top 24)
-has-top-24 = top-24 86 (left-24 85 has-top-23) (right-24 85 has-top-23)
+has_top_24 : Has 87 78 (at_top 24)
+has_top_24 = top_24 86 (left_24 85 has_top_23) (right_24 85 has_top_23)
 
-has-top-25 : Has 89 81 (at-top 25)
-has-top-25 = top-25 88 (left-25 87 has-top-24) (right-25 87 has-top-24)
+has_top_25 : Has 89 81 (at_top 25)
+has_top_25 = top_25 88 (left_25 87 has_top_24) (right_25 87 has_top_24)
 
-has-top-26 : Has 91 84 (at-top 26)
-has-top-26 = top-26 90 (left-26 89 has-top-25) (right-26 89 has-top-25)
+has_top_26 : Has 91 84 (at_top 26)
+has_top_26 = top_26 90 (left_26 89 has_top_25) (right_26 89 has_top_25)
 
-has-top-27 : Has 93 87 (at-top 27)
-has-top-27 = top-27 92 (left-27 91 has-top-26) (right-27 91 has-top-26)
+has_top_27 : Has 93 87 (at_top 27)
+has_top_27 = top_27 92 (left_27 91 has_top_26) (right_27 91 has_top_26)
 
-has-top-28 : Has 95 90 (at-top 28)
-has-top-28 = top-28 94 (left-28 93 has-top-27) (right-28 93 has-top-27)
+has_top_28 : Has 95 90 (at_top 28)
+has_top_28 = top_28 94 (left_28 93 has_top_27) (right_28 93 has_top_27)
 
-has-top-29 : Has 97 93 (at-top 29)
-has-top-29 = top-29 96 (left-29 95 has-top-28) (right-29 95 has-top-28)
+has_top_29 : Has 97 93 (at_top 29)
+has_top_29 = top_29 96 (left_29 95 has_top_28) (right_29 95 has_top_28)
 
-has-top-30 : Has 99 96 (at-top 30)
-has-top-30 = top-30 98 (left-30 97 has-top-29) (right-30 97 has-top-29)
+has_top_30 : Has 99 96 (at_top 30)
+has_top_30 = top_30 98 (left_30 97 has_top_29) (right_30 97 has_top_29)
 
-has-top-31 : Has 101 99 (at-top 31)
-has-top-31 = top-31 100 (left-31 99 has-top-30) (right-31 99 has-top-30)
+has_top_31 : Has 101 99 (at_top 31)
+has_top_31 = top_31 100 (left_31 99 has_top_30) (right_31 99 has_top_30)
 
-has-top-32 : Has 103 102 (at-top 32)
-has-top-32 = top-32 102 (left-32 101 has-top-31) (right-32 101 has-top-31)
+has_top_32 : Has 103 102 (at_top 32)
+has_top_32 = top_32 102 (left_32 101 has_top_31) (right_32 101 has_top_31)
 
 abbrev names : Outcome (List Member) → Outcome (List (List ℕ))
 names outcome = and_then outcome (λ members. Ok (map (λ member. member.name) members))
 
 -- The class at the top of 32 levels has one element.
 pub diamond_has_one_element : names (elements_of diamond (plain 102)) ≡ Ok (codes "x" ∷ [])
-unfolding diamond at-top through-one and-also
-diamond_has_one_element = ap (λ (o : Outcome Walked). names (and_then o (λ walked. Ok (members_in walked)))) (has-top-32 [] (record { file = 0; byte = 0 }) (λ n below. refl))
+unfolding diamond at_top through_one and_also
+diamond_has_one_element = ap (λ (o : Outcome Walked). names (and_then o (λ walked. Ok (members_in walked)))) (has_top_32 [] (record { file = 0; byte = 0 }) (λ n below. refl))

@@ -9,14 +9,14 @@ module _ (attributes : List (ℕ × FlatExpr)) (i : ℕ) (a : ℕ × FlatExpr) (
   opened : level_in (a ∷ drop (i + 1) attributes) ≡ level_in attributes
   opened = rw (drop_more attributes i a l, ← is) at to
 
-  pub level-here : a.0 ≡ 9 → level_at (out-FlatExpr a.1) ≡ level_in attributes
-  level-here nine = elim (eqb_tells a.0 9) [
+  pub level_here : a.0 ≡ 9 → level_at (out-FlatExpr a.1) ≡ level_in attributes
+  level_here nine = elim (eqb_tells a.0 9) [
     | inl e ↦ rw e.0 at opened
     | inr e ↦ absurd (e.1 nine)
   ]
 
-  pub level-skip : a.0 ≢ 9 → level_in (drop (i + 1) attributes) ≡ level_in attributes
-  level-skip other = elim (eqb_tells a.0 9) [
+  pub level_skip : a.0 ≢ 9 → level_in (drop (i + 1) attributes) ≡ level_in attributes
+  level_skip other = elim (eqb_tells a.0 9) [
     | inl e ↦ absurd (other e.1)
     | inr e ↦ rw e.0 at opened
   ]

@@ -10,39 +10,39 @@ use Rattle.mo_incidence.specs.Offsets.{by_number}
 use Rattle.mo_select.specs.Levels.{level_words, level_at, level_in, levels_of}
 use Rattle.mo_select.specs.Selection.{levels}
 
-found-low : (b : Bool) (i top : ℕ) (rest : Option ℕ) → i < top → unwrap_or rest 2 < top → unwrap_or (cond b (Some i) rest) 2 < top
-found-low true i top rest here later = here
-found-low false i top rest here later = later
+found_low : (b : Bool) (i top : ℕ) (rest : Option ℕ) → i < top → unwrap_or rest 2 < top → unwrap_or (cond b (Some i) rest) 2 < top
+found_low true i top rest here later = here
+found_low false i top rest here later = later
 
-place-low : (test : List ℕ → Bool) (i top : ℕ) (words : List (List ℕ)) → i + length words ≤ top → 2 < top → unwrap_or (position_from test i words) 2 < top
-place-low test i top [] le two = two
-place-low test i top (w ∷ ws) le two = found-low (test w) i top (position_from test (i + 1) ws) (omega arith) (place-low test (i + 1) top ws (omega arith) two)
+place_low : (test : List ℕ → Bool) (i top : ℕ) (words : List (List ℕ)) → i + length words ≤ top → 2 < top → unwrap_or (position_from test i words) 2 < top
+place_low test i top [] le two = two
+place_low test i top (w ∷ ws) le two = found_low (test w) i top (position_from test (i + 1) ws) (omega arith) (place_low test (i + 1) top ws (omega arith) two)
 
-words-few : 0 + length level_words ≤ 5
+words_few : 0 + length level_words ≤ 5
 unfolding level_words
-words-few = omega arith
+words_few = omega arith
 
-level-at-low : (node : FlatExpr-F FlatExpr) → level_at node < 5
-level-at-low (FlatExpr-F.Literal text) = place-low (λ word. bytes_eq word text) 0 5 level_words words-few (omega arith)
-level-at-low _ = omega arith
+level_at_low : (node : FlatExpr-F FlatExpr) → level_at node < 5
+level_at_low (FlatExpr-F.Literal text) = place_low (λ word. bytes_eq word text) 0 5 level_words words_few (omega arith)
+level_at_low _ = omega arith
 
-one-low : (b : Bool) (x y : ℕ) → x < 5 → y < 5 → (if b then x else y) < 5
-one-low true x y xl yl = xl
-one-low false x y xl yl = yl
+one_low : (b : Bool) (x y : ℕ) → x < 5 → y < 5 → (if b then x else y) < 5
+one_low true x y xl yl = xl
+one_low false x y xl yl = yl
 
-level-in-low : (attributes : List (ℕ × FlatExpr)) → level_in attributes < 5
-level-in-low [] = omega arith
-level-in-low (attribute ∷ attributes) = one-low (attribute.0 == 9) (level_at (out-FlatExpr attribute.1)) (level_in attributes) (level-at-low (out-FlatExpr attribute.1)) (level-in-low attributes)
+level_in_low : (attributes : List (ℕ × FlatExpr)) → level_in attributes < 5
+level_in_low [] = omega arith
+level_in_low (attribute ∷ attributes) = one_low (attribute.0 == 9) (level_at (out-FlatExpr attribute.1)) (level_in attributes) (level_at_low (out-FlatExpr attribute.1)) (level_in_low attributes)
 
-list-low : (b : Bool) (x : ℕ) (xs : List ℕ) → x < 5 → ((k : ℕ) → get_or xs k 0 < 5) → (k : ℕ) → get_or (if b then x ∷ xs else xs) k 0 < 5
-list-low true x xs here rest zero = here
-list-low true x xs here rest (suc k) = rest k
-list-low false x xs here rest k = rest k
+list_low : (b : Bool) (x : ℕ) (xs : List ℕ) → x < 5 → ((k : ℕ) → get_or xs k 0 < 5) → (k : ℕ) → get_or (if b then x ∷ xs else xs) k 0 < 5
+list_low true x xs here rest zero = here
+list_low true x xs here rest (suc k) = rest k
+list_low false x xs here rest k = rest k
 
-levels-few : (vars : List FlatVar) (k : ℕ) → get_or (levels_of vars) k 0 < 5
-levels-few [] k = omega arith
-levels-few (v ∷ vs) k = list-low (is_unknown_role (Some v.role)) (level_in v.attributes) (levels_of vs) (level-in-low v.attributes) (levels-few vs) k
+levels_few : (vars : List FlatVar) (k : ℕ) → get_or (levels_of vars) k 0 < 5
+levels_few [] k = omega arith
+levels_few (v ∷ vs) k = list_low (is_unknown_role (Some v.role)) (level_in v.attributes) (levels_of vs) (level_in_low v.attributes) (levels_few vs) k
 
-pub levels-low : (vars : List FlatVar) (j : ℕ) → by_number (levels_of vars) j < levels
+pub levels_low : (vars : List FlatVar) (j : ℕ) → by_number (levels_of vars) j < levels
 unfolding levels
-levels-low vars j = levels-few vars (j - 1)
+levels_low vars j = levels_few vars (j - 1)

@@ -10,7 +10,7 @@ use Rattle.mo_flat.specs.declared.expr.FlatExpr.TheVariants.{Der, Sum, Product, 
 use Rattle.mo_flat.specs.declared.model.FlatVar.{FlatVar}
 use Rattle.mo_flat.specs.Sound.{FlatKind, real, truth, call_kind, common_kind, is_numeric, is_truth, kind_node, kind_of, number_kind, where_holds}
 use Rattle.mo_sound.specs.SoundKinds.{product_kind}
-use Rattle.mo_sound.proofs.Related.{map-map}
+use Rattle.mo_sound.proofs.Related.{map_map}
 
 any_map : {A B : Type 0} (p : B → Bool) (h : A → B) (xs : List A) → list_any p (map h xs) ≡ list_any (λ x. p (h x)) xs
 any_map p h [] = refl
@@ -34,14 +34,14 @@ module _ (vars : List FlatVar) where
   at_Not a = kind_by (Not a) (FlatExpr-F.Not a) (outs-Not a)
 
   pub at_Sum : (ts : List (Bool × FlatExpr)) → kind_of vars (Sum ts) ≡ number_kind (map (λ t. kind_of vars t.1) ts)
-  at_Sum ts = kind_by (Sum ts) (FlatExpr-F.Sum ts) (outs-Sum ts) ∙ ap number_kind (map-map (λ (t : Bool × Kind). t.1) (λ (t : Bool × FlatExpr). (t.0, kind_of vars t.1)) ts)
+  at_Sum ts = kind_by (Sum ts) (FlatExpr-F.Sum ts) (outs-Sum ts) ∙ ap number_kind (map_map (λ (t : Bool × Kind). t.1) (λ (t : Bool × FlatExpr). (t.0, kind_of vars t.1)) ts)
 
   pub at_Product : (ts : List (Bool × FlatExpr)) → kind_of vars (Product ts) ≡ product_kind (list_any (λ t. t.0) ts) (map (λ t. kind_of vars t.1) ts)
   at_Product ts =
       kind_by (Product ts) (FlatExpr-F.Product ts) (outs-Product ts)
       ∙ three _ _ _ _ _ _ (any_map (λ (t : Bool × Kind). t.0) mark ts)
       (list_all-map (λ (t : Bool × Kind). is_numeric t.1) mark ts ∙ sym (list_all-map is_numeric (λ (t : Bool × FlatExpr). kind_of vars t.1) ts))
-      (map-map (λ (t : Bool × Kind). t.1) mark ts)
+      (map_map (λ (t : Bool × Kind). t.1) mark ts)
     where
       mark : Bool × FlatExpr → Bool × Kind
       mark t = (t.0, kind_of vars t.1)
@@ -69,7 +69,7 @@ module _ (vars : List FlatVar) where
       ≡ (if list_all (λ b. is_truth (kind_of vars b.0)) branches then common_kind (kind_of vars other ∷ map (λ b. kind_of vars b.1) branches) else None)
   at_If branches other =
       kind_by (If branches other) (FlatExpr-F.If branches other) (outs-If branches other)
-      ∙ two _ _ _ _ (list_all-map (λ (b : Kind × Kind). is_truth b.0) mark branches) (map-map (λ (b : Kind × Kind). b.1) mark branches)
+      ∙ two _ _ _ _ (list_all-map (λ (b : Kind × Kind). is_truth b.0) mark branches) (map_map (λ (b : Kind × Kind). b.1) mark branches)
     where
       mark : FlatExpr × FlatExpr → Kind × Kind
       mark b = (kind_of vars b.0, kind_of vars b.1)

@@ -2,9 +2,9 @@
 use Rattle.std.proofs.Common.{◌≡◌, List, [], ◌∷◌, map, refl, ap, ◌∙◌, sym, subst}
 use Rattle.mo_flat.specs.declared.expr.FlatExpr.{FlatExpr, FlatExpr-F, fold-FlatExpr, fold-roll-FlatExpr, ind-FlatExpr, map-FlatExpr, roll-FlatExpr}
 
-pub map-map : {X Y Z : Type 0} (g : Y → Z) (h : X → Y) (xs : List X) → map g (map h xs) ≡ map (λ x. g (h x)) xs
-map-map g h [] = refl
-map-map g h (x ∷ xs) = ap (λ r. g (h x) ∷ r) (map-map g h xs)
+pub map_map : {X Y Z : Type 0} (g : Y → Z) (h : X → Y) (xs : List X) → map g (map h xs) ≡ map (λ x. g (h x)) xs
+map_map g h [] = refl
+map_map g h (x ∷ xs) = ap (λ r. g (h x) ∷ r) (map_map g h xs)
 
 -- a node mapped twice
 pub mapped : (X Y Z : Type 0) (g : Y → Z) (h : X → Y) (n : FlatExpr-F X) → map-FlatExpr Y Z g (map-FlatExpr X Y h n) ≡ map-FlatExpr X Z (λ x. g (h x)) n
@@ -16,15 +16,15 @@ mapped X Y Z g h (FlatExpr-F.Literal t) = refl
 mapped X Y Z g h FlatExpr-F.Time = refl
 mapped X Y Z g h (FlatExpr-F.Var v k) = refl
 mapped X Y Z g h (FlatExpr-F.Der a) = refl
-mapped X Y Z g h (FlatExpr-F.Sum ts) = ap (λ l. FlatExpr-F.Sum l) (map-map (λ t. (t.0, g t.1)) (λ t. (t.0, h t.1)) ts)
-mapped X Y Z g h (FlatExpr-F.Product fs) = ap (λ l. FlatExpr-F.Product l) (map-map (λ t. (t.0, g t.1)) (λ t. (t.0, h t.1)) fs)
+mapped X Y Z g h (FlatExpr-F.Sum ts) = ap (λ l. FlatExpr-F.Sum l) (map_map (λ t. (t.0, g t.1)) (λ t. (t.0, h t.1)) ts)
+mapped X Y Z g h (FlatExpr-F.Product fs) = ap (λ l. FlatExpr-F.Product l) (map_map (λ t. (t.0, g t.1)) (λ t. (t.0, h t.1)) fs)
 mapped X Y Z g h (FlatExpr-F.Power a b) = refl
-mapped X Y Z g h (FlatExpr-F.Call f args) = ap (λ l. FlatExpr-F.Call f l) (map-map g h args)
+mapped X Y Z g h (FlatExpr-F.Call f args) = ap (λ l. FlatExpr-F.Call f l) (map_map g h args)
 mapped X Y Z g h (FlatExpr-F.Relation op a b) = refl
 mapped X Y Z g h (FlatExpr-F.Not a) = refl
-mapped X Y Z g h (FlatExpr-F.All ps) = ap (λ l. FlatExpr-F.All l) (map-map g h ps)
-mapped X Y Z g h (FlatExpr-F.Any ps) = ap (λ l. FlatExpr-F.Any l) (map-map g h ps)
-mapped X Y Z g h (FlatExpr-F.If bs o) = ap (λ l. FlatExpr-F.If l (g (h o))) (map-map (λ b. (g b.0, g b.1)) (λ b. (h b.0, h b.1)) bs)
+mapped X Y Z g h (FlatExpr-F.All ps) = ap (λ l. FlatExpr-F.All l) (map_map g h ps)
+mapped X Y Z g h (FlatExpr-F.Any ps) = ap (λ l. FlatExpr-F.Any l) (map_map g h ps)
+mapped X Y Z g h (FlatExpr-F.If bs o) = ap (λ l. FlatExpr-F.If l (g (h o))) (map_map (λ b. (g b.0, g b.1)) (λ b. (h b.0, h b.1)) bs)
 
 -- two values with a relation between them
 abbrev pub Related : (A B : Type 0) → (A → B → Type 0) → Type 0

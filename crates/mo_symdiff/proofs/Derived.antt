@@ -83,21 +83,21 @@ moving_one still term = if still then [] else term ∷ []
 abbrev pub moving_more : Bool → Bool × FlatExpr → List (Bool × FlatExpr) → List (Bool × FlatExpr)
 moving_more still term more = if still then more else term ∷ more
 
-pub all-push : {A : Type 0} (p : A → Bool) (xs : List A) (x : A) → list_all p (xs ++ x ∷ []) ≡ (list_all p xs && p x)
-all-push p [] x = and_true (p x) where
+pub all_push : {A : Type 0} (p : A → Bool) (xs : List A) (x : A) → list_all p (xs ++ x ∷ []) ≡ (list_all p xs && p x)
+all_push p [] x = and_true (p x) where
   and_true : (b : Bool) → (b && true) ≡ b
   and_true true = refl
   and_true false = refl
-all-push p (y ∷ xs) x = ap (λ b. p y && b) (all-push p xs x) ∙ assoc (p y) (list_all p xs) (p x) where
+all_push p (y ∷ xs) x = ap (λ b. p y && b) (all_push p xs x) ∙ assoc (p y) (list_all p xs) (p x) where
   assoc : (a b c : Bool) → (a && (b && c)) ≡ ((a && b) && c)
   assoc true b c = refl
   assoc false b c = refl
 
 -- one more term
-pub moving-push : (vars : List FlatVar) (ts : List (Bool × Part)) (t : Bool × Part) →
+pub moving_push : (vars : List FlatVar) (ts : List (Bool × Part)) (t : Bool × Part) →
     moving_terms vars (ts ++ t ∷ []) ≡ moving_terms vars ts ++ moving_one (is_still vars t.1.0) (t.0, t.1.1)
-moving-push vars [] t = refl
-moving-push vars (x ∷ ts) t = grows (is_still vars x.1.0) (moving-push vars ts t) where
+moving_push vars [] t = refl
+moving_push vars (x ∷ ts) t = grows (is_still vars x.1.0) (moving_push vars ts t) where
   grows : (b : Bool) → moving_terms vars (ts ++ t ∷ []) ≡ moving_terms vars ts ++ moving_one (is_still vars t.1.0) (t.0, t.1.1) →
       moving_more b (x.0, x.1.1) (moving_terms vars (ts ++ t ∷ [])) ≡
       moving_more b (x.0, x.1.1) (moving_terms vars ts) ++ moving_one (is_still vars t.1.0) (t.0, t.1.1)
@@ -160,12 +160,12 @@ pub sum_turn : (vars : List FlatVar) (xs : List (Bool × FlatExpr)) (i : ℕ) (x
     (still2 ≡ list_all (λ t. is_still vars t.1) (take (i + 1) xs)) × (made2 ≡ moving_terms vars (with_slopes vars (take (i + 1) xs)))
 sum_turn vars xs i x still s still2 made made2 tree l is h k hs ht h2 k2 =
     let more : take (i + 1) xs ≡ take i xs ++ x ∷ [] = take_more xs i x l ∙ ap (λ y. take i xs ++ y ∷ []) (sym is) in
-    let all : list_all (λ t. is_still vars t.1) (take i xs ++ x ∷ []) ≡ (list_all (λ t. is_still vars t.1) (take i xs) && is_still vars x.1) = all-push (λ t. is_still vars t.1) (take i xs) x in
+    let all : list_all (λ t. is_still vars t.1) (take i xs ++ x ∷ []) ≡ (list_all (λ t. is_still vars t.1) (take i xs) && is_still vars x.1) = all_push (λ t. is_still vars t.1) (take i xs) x in
     let slopes : with_slopes vars (take i xs ++ x ∷ []) ≡ with_slopes vars (take i xs) ++ (x.0, (x.1, derived vars x.1)) ∷ [] = map-append (λ t. (t.0, (t.1, derived vars t.1))) (take i xs) (x ∷ []) in (
       h2 ∙ ap (λ b. b && s) h ∙ ap (λ b. list_all (λ t. is_still vars t.1) (take i xs) && b) hs ∙ sym (ap (list_all (λ t. is_still vars t.1)) more ∙ all),
       k2 ∙ ap (λ m. m ++ moving_one s (x.0, tree)) k ∙ ap (λ b. moving_terms vars (with_slopes vars (take i xs)) ++ moving_one b (x.0, tree)) hs
           ∙ ap (λ d. moving_terms vars (with_slopes vars (take i xs)) ++ moving_one (is_still vars x.1) (x.0, d)) ht
-          ∙ sym (ap (λ ts. moving_terms vars (with_slopes vars ts)) more ∙ ap (moving_terms vars) slopes ∙ moving-push vars (with_slopes vars (take i xs)) (x.0, (x.1, derived vars x.1))),
+          ∙ sym (ap (λ ts. moving_terms vars (with_slopes vars ts)) more ∙ ap (moving_terms vars) slopes ∙ moving_push vars (with_slopes vars (take i xs)) (x.0, (x.1, derived vars x.1))),
     )
 
 plain : (vars : List FlatVar) (xs : List (Bool × FlatExpr)) → plain_factors (with_slopes vars xs) ≡ xs
@@ -197,7 +197,7 @@ pub product_turn : (vars : List FlatVar) (xs : List (Bool × FlatExpr)) (i : ℕ
 product_turn vars xs i d x still s still2 made made2 before after tree l is hb ha h k hs ht h2 k2 =
     let more : take (i + 1) xs ≡ take i xs ++ x ∷ [] = take_more xs i d l ∙ ap (λ y. take i xs ++ y ∷ []) (sym is) in
     let front : drop i xs ≡ x ∷ drop (i + 1) xs = drop-cons xs i d l ∙ ap (λ n. get_or xs i d ∷ drop n xs) (sym (add-one i)) ∙ ap (λ y. y ∷ drop (i + 1) xs) (sym is) in
-    let all : list_all (λ t. is_still vars t.1) (take i xs ++ x ∷ []) ≡ (list_all (λ t. is_still vars t.1) (take i xs) && is_still vars x.1) = all-push (λ t. is_still vars t.1) (take i xs) x in
+    let all : list_all (λ t. is_still vars t.1) (take i xs ++ x ∷ []) ≡ (list_all (λ t. is_still vars t.1) (take i xs) && is_still vars x.1) = all_push (λ t. is_still vars t.1) (take i xs) x in
     let rest : List (Bool × FlatExpr) = product_terms vars (take (i + 1) xs) (with_slopes vars (drop (i + 1) xs)) in
     let term : List (Bool × FlatExpr) = moving_one (is_still vars x.1) (replaced_factor (take i xs) (x.0, (x.1, derived vars x.1)) (drop (i + 1) xs)) in
     let same : (moving_one (s) (replaced_factor before (x.0, (x.1, tree)) after)) ≡ term =

@@ -7,7 +7,7 @@ use Rattle.mo_flat.specs.declared.expr.FlatExpr.{FlatExpr, FlatExpr-F, fold_out-
 use Rattle.mo_flat.specs.declared.expr.FlatExpr.TheVariants.{Whole, Var, Der, Sum, Product, Power, Call, Relation, If, outs-Whole, outs-Var, outs-Der, outs-Sum, outs-Product, outs-Power, outs-Call, outs-Relation, outs-If}
 use Rattle.mo_symdiff.specs.Derivative.{times, over, squared, plus, minus, negated, applied, chosen}
 use Rattle.mo_symdiff.specs.Dual.{Interpretation, call_value, compares, first_chosen, product_from, signed_sum, truth, value_in, value_node}
-use Rattle.mo_symdiff.proofs.DualRing.{one-times}
+use Rattle.mo_symdiff.proofs.DualRing.{one_times}
 
 pub at_node : (I : Interpretation) (e : FlatExpr) (node : FlatExpr-F FlatExpr) → out-FlatExpr e ≡ node → value_in I e ≡ value_node I (map-FlatExpr FlatExpr ℤ (value_in I) node)
 at_node I e node h = fold_out-FlatExpr ℤ (value_node I) e ∙ ap (λ n. value_node I (map-FlatExpr FlatExpr ℤ (value_in I) n)) h
@@ -45,13 +45,13 @@ at_If I bs o = at_node I (If bs o) (FlatExpr-F.If bs o) (outs-If bs o)
 
 -- the forms of the table of derivatives
 pub at_times_two : (I : Interpretation) (a b : FlatExpr) → value_in I (times (a ∷ b ∷ [])) ≡ value_in I a *ℤ value_in I b
-at_times_two I a b = at_Product I ((false, a) ∷ (false, b) ∷ []) ∙ ap (λ x. x *ℤ value_in I b) (one-times (value_in I a))
+at_times_two I a b = at_Product I ((false, a) ∷ (false, b) ∷ []) ∙ ap (λ x. x *ℤ value_in I b) (one_times (value_in I a))
 
 pub at_times_three : (I : Interpretation) (a b c : FlatExpr) → value_in I (times (a ∷ b ∷ c ∷ [])) ≡ value_in I a *ℤ value_in I b *ℤ value_in I c
-at_times_three I a b c = at_Product I ((false, a) ∷ (false, b) ∷ (false, c) ∷ []) ∙ ap (λ x. x *ℤ value_in I b *ℤ value_in I c) (one-times (value_in I a))
+at_times_three I a b c = at_Product I ((false, a) ∷ (false, b) ∷ (false, c) ∷ []) ∙ ap (λ x. x *ℤ value_in I b *ℤ value_in I c) (one_times (value_in I a))
 
 pub at_over : (I : Interpretation) (a b : FlatExpr) → value_in I (over a b) ≡ value_in I a *ℤ I.reciprocal (value_in I b)
-at_over I a b = at_Product I ((false, a) ∷ (true, b) ∷ []) ∙ ap (λ x. x *ℤ I.reciprocal (value_in I b)) (one-times (value_in I a))
+at_over I a b = at_Product I ((false, a) ∷ (true, b) ∷ []) ∙ ap (λ x. x *ℤ I.reciprocal (value_in I b)) (one_times (value_in I a))
 
 pub at_squared : (I : Interpretation) (a : FlatExpr) → value_in I (squared a) ≡ I.power (value_in I a) (pos 2)
 at_squared I a = at_Power I a (Whole (pos 2)) ∙ ap (I.power (value_in I a)) (at_Whole I (pos 2))

@@ -11,7 +11,7 @@ use Rattle.mo_symdiff.specs.Dual.{Dual, Interpretation, args_part, dual_in, dual
 use Rattle.mo_symdiff.specs.Still.{is_still, still_node}
 use Rattle.mo_symdiff.proofs.DualAt.{at_node, at_Whole, at_Var, at_Der, at_Call, at_If, at_Relation}
 use Rattle.mo_symdiff.proofs.DualRows.{call_row, call_row_of_two, moving_row, power_row, product_row, sum_row, told}
-use Rattle.mo_symdiff.proofs.SigmaGather.{map-map, mapped}
+use Rattle.mo_symdiff.proofs.SigmaGather.{map_map, mapped}
 
 abbrev slope_of : List FlatVar → FlatExpr → Part
 slope_of vars e = (e, derived vars e)
@@ -31,9 +31,9 @@ args_row I vars f (a ∷ b ∷ []) = call_row_of_two I vars f a b
 args_row I vars f (a ∷ b ∷ c ∷ es) =
     at_Call I f (map (λ (p : Part). p.1) (map (slope_of vars) (a ∷ b ∷ c ∷ es))) ∙ ap (I.function f) (slope_values I vars (a ∷ b ∷ c ∷ es))
 
-list_any-map : {A B : Type 0} (f : B → Bool) (h : A → B) (xs : List A) → list_any f (map h xs) ≡ list_any (λ x. f (h x)) xs
-list_any-map f h [] = refl
-list_any-map f h (x ∷ xs) = ap (λ b. f (h x) || b) (list_any-map f h xs)
+list_any_map : {A B : Type 0} (f : B → Bool) (h : A → B) (xs : List A) → list_any f (map h xs) ≡ list_any (λ x. f (h x)) xs
+list_any_map f h [] = refl
+list_any_map f h (x ∷ xs) = ap (λ b. f (h x) || b) (list_any_map f h xs)
 
 branches : (I : Interpretation) (vars : List FlatVar) (bs : List (FlatExpr × FlatExpr)) →
     map {B = ℤ × ℤ} (λ b. (value_in I b.0, value_in I b.1)) (map {B = FlatExpr × FlatExpr} (λ (b : Part × Part). (b.0.0, b.1.1)) (map {B = Part × Part} (λ b. (slope_of vars b.0, slope_of vars b.1)) bs))
@@ -53,23 +53,23 @@ part_row I vars FlatExpr-F.Time = at_Whole I (pos 1)
 part_row I vars (FlatExpr-F.Var v k) = at_Var I v (next_order k)
 part_row I vars (FlatExpr-F.Der a) = at_Der I (derived vars a)
 part_row I vars (FlatExpr-F.Sum ts) =
-    sum_row I _ ∙ moving_row I vars ts ∙ ap signed_sum (sym (map-map (λ (t : Bool × (FlatExpr × Dual)). (t.0, t.1.1.part)) (λ t. (t.0, dual_pair I vars t.1)) ts))
+    sum_row I _ ∙ moving_row I vars ts ∙ ap signed_sum (sym (map_map (λ (t : Bool × (FlatExpr × Dual)). (t.0, t.1.1.part)) (λ t. (t.0, dual_pair I vars t.1)) ts))
 part_row I vars (FlatExpr-F.Product ts) =
-    sum_row I _ ∙ sym (product_row I vars ts) ∙ ap (λ l. (dual_product I (pos 1, pos 0) l).1) (sym (map-map (λ (t : Bool × (FlatExpr × Dual)). (t.0, t.1.1)) (λ t. (t.0, dual_pair I vars t.1)) ts))
+    sum_row I _ ∙ sym (product_row I vars ts) ∙ ap (λ l. (dual_product I (pos 1, pos 0) l).1) (sym (map_map (λ (t : Bool × (FlatExpr × Dual)). (t.0, t.1.1)) (λ t. (t.0, dual_pair I vars t.1)) ts))
 part_row I vars (FlatExpr-F.Power a b) = power_row I vars a b
-part_row I vars (FlatExpr-F.Call f es) = args_row I vars f es ∙ ap (args_part I f) (sym (map-map (λ (a : FlatExpr × Dual). a.1) (dual_pair I vars) es))
+part_row I vars (FlatExpr-F.Call f es) = args_row I vars f es ∙ ap (args_part I f) (sym (map_map (λ (a : FlatExpr × Dual). a.1) (dual_pair I vars) es))
 part_row I vars (FlatExpr-F.Relation op a b) = at_Relation I op (derived vars a) (derived vars b)
 part_row I vars (FlatExpr-F.Not a) = at_node I (Not (derived vars a)) (FlatExpr-F.Not (derived vars a)) (outs-Not (derived vars a))
 part_row I vars (FlatExpr-F.All es) =
     at_node I _ (FlatExpr-F.All (map (λ (p : Part). p.1) (map (slope_of vars) es))) (outs-All (map (λ (p : Part). p.1) (map (slope_of vars) es)))
-    ∙ ap truth (ap (list_all (λ v. not (is_zero v))) (slope_values I vars es ∙ map-map (λ (d : Dual). d.part) (told I vars) es)
+    ∙ ap truth (ap (list_all (λ v. not (is_zero v))) (slope_values I vars es ∙ map_map (λ (d : Dual). d.part) (told I vars) es)
     ∙ list_all-map (λ v. not (is_zero v)) (λ e. value_in I (derived vars e)) es
     ∙ sym (list_all-map (λ (x : FlatExpr × Dual). not (is_zero x.1.part)) (dual_pair I vars) es))
 part_row I vars (FlatExpr-F.Any es) =
     at_node I _ (FlatExpr-F.Any (map (λ (p : Part). p.1) (map (slope_of vars) es))) (outs-Any (map (λ (p : Part). p.1) (map (slope_of vars) es)))
-    ∙ ap truth (ap (list_any (λ v. not (is_zero v))) (slope_values I vars es ∙ map-map (λ (d : Dual). d.part) (told I vars) es)
-    ∙ list_any-map (λ v. not (is_zero v)) (λ e. value_in I (derived vars e)) es
-    ∙ sym (list_any-map (λ (x : FlatExpr × Dual). not (is_zero x.1.part)) (dual_pair I vars) es))
+    ∙ ap truth (ap (list_any (λ v. not (is_zero v))) (slope_values I vars es ∙ map_map (λ (d : Dual). d.part) (told I vars) es)
+    ∙ list_any_map (λ v. not (is_zero v)) (λ e. value_in I (derived vars e)) es
+    ∙ sym (list_any_map (λ (x : FlatExpr × Dual). not (is_zero x.1.part)) (dual_pair I vars) es))
 part_row I vars (FlatExpr-F.If bs o) =
     at_If I (map {B = FlatExpr × FlatExpr} (λ (b : Part × Part). (b.0.0, b.1.1)) (map {B = Part × Part} (λ b. (slope_of vars b.0, slope_of vars b.1)) bs)) (derived vars o)
     ∙ ap (λ l. first_chosen l (value_in I (derived vars o))) (branches I vars bs)

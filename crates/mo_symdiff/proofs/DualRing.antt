@@ -26,11 +26,11 @@ distributes (negsuc (suc n)) b c = down (negsuc n) b c (distributes (negsuc n) b
 opposite : (a b : ℤ) → a +ℤ b ≡ pos zero → a ≡ neg_ℤ b
 opposite a b h = sym (+ℤ_idr a) ∙ ap (λ x. a +ℤ x) (sym (+ℤ_invr b)) ∙ sym (+ℤ_assoc a b (neg_ℤ b)) ∙ ap (λ x. x +ℤ neg_ℤ b) h ∙ +ℤ_idl (neg_ℤ b)
 
-pub neg-times : (a b : ℤ) → neg_ℤ a *ℤ b ≡ neg_ℤ (a *ℤ b)
-neg-times a b = opposite (neg_ℤ a *ℤ b) (a *ℤ b) (sym (distributes (neg_ℤ a) a b) ∙ ap (λ x. x *ℤ b) (+ℤ_invl a) ∙ zero-*ℤ b)
+pub neg_times : (a b : ℤ) → neg_ℤ a *ℤ b ≡ neg_ℤ (a *ℤ b)
+neg_times a b = opposite (neg_ℤ a *ℤ b) (a *ℤ b) (sym (distributes (neg_ℤ a) a b) ∙ ap (λ x. x *ℤ b) (+ℤ_invl a) ∙ zero-*ℤ b)
 
-pub times-neg : (a b : ℤ) → a *ℤ neg_ℤ b ≡ neg_ℤ (a *ℤ b)
-times-neg a b = *ℤ_comm a (neg_ℤ b) ∙ neg-times b a ∙ ap neg_ℤ (*ℤ_comm b a)
+pub times_neg : (a b : ℤ) → a *ℤ neg_ℤ b ≡ neg_ℤ (a *ℤ b)
+times_neg a b = *ℤ_comm a (neg_ℤ b) ∙ neg_times b a ∙ ap neg_ℤ (*ℤ_comm b a)
 
 pub distributes_right : (a b c : ℤ) → a *ℤ (b +ℤ c) ≡ a *ℤ b +ℤ a *ℤ c
 distributes_right a b c = *ℤ_comm a (b +ℤ c) ∙ distributes b c a ∙ ap (λ x. x +ℤ c *ℤ a) (*ℤ_comm b a) ∙ ap (λ x. a *ℤ b +ℤ x) (*ℤ_comm c a)
@@ -39,7 +39,7 @@ up' : (a b c : ℤ) → (a *ℤ b) *ℤ c ≡ a *ℤ (b *ℤ c) → (suc_ℤ a *
 up' a b c h = ap (λ x. x *ℤ c) (suc_ℤ-*ℤ a b) ∙ distributes (a *ℤ b) b c ∙ ap (λ x. x +ℤ b *ℤ c) h ∙ sym (suc_ℤ-*ℤ a (b *ℤ c))
 
 down' : (a b c : ℤ) → (a *ℤ b) *ℤ c ≡ a *ℤ (b *ℤ c) → (pred_ℤ a *ℤ b) *ℤ c ≡ pred_ℤ a *ℤ (b *ℤ c)
-down' a b c h = ap (λ x. x *ℤ c) (pred_ℤ-*ℤ a b) ∙ distributes (a *ℤ b) (neg_ℤ b) c ∙ ap (λ x. x +ℤ neg_ℤ b *ℤ c) h ∙ ap (λ x. a *ℤ (b *ℤ c) +ℤ x) (neg-times b c) ∙ sym (pred_ℤ-*ℤ a (b *ℤ c))
+down' a b c h = ap (λ x. x *ℤ c) (pred_ℤ-*ℤ a b) ∙ distributes (a *ℤ b) (neg_ℤ b) c ∙ ap (λ x. x +ℤ neg_ℤ b *ℤ c) h ∙ ap (λ x. a *ℤ (b *ℤ c) +ℤ x) (neg_times b c) ∙ sym (pred_ℤ-*ℤ a (b *ℤ c))
 
 at_zero' : (b c : ℤ) → (pos zero *ℤ b) *ℤ c ≡ pos zero *ℤ (b *ℤ c)
 at_zero' b c = ap (λ x. x *ℤ c) (zero-*ℤ b) ∙ zero-*ℤ c ∙ sym (zero-*ℤ (b *ℤ c))
@@ -50,13 +50,13 @@ times_assoc (pos (suc n)) b c = up' (pos n) b c (times_assoc (pos n) b c)
 times_assoc (negsuc zero) b c = down' (pos zero) b c (at_zero' b c)
 times_assoc (negsuc (suc n)) b c = down' (negsuc n) b c (times_assoc (negsuc n) b c)
 
-pub one-times : (a : ℤ) → pos 1 *ℤ a ≡ a
+pub one_times : (a : ℤ) → pos 1 *ℤ a ≡ a
 unfolding one
-one-times a = *ℤ_comm (pos 1) a ∙ *ℤ-one a
+one_times a = *ℤ_comm (pos 1) a ∙ *ℤ-one a
 
-pub times-one : (a : ℤ) → a *ℤ pos 1 ≡ a
+pub times_one : (a : ℤ) → a *ℤ pos 1 ≡ a
 unfolding one
-times-one a = *ℤ-one a
+times_one a = *ℤ-one a
 
 pub times_swap : (a b c : ℤ) → (a *ℤ b) *ℤ c ≡ (a *ℤ c) *ℤ b
 times_swap a b c = times_assoc a b c ∙ ap (λ x. a *ℤ x) (*ℤ_comm b c) ∙ sym (times_assoc a c b)
@@ -64,7 +64,7 @@ times_swap a b c = times_assoc a b c ∙ ap (λ x. a *ℤ x) (*ℤ_comm b c) ∙
 -- what replaces a factor that is divided by: v*(-r*r*q) is -(v*r*q*r)
 pub inverse_part : (v r q : ℤ) → v *ℤ (neg_ℤ r *ℤ r *ℤ q) ≡ neg_ℤ (v *ℤ r *ℤ q *ℤ r)
 inverse_part v r q =
-    ap (λ x. v *ℤ (x *ℤ q)) (neg-times r r) ∙ ap (λ x. v *ℤ x) (neg-times (r *ℤ r) q) ∙ times-neg v (r *ℤ r *ℤ q)
+    ap (λ x. v *ℤ (x *ℤ q)) (neg_times r r) ∙ ap (λ x. v *ℤ x) (neg_times (r *ℤ r) q) ∙ times_neg v (r *ℤ r *ℤ q)
     ∙ ap neg_ℤ (ap (λ x. v *ℤ x) (times_swap r r q) ∙ sym (times_assoc v (r *ℤ q) r) ∙ ap (λ x. x *ℤ r) (sym (times_assoc v r q)))
 
 -- one step of a product

@@ -12,7 +12,7 @@ use Rattle.mo_symdiff.specs.Derivative.{Part, applied, base_term, call_slope, ca
 use Rattle.mo_symdiff.specs.Dual.{Dual, Interpretation, apply, call_part, call_part_of_two, dual_product, power_part, product_from, signed, signed_sum, value_in}
 use Rattle.mo_symdiff.specs.Still.{is_still, still_node}
 use Rattle.mo_symdiff.proofs.DualAt.{at_Whole, at_Sum, at_Product, at_Power, at_Call, at_times_two, at_times_three, at_over, at_squared, at_plus, at_minus, at_negated, at_applied, at_chosen, signed_values}
-use Rattle.mo_symdiff.proofs.DualRing.{one-times, times-one, neg-times, times_assoc, inverse_part, product_step, still_step}
+use Rattle.mo_symdiff.proofs.DualRing.{one_times, times_one, neg_times, times_assoc, inverse_part, product_step, still_step}
 use Rattle.mo_symdiff.proofs.SigmaGather.{mapped}
 
 -- the dual number of an expression, by the derivative
@@ -125,13 +125,13 @@ sum_row I ((true, u) ∷ []) = at_Sum I ((true, u) ∷ [])
 sum_row I ((false, u) ∷ t ∷ ts) = at_Sum I ((false, u) ∷ t ∷ ts)
 sum_row I ((true, u) ∷ t ∷ ts) = at_Sum I ((true, u) ∷ t ∷ ts)
 
-signed-zero : (b : Bool) → signed b (pos 0) ≡ pos 0
-signed-zero true = refl
-signed-zero false = refl
+signed_zero : (b : Bool) → signed b (pos 0) ≡ pos 0
+signed_zero true = refl
+signed_zero false = refl
 
 moving_step : (I : Interpretation) (vars : List FlatVar) (s : Bool) (a : FlatExpr) (terms : List (Bool × FlatExpr)) (n : ℤ) → signed_sum (signed_values I terms) ≡ n → (b : Bool) → is_still vars a ≡ b →
     signed_sum (signed_values I (if b then terms else (s, derived vars a) ∷ terms)) ≡ signed s (value_in I (derived vars a)) +ℤ n
-moving_step I vars s a terms n h true e = h ∙ sym (ap (λ x. signed s x +ℤ n) (still_slope I vars a e) ∙ ap (λ x. x +ℤ n) (signed-zero s) ∙ +ℤ_idl n)
+moving_step I vars s a terms n h true e = h ∙ sym (ap (λ x. signed s x +ℤ n) (still_slope I vars a e) ∙ ap (λ x. x +ℤ n) (signed_zero s) ∙ +ℤ_idl n)
 moving_step I vars s a terms n h false e = ap (λ x. signed s (value_in I (derived vars a)) +ℤ x) h
 
 pub moving_row : (I : Interpretation) (vars : List FlatVar) (ts : List (Bool × FlatExpr)) →
@@ -140,18 +140,18 @@ moving_row I vars [] = refl
 moving_row I vars (t ∷ ts) = moving_step I vars t.0 t.1 _ _ (moving_row I vars ts) (is_still vars t.1) refl
 
 -- products
-product-append : (I : Interpretation) (v : ℤ) (xs ys : List (Bool × FlatExpr)) → product_from I v (signed_values I (xs ++ ys)) ≡ product_from I (product_from I v (signed_values I xs)) (signed_values I ys)
-product-append I v [] ys = refl
-product-append I v ((false, x) ∷ xs) ys = product-append I (v *ℤ value_in I x) xs ys
-product-append I v ((true, x) ∷ xs) ys = product-append I (v *ℤ I.reciprocal (value_in I x)) xs ys
+product_append : (I : Interpretation) (v : ℤ) (xs ys : List (Bool × FlatExpr)) → product_from I v (signed_values I (xs ++ ys)) ≡ product_from I (product_from I v (signed_values I xs)) (signed_values I ys)
+product_append I v [] ys = refl
+product_append I v ((false, x) ∷ xs) ys = product_append I (v *ℤ value_in I x) xs ys
+product_append I v ((true, x) ∷ xs) ys = product_append I (v *ℤ I.reciprocal (value_in I x)) xs ys
 
-product-scaled : (I : Interpretation) (v w : ℤ) (xs : List (Bool × ℤ)) → product_from I (v *ℤ w) xs ≡ v *ℤ product_from I w xs
-product-scaled I v w [] = refl
-product-scaled I v w ((false, x) ∷ xs) = ap (λ z. product_from I z xs) (times_assoc v w x) ∙ product-scaled I v (w *ℤ x) xs
-product-scaled I v w ((true, x) ∷ xs) = ap (λ z. product_from I z xs) (times_assoc v w (I.reciprocal x)) ∙ product-scaled I v (w *ℤ I.reciprocal x) xs
+product_scaled : (I : Interpretation) (v w : ℤ) (xs : List (Bool × ℤ)) → product_from I (v *ℤ w) xs ≡ v *ℤ product_from I w xs
+product_scaled I v w [] = refl
+product_scaled I v w ((false, x) ∷ xs) = ap (λ z. product_from I z xs) (times_assoc v w x) ∙ product_scaled I v (w *ℤ x) xs
+product_scaled I v w ((true, x) ∷ xs) = ap (λ z. product_from I z xs) (times_assoc v w (I.reciprocal x)) ∙ product_scaled I v (w *ℤ I.reciprocal x) xs
 
-product-rest : (I : Interpretation) (v : ℤ) (xs : List (Bool × ℤ)) → product_from I v xs ≡ v *ℤ product_from I (pos 1) xs
-product-rest I v xs = ap (λ z. product_from I z xs) (sym (times-one v)) ∙ product-scaled I v (pos 1) xs
+product_rest : (I : Interpretation) (v : ℤ) (xs : List (Bool × ℤ)) → product_from I v xs ≡ v *ℤ product_from I (pos 1) xs
+product_rest I v xs = ap (λ z. product_from I z xs) (sym (times_one v)) ∙ product_scaled I v (pos 1) xs
 
 plain : (vars : List FlatVar) (ts : List (Bool × FlatExpr)) → plain_factors (map (λ t. (t.0, (t.1, derived vars t.1))) ts) ≡ ts
 plain vars [] = refl
@@ -181,8 +181,8 @@ multiplied_step I vars before ts f v p h true e terms =
 multiplied_step I vars before ts f v p h false e terms =
     let q : ℤ = value_in I (derived vars f) in let rest : ℤ = product_from I (pos 1) (signed_values I ts) in
     let term : value_in I (Product (before ++ (false, derived vars f) ∷ ts)) ≡ (v *ℤ q) *ℤ rest =
-    at_Product I (before ++ (false, derived vars f) ∷ ts) ∙ product-append I (pos 1) before ((false, derived vars f) ∷ ts)
-    ∙ ap (λ x. product_from I (x *ℤ q) (signed_values I ts)) (sym h) ∙ product-rest I (v *ℤ q) (signed_values I ts) in
+    at_Product I (before ++ (false, derived vars f) ∷ ts) ∙ product_append I (pos 1) before ((false, derived vars f) ∷ ts)
+    ∙ ap (λ x. product_from I (x *ℤ q) (signed_values I ts)) (sym h) ∙ product_rest I (v *ℤ q) (signed_values I ts) in
     product_step p (value_in I f) v q rest (signed_sum (signed_values I terms)) ∙ ap (λ x. p *ℤ (value_in I f *ℤ rest) +ℤ (x +ℤ signed_sum (signed_values I terms))) (sym term)
 
 divided_step : (I : Interpretation) (vars : List FlatVar) (before ts : List (Bool × FlatExpr)) (f : FlatExpr) (v p : ℤ) → v ≡ leading I before → (b : Bool) → is_still vars f ≡ b →
@@ -197,28 +197,28 @@ divided_step I vars before ts f v p h false e terms =
     let r : ℤ = I.reciprocal (value_in I f) in let q : ℤ = value_in I (derived vars f) in let rest : ℤ = product_from I (pos 1) (signed_values I ts) in
     let list : List (Bool × FlatExpr) = (true, f) ∷ (false, derived vars f) ∷ (true, f) ∷ ts in
     let term : neg_ℤ (value_in I (Product (before ++ list))) ≡ (v *ℤ (neg_ℤ r *ℤ r *ℤ q)) *ℤ rest =
-    ap neg_ℤ (at_Product I (before ++ list) ∙ product-append I (pos 1) before list
-    ∙ ap (λ x. product_from I (x *ℤ r *ℤ q *ℤ r) (signed_values I ts)) (sym h) ∙ product-rest I (v *ℤ r *ℤ q *ℤ r) (signed_values I ts))
-    ∙ sym (neg-times (v *ℤ r *ℤ q *ℤ r) rest) ∙ ap (λ x. x *ℤ rest) (sym (inverse_part v r q)) in
+    ap neg_ℤ (at_Product I (before ++ list) ∙ product_append I (pos 1) before list
+    ∙ ap (λ x. product_from I (x *ℤ r *ℤ q *ℤ r) (signed_values I ts)) (sym h) ∙ product_rest I (v *ℤ r *ℤ q *ℤ r) (signed_values I ts))
+    ∙ sym (neg_times (v *ℤ r *ℤ q *ℤ r) rest) ∙ ap (λ x. x *ℤ rest) (sym (inverse_part v r q)) in
     product_step p r v (neg_ℤ r *ℤ r *ℤ q) rest (signed_sum (signed_values I terms)) ∙ ap (λ x. p *ℤ (r *ℤ rest) +ℤ (x +ℤ signed_sum (signed_values I terms))) (sym term)
 
 product_from_left : (I : Interpretation) (vars : List FlatVar) (before ts : List (Bool × FlatExpr)) (v p : ℤ) → v ≡ leading I before →
     (dual_product I (v, p) (duals I vars ts)).1 ≡ p *ℤ product_from I (pos 1) (signed_values I ts) +ℤ terms_value I vars before ts
-product_from_left I vars before [] v p h = sym (+ℤ_idr (p *ℤ pos 1) ∙ times-one p)
+product_from_left I vars before [] v p h = sym (+ℤ_idr (p *ℤ pos 1) ∙ times_one p)
 product_from_left I vars before ((false, f) ∷ ts) v p h =
     let w : ℤ = value_in I f in let after : List (Bool × FlatExpr) = before ++ (false, f) ∷ [] in
-    let lead : v *ℤ w ≡ leading I after = ap (λ x. x *ℤ w) h ∙ sym (product-append I (pos 1) before ((false, f) ∷ [])) in
+    let lead : v *ℤ w ≡ leading I after = ap (λ x. x *ℤ w) h ∙ sym (product_append I (pos 1) before ((false, f) ∷ [])) in
     let scaled : w *ℤ product_from I (pos 1) (signed_values I ts) ≡ product_from I (pos 1 *ℤ w) (signed_values I ts) =
-    sym (product-rest I w (signed_values I ts)) ∙ ap (λ x. product_from I x (signed_values I ts)) (sym (one-times w)) in
+    sym (product_rest I w (signed_values I ts)) ∙ ap (λ x. product_from I x (signed_values I ts)) (sym (one_times w)) in
     product_from_left I vars after ts (v *ℤ w) (p *ℤ w +ℤ v *ℤ value_in I (derived vars f)) lead
     ∙ multiplied_step I vars before ts f v p h (is_still vars f) refl (product_terms vars after (slopes vars ts))
     ∙ ap (λ x. p *ℤ x +ℤ signed_sum (signed_values I (if is_still vars f then product_terms vars after (slopes vars ts) else replaced_factor before (false, (f, derived vars f)) ts ∷ product_terms vars after (slopes vars ts)))) scaled
     ∙ ap (λ l. p *ℤ product_from I (pos 1 *ℤ w) (signed_values I ts) +ℤ signed_sum (signed_values I (if is_still vars f then product_terms vars after (slopes vars ts) else replaced_factor before (false, (f, derived vars f)) l ∷ product_terms vars after (slopes vars ts)))) (sym (plain vars ts))
 product_from_left I vars before ((true, f) ∷ ts) v p h =
     let r : ℤ = I.reciprocal (value_in I f) in let after : List (Bool × FlatExpr) = before ++ (true, f) ∷ [] in
-    let lead : v *ℤ r ≡ leading I after = ap (λ x. x *ℤ r) h ∙ sym (product-append I (pos 1) before ((true, f) ∷ [])) in
+    let lead : v *ℤ r ≡ leading I after = ap (λ x. x *ℤ r) h ∙ sym (product_append I (pos 1) before ((true, f) ∷ [])) in
     let scaled : r *ℤ product_from I (pos 1) (signed_values I ts) ≡ product_from I (pos 1 *ℤ r) (signed_values I ts) =
-    sym (product-rest I r (signed_values I ts)) ∙ ap (λ x. product_from I x (signed_values I ts)) (sym (one-times r)) in
+    sym (product_rest I r (signed_values I ts)) ∙ ap (λ x. product_from I x (signed_values I ts)) (sym (one_times r)) in
     product_from_left I vars after ts (v *ℤ r) (p *ℤ r +ℤ v *ℤ (neg_ℤ r *ℤ r *ℤ value_in I (derived vars f))) lead
     ∙ divided_step I vars before ts f v p h (is_still vars f) refl (product_terms vars after (slopes vars ts))
     ∙ ap (λ x. p *ℤ x +ℤ signed_sum (signed_values I (if is_still vars f then product_terms vars after (slopes vars ts) else replaced_factor before (true, (f, derived vars f)) ts ∷ product_terms vars after (slopes vars ts)))) scaled

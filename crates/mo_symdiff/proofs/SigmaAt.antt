@@ -7,13 +7,13 @@ use Rattle.mo_flat.specs.declared.expr.FlatExpr.TheVariants.{Whole, Var, Der, Su
 use Rattle.mo_symdiff.specs.Derivative.{times, over, squared, plus, minus, negated, applied, chosen}
 use Rattle.mo_symdiff.proofs.SigmaGather.{gathered, gather_node, greatest_by}
 
-pub greatest-map : {X Y : Type 0} (f : Y → ℕ) (h : X → Y) (xs : List X) → greatest_by f (map h xs) ≡ greatest_by (λ x. f (h x)) xs
-greatest-map f h [] = refl
-greatest-map f h (x ∷ xs) = ap (λ n. max (f (h x)) n) (greatest-map f h xs)
+pub greatest_map : {X Y : Type 0} (f : Y → ℕ) (h : X → Y) (xs : List X) → greatest_by f (map h xs) ≡ greatest_by (λ x. f (h x)) xs
+greatest_map f h [] = refl
+greatest_map f h (x ∷ xs) = ap (λ n. max (f (h x)) n) (greatest_map f h xs)
 
-pub greatest-append : {X : Type 0} (f : X → ℕ) (xs ys : List X) → greatest_by f (xs ++ ys) ≡ max (greatest_by f xs) (greatest_by f ys)
-greatest-append f [] ys = omega arith
-greatest-append f (x ∷ xs) ys = let e = greatest-append f xs ys in omega arith
+pub greatest_append : {X : Type 0} (f : X → ℕ) (xs ys : List X) → greatest_by f (xs ++ ys) ≡ max (greatest_by f xs) (greatest_by f ys)
+greatest_append f [] ys = omega arith
+greatest_append f (x ∷ xs) ys = let e = greatest_append f xs ys in omega arith
 
 pub at_node : (var : ℕ → ℕ → ℕ) (der : ℕ → ℕ) (e : FlatExpr) (node : FlatExpr-F FlatExpr) → out-FlatExpr e ≡ node → gathered var der e ≡ gather_node var der (map-FlatExpr FlatExpr ℕ (gathered var der) node)
 unfolding gathered
@@ -33,16 +33,16 @@ pub at_Der : (var : ℕ → ℕ → ℕ) (der : ℕ → ℕ) (a : FlatExpr) → 
 at_Der var der a = at_node var der (Der a) (FlatExpr-F.Der a) (outs-Der a)
 
 pub at_Sum : (var : ℕ → ℕ → ℕ) (der : ℕ → ℕ) (ts : List (Bool × FlatExpr)) → gathered var der (Sum ts) ≡ greatest_by (λ t. gathered var der t.1) ts
-at_Sum var der ts = at_node var der (Sum ts) (FlatExpr-F.Sum ts) (outs-Sum ts) ∙ greatest-map (λ t. t.1) (λ t. (t.0, gathered var der t.1)) ts
+at_Sum var der ts = at_node var der (Sum ts) (FlatExpr-F.Sum ts) (outs-Sum ts) ∙ greatest_map (λ t. t.1) (λ t. (t.0, gathered var der t.1)) ts
 
 pub at_Product : (var : ℕ → ℕ → ℕ) (der : ℕ → ℕ) (ts : List (Bool × FlatExpr)) → gathered var der (Product ts) ≡ greatest_by (λ t. gathered var der t.1) ts
-at_Product var der ts = at_node var der (Product ts) (FlatExpr-F.Product ts) (outs-Product ts) ∙ greatest-map (λ t. t.1) (λ t. (t.0, gathered var der t.1)) ts
+at_Product var der ts = at_node var der (Product ts) (FlatExpr-F.Product ts) (outs-Product ts) ∙ greatest_map (λ t. t.1) (λ t. (t.0, gathered var der t.1)) ts
 
 pub at_Power : (var : ℕ → ℕ → ℕ) (der : ℕ → ℕ) (a b : FlatExpr) → gathered var der (Power a b) ≡ max (gathered var der a) (gathered var der b)
 at_Power var der a b = at_node var der (Power a b) (FlatExpr-F.Power a b) (outs-Power a b)
 
 pub at_Call : (var : ℕ → ℕ → ℕ) (der : ℕ → ℕ) (f : ℕ) (args : List FlatExpr) → gathered var der (Call f args) ≡ greatest_by (gathered var der) args
-at_Call var der f args = at_node var der (Call f args) (FlatExpr-F.Call f args) (outs-Call f args) ∙ greatest-map (λ a. a) (gathered var der) args
+at_Call var der f args = at_node var der (Call f args) (FlatExpr-F.Call f args) (outs-Call f args) ∙ greatest_map (λ a. a) (gathered var der) args
 
 pub at_Relation : (var : ℕ → ℕ → ℕ) (der : ℕ → ℕ) (op : RelOp) (a b : FlatExpr) → gathered var der (Relation op a b) ≡ max (gathered var der a) (gathered var der b)
 at_Relation var der op a b = at_node var der (Relation op a b) (FlatExpr-F.Relation op a b) (outs-Relation op a b)
@@ -51,13 +51,13 @@ pub at_Not : (var : ℕ → ℕ → ℕ) (der : ℕ → ℕ) (a : FlatExpr) → 
 at_Not var der a = at_node var der (Not a) (FlatExpr-F.Not a) (outs-Not a)
 
 pub at_All : (var : ℕ → ℕ → ℕ) (der : ℕ → ℕ) (ps : List FlatExpr) → gathered var der (All ps) ≡ greatest_by (gathered var der) ps
-at_All var der ps = at_node var der (All ps) (FlatExpr-F.All ps) (outs-All ps) ∙ greatest-map (λ a. a) (gathered var der) ps
+at_All var der ps = at_node var der (All ps) (FlatExpr-F.All ps) (outs-All ps) ∙ greatest_map (λ a. a) (gathered var der) ps
 
 pub at_Any : (var : ℕ → ℕ → ℕ) (der : ℕ → ℕ) (ps : List FlatExpr) → gathered var der (Any ps) ≡ greatest_by (gathered var der) ps
-at_Any var der ps = at_node var der (Any ps) (FlatExpr-F.Any ps) (outs-Any ps) ∙ greatest-map (λ a. a) (gathered var der) ps
+at_Any var der ps = at_node var der (Any ps) (FlatExpr-F.Any ps) (outs-Any ps) ∙ greatest_map (λ a. a) (gathered var der) ps
 
 pub at_If : (var : ℕ → ℕ → ℕ) (der : ℕ → ℕ) (bs : List (FlatExpr × FlatExpr)) (o : FlatExpr) → gathered var der (If bs o) ≡ max (greatest_by (λ b. gathered var der b.1) bs) (gathered var der o)
-at_If var der bs o = at_node var der (If bs o) (FlatExpr-F.If bs o) (outs-If bs o) ∙ ap (λ n. max n (gathered var der o)) (greatest-map (λ b. b.1) (λ b. (gathered var der b.0, gathered var der b.1)) bs)
+at_If var der bs o = at_node var der (If bs o) (FlatExpr-F.If bs o) (outs-If bs o) ∙ ap (λ n. max n (gathered var der o)) (greatest_map (λ b. b.1) (λ b. (gathered var der b.0, gathered var der b.1)) bs)
 
 -- the forms of the table of derivatives
 pub at_times_two : (var : ℕ → ℕ → ℕ) (der : ℕ → ℕ) (a b : FlatExpr) → gathered var der (times (a ∷ b ∷ [])) ≡ max (gathered var der a) (gathered var der b)

@@ -6,7 +6,7 @@ use Rattle.mo_flat.specs.declared.model.FlatVar.{FlatVar}
 use Rattle.mo_symdiff.specs.Carried.{carried, carry_node}
 use Rattle.mo_symdiff.proofs.SigmaAt.{at_roll}
 use Rattle.mo_symdiff.proofs.SigmaDerived.{derived_gathers, low, low_gathered}
-use Rattle.mo_symdiff.proofs.SigmaGather.{gathered, gather_node, greatest_by, map-map, mapped}
+use Rattle.mo_symdiff.proofs.SigmaGather.{gathered, gather_node, greatest_by, map_map, mapped}
 use Rattle.mo_symdiff.proofs.SigmaRaise.{IsRaise}
 
 -- a raise goes on where derivatives count nothing, or each of them counts once
@@ -48,11 +48,11 @@ carried_row {vars} {var} {der} r stay (FlatExpr-F.Var v k) h = at_roll var der (
 carried_row {vars} {var} {der} {up} r stay (FlatExpr-F.Der a) h = derived_gathers r (carried vars a.0) (stay a.0 (a.1 h) h) ∙ ap up (a.1 h)
 carried_row {vars} {var} {der} {up} r stay (FlatExpr-F.Sum ts) h =
     at_roll var der (FlatExpr-F.Sum (map (λ t. (t.0, carried vars t.1.0)) ts))
-    ∙ ap (greatest_by {X = Bool × ℕ} (λ t. t.1)) (map-map (λ (t : Bool × FlatExpr). (t.0, gathered var der t.1)) (λ t. (t.0, carried vars t.1.0)) ts)
+    ∙ ap (greatest_by {X = Bool × ℕ} (λ t. t.1)) (map_map (λ (t : Bool × FlatExpr). (t.0, gathered var der t.1)) (λ t. (t.0, carried vars t.1.0)) ts)
     ∙ same_list (λ t. t.1) (λ t. (t.0, gathered var der (carried vars t.1.0))) (λ t. t.1) (λ t. (t.0, gathered var up t.1.0)) (λ t. t.1) (λ t. (t.0, low var t.1.0)) (λ t l. t.1.1 l) ts h
 carried_row {vars} {var} {der} {up} r stay (FlatExpr-F.Product ts) h =
     at_roll var der (FlatExpr-F.Product (map (λ t. (t.0, carried vars t.1.0)) ts))
-    ∙ ap (greatest_by {X = Bool × ℕ} (λ t. t.1)) (map-map (λ (t : Bool × FlatExpr). (t.0, gathered var der t.1)) (λ t. (t.0, carried vars t.1.0)) ts)
+    ∙ ap (greatest_by {X = Bool × ℕ} (λ t. t.1)) (map_map (λ (t : Bool × FlatExpr). (t.0, gathered var der t.1)) (λ t. (t.0, carried vars t.1.0)) ts)
     ∙ same_list (λ t. t.1) (λ t. (t.0, gathered var der (carried vars t.1.0))) (λ t. t.1) (λ t. (t.0, gathered var up t.1.0)) (λ t. t.1) (λ t. (t.0, low var t.1.0)) (λ t l. t.1.1 l) ts h
 carried_row {vars} {var} {der} r stay (FlatExpr-F.Power a b) h =
     let e = at_roll var der (FlatExpr-F.Power (carried vars a.0) (carried vars b.0)) in let d = a.1 (omega arith) in let c = b.1 (omega arith) in omega arith
@@ -60,20 +60,20 @@ carried_row {vars} {var} {der} r stay (FlatExpr-F.Relation op a b) h =
     let e = at_roll var der (FlatExpr-F.Relation op (carried vars a.0) (carried vars b.0)) in let d = a.1 (omega arith) in let c = b.1 (omega arith) in omega arith
 carried_row {vars} {var} {der} {up} r stay (FlatExpr-F.Call f args) h =
     at_roll var der (FlatExpr-F.Call f (map (λ t. carried vars t.0) args))
-    ∙ ap (greatest_by {X = ℕ} (λ n. n)) (map-map (gathered var der) (λ t. carried vars t.0) args)
+    ∙ ap (greatest_by {X = ℕ} (λ n. n)) (map_map (gathered var der) (λ t. carried vars t.0) args)
     ∙ same_list (λ n. n) (λ t. gathered var der (carried vars t.0)) (λ n. n) (λ t. gathered var up t.0) (λ n. n) (λ t. low var t.0) (λ t l. t.1 l) args h
 carried_row {vars} {var} {der} {up} r stay (FlatExpr-F.All ps) h =
     at_roll var der (FlatExpr-F.All (map (λ t. carried vars t.0) ps))
-    ∙ ap (greatest_by {X = ℕ} (λ n. n)) (map-map (gathered var der) (λ t. carried vars t.0) ps)
+    ∙ ap (greatest_by {X = ℕ} (λ n. n)) (map_map (gathered var der) (λ t. carried vars t.0) ps)
     ∙ same_list (λ n. n) (λ t. gathered var der (carried vars t.0)) (λ n. n) (λ t. gathered var up t.0) (λ n. n) (λ t. low var t.0) (λ t l. t.1 l) ps h
 carried_row {vars} {var} {der} {up} r stay (FlatExpr-F.Any ps) h =
     at_roll var der (FlatExpr-F.Any (map (λ t. carried vars t.0) ps))
-    ∙ ap (greatest_by {X = ℕ} (λ n. n)) (map-map (gathered var der) (λ t. carried vars t.0) ps)
+    ∙ ap (greatest_by {X = ℕ} (λ n. n)) (map_map (gathered var der) (λ t. carried vars t.0) ps)
     ∙ same_list (λ n. n) (λ t. gathered var der (carried vars t.0)) (λ n. n) (λ t. gathered var up t.0) (λ n. n) (λ t. low var t.0) (λ t l. t.1 l) ps h
 carried_row {vars} {var} {der} r stay (FlatExpr-F.Not a) h = at_roll var der (FlatExpr-F.Not (carried vars a.0)) ∙ a.1 h
 carried_row {vars} {var} {der} {up} {L} r stay (FlatExpr-F.If bs o) h =
     if_row var der (map (λ b. (carried vars b.0.0, carried vars b.1.0)) bs) (carried vars o.0) (greatest_by {X = ℕ × ℕ} (λ b. b.1) (map (λ b. (gathered var up b.0.0, gathered var up b.1.0)) bs)) (gathered var up o.0)
-    (ap (greatest_by {X = ℕ × ℕ} (λ b. b.1)) (map-map (λ (b : FlatExpr × FlatExpr). (gathered var der b.0, gathered var der b.1)) (λ b. (carried vars b.0.0, carried vars b.1.0)) bs)
+    (ap (greatest_by {X = ℕ × ℕ} (λ b. b.1)) (map_map (λ (b : FlatExpr × FlatExpr). (gathered var der b.0, gathered var der b.1)) (λ b. (carried vars b.0.0, carried vars b.1.0)) bs)
     ∙ same_list {L = L} {Y = ℕ × ℕ} {Z = ℕ × ℕ} {W = ℕ × ℕ} (λ b. b.1) (λ b. (gathered var der (carried vars b.0.0), gathered var der (carried vars b.1.0))) (λ b. b.1) (λ b. (gathered var up b.0.0, gathered var up b.1.0)) (λ b. b.1) (λ b. (low var b.0.0, low var b.1.0)) (λ b l. b.1.1 l) bs (omega arith))
     (o.1 (omega arith))
 

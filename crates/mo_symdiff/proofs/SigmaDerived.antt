@@ -6,8 +6,8 @@ use Rattle.mo_flat.specs.declared.expr.FlatExpr.TheVariants.{If, Whole}
 use Rattle.mo_flat.specs.declared.model.FlatVar.{FlatVar}
 use Rattle.mo_symdiff.specs.Derivative.{Part, args_slope, derived, derive_node, moving_terms, next_order, plain_factors, product_terms, replaced_factor, slope_node}
 use Rattle.mo_symdiff.specs.Still.{is_still, still_node}
-use Rattle.mo_symdiff.proofs.SigmaAt.{at_roll, at_All, at_Any, at_Call, at_Der, at_If, at_Not, at_Product, at_Relation, at_Var, at_Whole, greatest-append}
-use Rattle.mo_symdiff.proofs.SigmaGather.{gathered, gathered_related, gather_node, greatest_by, map-map, mapped}
+use Rattle.mo_symdiff.proofs.SigmaAt.{at_roll, at_All, at_Any, at_Call, at_Der, at_If, at_Not, at_Product, at_Relation, at_Var, at_Whole, greatest_append}
+use Rattle.mo_symdiff.proofs.SigmaGather.{gathered, gathered_related, gather_node, greatest_by, map_map, mapped}
 use Rattle.mo_symdiff.proofs.SigmaRaise.{IsRaise, still_gathers}
 use Rattle.mo_symdiff.proofs.SigmaRows.{PartRises, call_row, call_row_of_two, power_row, sum_row}
 
@@ -67,11 +67,11 @@ replaced : {vars : List FlatVar} {var : ℕ → ℕ → ℕ} {der up : ℕ → �
     (max (greatest_by (λ t. gathered var der t.1) before) (max (up (gathered var der f)) (greatest_by (λ t. gathered var der t.1) after)))
 replaced {vars} {var} {der} {up} {L} r before after false f slope h =
     let e = at_Product var der (before ++ (false, slope) ∷ after) in
-    let d = greatest-append (λ t. gathered var der t.1) before ((false, slope) ∷ after) in
+    let d = greatest_append (λ t. gathered var der t.1) before ((false, slope) ∷ after) in
     record { above = omega arith; below = omega arith }
 replaced {vars} {var} {der} {up} {L} r before after true f slope h =
     let e = at_Product var der (before ++ (true, f) ∷ (false, slope) ∷ (true, f) ∷ after) in
-    let d = greatest-append (λ t. gathered var der t.1) before ((true, f) ∷ (false, slope) ∷ (true, f) ∷ after) in
+    let d = greatest_append (λ t. gathered var der t.1) before ((true, f) ∷ (false, slope) ∷ (true, f) ∷ after) in
     let rise = r.rises (gathered var der f) h.low in
     record { above = omega arith; below = omega arith }
 
@@ -112,7 +112,7 @@ product_between {vars} {var} {der} {up} {L} r before (t ∷ ts) h =
     let term = replaced r before (plain_factors (map (λ t. (t.0, (t.1.0, derived vars t.1.0))) ts)) t.0 t.1.0 (derived vars t.1.0) here in
     let plain = plain_greatest r ts in
     let later = product_between r (before ++ (t.0, t.1.0) ∷ []) ts (omega arith) in
-    let wider = greatest-append (λ t. gathered var der t.1) before ((t.0, t.1.0) ∷ []) in
+    let wider = greatest_append (λ t. gathered var der t.1) before ((t.0, t.1.0) ∷ []) in
     let low_rest = factors_low r ts (omega arith) in
     let x = term.above in let y = term.below in let x' = later.above in let y' = later.below in let l = here.low in
     let slopes : List (Bool × Part) = map (λ t. (t.0, (t.1.0, derived vars t.1.0))) ts in
@@ -130,7 +130,7 @@ slopes_greatest : {vars : List FlatVar} {var : ℕ → ℕ → ℕ} {der up : �
     greatest_by (λ n. n) (map (λ t. low var t.0) ts) ≤ L →
     greatest_by (gathered var der) (map (λ (p : Part). p.1) (map (slope_of vars var der up L) ts)) ≡ up (greatest_by (λ n. n) (map (λ t. gathered var der t.0) ts))
 slopes_greatest {vars} {var} {der} r ts h =
-    ap (greatest_by (gathered var der)) (map-map (λ (p : Part). p.1) (λ t. (t.0, derived vars t.0)) ts)
+    ap (greatest_by (gathered var der)) (map_map (λ (p : Part). p.1) (λ t. (t.0, derived vars t.0)) ts)
     ∙ raised_list r (gathered var der) (λ t. derived vars t.0) (λ n. n) (λ t. gathered var der t.0) (λ n. n) (λ t. low var t.0) (λ t l. t.1 l) ts h
 
 args_row : {vars : List FlatVar} {var : ℕ → ℕ → ℕ} {der up : ℕ → ℕ} {L : ℕ} → IsRaise vars var der up L → (f : ℕ) (ts : List (Proved vars var der up L)) →
@@ -152,7 +152,7 @@ branches_greatest : {vars : List FlatVar} {var : ℕ → ℕ → ℕ} {der up : 
     greatest_by {X = ℕ × ℕ} (λ b. b.1) (map (λ b. (low var b.0.0, low var b.1.0)) bs) ≤ L →
     greatest_by (λ b. gathered var der b.1) (branch_slopes vars var der up L bs) ≡ up (greatest_by {X = ℕ × ℕ} (λ b. b.1) (map (λ b. (gathered var der b.0.0, gathered var der b.1.0)) bs))
 branches_greatest {vars} {var} {der} r bs h =
-    ap (greatest_by (λ b. gathered var der b.1)) (map-map (λ (b : Part × Part). (b.0.0, b.1.1)) (λ b. ((b.0.0, derived vars b.0.0), (b.1.0, derived vars b.1.0))) bs)
+    ap (greatest_by (λ b. gathered var der b.1)) (map_map (λ (b : Part × Part). (b.0.0, b.1.1)) (λ b. ((b.0.0, derived vars b.0.0), (b.1.0, derived vars b.1.0))) bs)
     ∙ raised_list r (λ b. gathered var der b.1) (λ b. (b.0.0, derived vars b.1.0)) (λ b. b.1) (λ b. (gathered var der b.0.0, gathered var der b.1.0)) (λ b. b.1) (λ b. (low var b.0.0, low var b.1.0)) (λ b l. b.1.1 l) bs h
 
 if_row : {vars : List FlatVar} {var : ℕ → ℕ → ℕ} {der up : ℕ → ℕ} {L : ℕ} → IsRaise vars var der up L → (bs : List (FlatExpr × FlatExpr)) (o : FlatExpr) (m n : ℕ) →

@@ -12,7 +12,7 @@ use Rattle.mo_symdiff.specs.Still.{given_node, has_given}
 use Rattle.mo_symdiff.proofs.SigmaCarried.{carried_low}
 use Rattle.mo_symdiff.proofs.SigmaDerived.{derived_gathers}
 use Rattle.mo_symdiff.proofs.SigmaGather.{gathered, gathered_related, mapped}
-use Rattle.mo_symdiff.proofs.SigmaOrders.{given_gathered, given_low, given_raise, given_var, number-injective}
+use Rattle.mo_symdiff.proofs.SigmaOrders.{given_gathered, given_low, given_raise, given_var, number_injective}
 
 once : (vars : List FlatVar) (e : FlatExpr) → (gathered (given_var vars) (λ n. n) e ≤ 1) × (gathered (given_var vars) (λ n. min n 1) e ≡ gathered (given_var vars) (λ n. n) e)
 once vars e = (
@@ -25,11 +25,11 @@ pub derived_given : (vars : List FlatVar) (e : FlatExpr) → has_given vars (der
 derived_given vars e =
     let low = given_low vars e in
     let least : min (gathered (given_var vars) (λ n. n) e) 1 ≡ gathered (given_var vars) (λ n. n) e = omega arith in
-    number-injective (has_given vars (derived vars e)) (has_given vars e)
+    number_injective (has_given vars (derived vars e)) (has_given vars e)
     (given_gathered vars (derived vars e) ∙ derived_gathers (given_raise vars) e low ∙ least ∙ sym (given_gathered vars e))
 
 pub carried_given : (vars : List FlatVar) (e : FlatExpr) → has_given vars (carried vars e) ≡ has_given vars e
-carried_given vars e = number-injective (has_given vars (carried vars e)) (has_given vars e)
+carried_given vars e = number_injective (has_given vars (carried vars e)) (has_given vars e)
     (given_gathered vars (carried vars e) ∙ carried_low (given_raise vars) e (given_low vars e) ∙ (once vars e).1 ∙ sym (given_gathered vars e))
 
 -- what stands apart, by whether a derivative is around it

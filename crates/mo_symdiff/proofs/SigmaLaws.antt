@@ -15,7 +15,7 @@ use Rattle.mo_symdiff.specs.Sigma.{sigma}
 use Rattle.mo_symdiff.proofs.SigmaCarried.{carried_gathers, carried_low, counted}
 use Rattle.mo_symdiff.proofs.SigmaDerived.{derived_gathers, low}
 use Rattle.mo_symdiff.proofs.SigmaGather.{Related, folds_related, gathered, gathered_related, gather_node, greatest_by}
-use Rattle.mo_symdiff.proofs.SigmaOrders.{add, highest_gathered, order_raise, order_var, raise, raised_gathered, rank, rank-injective, top}
+use Rattle.mo_symdiff.proofs.SigmaOrders.{add, highest_gathered, order_raise, order_var, raise, raised_gathered, rank, rank_injective, top}
 
 -- orders that fit leave room below the limit
 abbrev Fits : ℕ → (ℕ → Bool) → ℕ → Type 0
@@ -95,7 +95,7 @@ sigma_gathered vars e v u fits = let below = low_below v e in highest_gathered v
 -- where the order of this unknown fits
 pub sigma_raised_by : (vars : List FlatVar) (e : FlatExpr) (v : ℕ) → is_unknown vars v ≡ true → gathered (order_var v) add e ≤ 4294967295 → sigma vars e v ≡ raised_order v e
 sigma_raised_by vars e v u fits =
-    rank-injective (sigma vars e v) (raised_order v e) (sigma_gathered vars e v u fits ∙ raise_is_add v e (omega arith) ∙ sym (raised_gathered v e))
+    rank_injective (sigma vars e v) (raised_order v e) (sigma_gathered vars e v u fits ∙ raise_is_add v e (omega arith) ∙ sym (raised_gathered v e))
 
 pub sigma_raised : (vars : List FlatVar) (e : FlatExpr) (v : ℕ) → is_unknown vars v ≡ true → Fit e → sigma vars e v ≡ raised_order v e
 sigma_raised vars e v u h = sigma_raised_by vars e v u (gathered_fits v 4294967295 e h)
@@ -113,7 +113,7 @@ sigma_derived vars e v u h =
     let carried_here : low (order_var v) (carried vars e) ≤ top = omega arith in
     let slope = derived_gathers r (carried vars e) carried_here in
     let slope_here : low (order_var v) (derived vars (carried vars e)) ≤ top = omega arith in
-    rank-injective (sigma vars (derived vars (carried vars e)) v) (option_map (λ order. order + 1) (sigma vars e v))
+    rank_injective (sigma vars (derived vars (carried vars e)) v) (option_map (λ order. order + 1) (sigma vars e v))
     (highest_gathered v (carried vars (derived vars (carried vars e)))
     ∙ carried_low r (derived vars (carried vars e)) slope_here
     ∙ derived_gathers (counted r) (carried vars e) carried_here

@@ -18,11 +18,11 @@ abbrev pub rank : Option ℕ → ℕ
 rank None = 0
 rank (Some k) = k + 1
 
-pub rank-injective : (a b : Option ℕ) → rank a ≡ rank b → a ≡ b
-rank-injective None None h = refl
-rank-injective None (Some k) h = absurd (omega arith)
-rank-injective (Some k) None h = absurd (omega arith)
-rank-injective (Some j) (Some k) h = let e : j ≡ k = omega arith in ap (λ n. Some n) e
+pub rank_injective : (a b : Option ℕ) → rank a ≡ rank b → a ≡ b
+rank_injective None None h = refl
+rank_injective None (Some k) h = absurd (omega arith)
+rank_injective (Some k) None h = absurd (omega arith)
+rank_injective (Some j) (Some k) h = let e : j ≡ k = omega arith in ap (λ n. Some n) e
 
 abbrev pub order_var : ℕ → ℕ → ℕ → ℕ
 order_var v w k = if nat_eq w v then k + 1 else 0
@@ -169,11 +169,11 @@ number false = 0
 abbrev Numbers : Bool → ℕ → Type 0
 Numbers b n = number b ≡ n
 
-pub number-injective : (a b : Bool) → number a ≡ number b → a ≡ b
-number-injective true true h = refl
-number-injective true false h = absurd (omega arith)
-number-injective false true h = absurd (omega arith)
-number-injective false false h = refl
+pub number_injective : (a b : Bool) → number a ≡ number b → a ≡ b
+number_injective true true h = refl
+number_injective true false h = absurd (omega arith)
+number_injective false true h = absurd (omega arith)
+number_injective false false h = refl
 
 both_number : (a b : Bool) (m n : ℕ) → Numbers a m → Numbers b n → Numbers (a || b) (max m n)
 both_number true true m n h k = omega arith
@@ -211,12 +211,12 @@ pub given_gathered : (vars : List FlatVar) (e : FlatExpr) → number (has_given 
 unfolding gathered
 given_gathered vars = folds_related Bool ℕ (given_node vars) (gather_node (given_var vars) (λ n. n)) Numbers (number_node vars)
 
-number-low : (b : Bool) → number b ≤ 1
-number-low true = omega arith
-number-low false = omega arith
+number_low : (b : Bool) → number b ≤ 1
+number_low true = omega arith
+number_low false = omega arith
 
 pub given_low : (vars : List FlatVar) (e : FlatExpr) → gathered (given_var vars) (λ n. n) e ≤ 1
-given_low vars e = let h = given_gathered vars e in let l = number-low (has_given vars e) in omega arith
+given_low vars e = let h = given_gathered vars e in let l = number_low (has_given vars e) in omega arith
 
 not_given : (a b : Bool) → (a || b) ≡ false → number b ≡ 0
 not_given true b h = absurd cc
@@ -230,7 +230,7 @@ given_raise vars = record {
   joins = λ a b. omega arith;
   low = λ a. omega arith;
   still = λ w k s. not_given (is_unknown vars w) (is_given vars w) s;
-  next = λ w k. let l = number-low (is_given vars w) in omega arith;
+  next = λ w k. let l = number_low (is_given vars w) in omega arith;
   der_none = refl;
   der_low = λ a h. h;
   der_up = λ a. refl;

@@ -8,9 +8,9 @@ use Rattle.mo_flat.specs.declared.expr.FlatExpr.TheVariants.{Sum, Product, Call,
 use Rattle.mo_flat.specs.declared.model.FlatVar.{FlatVar}
 use Rattle.mo_symdiff.specs.Still.{is_still, still_node, has_given, given_node}
 
-list_any-map : {A B : Type 0} (f : B → Bool) (h : A → B) (xs : List A) → list_any f (map h xs) ≡ list_any (λ x. f (h x)) xs
-list_any-map f h [] = refl
-list_any-map f h (x ∷ xs) = ap (λ b. f (h x) || b) (list_any-map f h xs)
+list_any_map : {A B : Type 0} (f : B → Bool) (h : A → B) (xs : List A) → list_any f (map h xs) ≡ list_any (λ x. f (h x)) xs
+list_any_map f h [] = refl
+list_any_map f h (x ∷ xs) = ap (λ b. f (h x) || b) (list_any_map f h xs)
 
 -- a test by the fold of its node
 tested : (node_test : FlatExpr-F Bool → Bool) (test : FlatExpr → Bool) → ((e : FlatExpr) → test e ≡ node_test (map-FlatExpr FlatExpr Bool test (out-FlatExpr e))) →
@@ -42,19 +42,19 @@ pub still_If : (vars : List FlatVar) (bs : List (FlatExpr × FlatExpr)) (o : Fla
 still_If vars bs o = still_at vars (If bs o) (FlatExpr-F.If bs o) (outs-If bs o) ∙ ap (λ b. b && is_still vars o) (list_all-map (λ b. b.1) (λ b. (is_still vars b.0, is_still vars b.1)) bs)
 
 pub given_Sum : (vars : List FlatVar) (ts : List (Bool × FlatExpr)) → has_given vars (Sum ts) ≡ list_any (λ t. has_given vars t.1) ts
-given_Sum vars ts = given_at vars (Sum ts) (FlatExpr-F.Sum ts) (outs-Sum ts) ∙ list_any-map (λ t. t.1) (λ t. (t.0, has_given vars t.1)) ts
+given_Sum vars ts = given_at vars (Sum ts) (FlatExpr-F.Sum ts) (outs-Sum ts) ∙ list_any_map (λ t. t.1) (λ t. (t.0, has_given vars t.1)) ts
 
 pub given_Product : (vars : List FlatVar) (ts : List (Bool × FlatExpr)) → has_given vars (Product ts) ≡ list_any (λ t. has_given vars t.1) ts
-given_Product vars ts = given_at vars (Product ts) (FlatExpr-F.Product ts) (outs-Product ts) ∙ list_any-map (λ t. t.1) (λ t. (t.0, has_given vars t.1)) ts
+given_Product vars ts = given_at vars (Product ts) (FlatExpr-F.Product ts) (outs-Product ts) ∙ list_any_map (λ t. t.1) (λ t. (t.0, has_given vars t.1)) ts
 
 pub given_Call : (vars : List FlatVar) (f : ℕ) (es : List FlatExpr) → has_given vars (Call f es) ≡ list_any (has_given vars) es
-given_Call vars f es = given_at vars (Call f es) (FlatExpr-F.Call f es) (outs-Call f es) ∙ list_any-map (λ b. b) (has_given vars) es
+given_Call vars f es = given_at vars (Call f es) (FlatExpr-F.Call f es) (outs-Call f es) ∙ list_any_map (λ b. b) (has_given vars) es
 
 pub given_All : (vars : List FlatVar) (es : List FlatExpr) → has_given vars (All es) ≡ list_any (has_given vars) es
-given_All vars es = given_at vars (All es) (FlatExpr-F.All es) (outs-All es) ∙ list_any-map (λ b. b) (has_given vars) es
+given_All vars es = given_at vars (All es) (FlatExpr-F.All es) (outs-All es) ∙ list_any_map (λ b. b) (has_given vars) es
 
 pub given_Any : (vars : List FlatVar) (es : List FlatExpr) → has_given vars (Any es) ≡ list_any (has_given vars) es
-given_Any vars es = given_at vars (Any es) (FlatExpr-F.Any es) (outs-Any es) ∙ list_any-map (λ b. b) (has_given vars) es
+given_Any vars es = given_at vars (Any es) (FlatExpr-F.Any es) (outs-Any es) ∙ list_any_map (λ b. b) (has_given vars) es
 
 pub given_If : (vars : List FlatVar) (bs : List (FlatExpr × FlatExpr)) (o : FlatExpr) → has_given vars (If bs o) ≡ (list_any (λ b. has_given vars b.1) bs || has_given vars o)
-given_If vars bs o = given_at vars (If bs o) (FlatExpr-F.If bs o) (outs-If bs o) ∙ ap (λ b. b || has_given vars o) (list_any-map (λ b. b.1) (λ b. (has_given vars b.0, has_given vars b.1)) bs)
+given_If vars bs o = given_at vars (If bs o) (FlatExpr-F.If bs o) (outs-If bs o) ∙ ap (λ b. b || has_given vars o) (list_any_map (λ b. b.1) (λ b. (has_given vars b.0, has_given vars b.1)) bs)

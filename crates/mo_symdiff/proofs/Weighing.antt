@@ -23,7 +23,7 @@ use Rattle.mo_symdiff.specs.Derivative.{Part, applied, args_slope, base_term, ca
 use Rattle.mo_symdiff.specs.Still.{is_still}
 use Rattle.mo_symdiff.specs.Weights.{AreBranchSizes, AreSizes, AreTermSizes, IsSize, args_row, call_row, call_row_of_two, capped, literal_row, literal_weight, node_weight, row_of, row_weight, variable_weight, weigh, weigh_node}
 use Rattle.mo_flat.specs.Roles.{is_given, is_unknown}
-use Rattle.mo_symdiff.proofs.Derived.{at_Time as at_Time_derived, derived_All, derived_Any, derived_Call, derived_Der, derived_If, derived_Not, derived_Power, derived_Product, derived_Relation, derived_Sum, derived_Var, all-push, moving-push, moving_one, product_front, still_Var, unless}
+use Rattle.mo_symdiff.proofs.Derived.{at_Time as at_Time_derived, derived_All, derived_Any, derived_Call, derived_Der, derived_If, derived_Not, derived_Power, derived_Product, derived_Relation, derived_Sum, derived_Var, all_push, moving_push, moving_one, product_front, still_Var, unless}
 use Rattle.mo_symdiff.proofs.Tests.{still_at}
 
 -- ---- numbers that stop at the greatest of 64 bits
@@ -359,9 +359,9 @@ or_assoc : (a b c : Bool) → (a || (b || c)) ≡ ((a || b) || c)
 or_assoc true b c = refl
 or_assoc false b c = refl
 
-any-append : {A : Type 0} (p : A → Bool) (xs ys : List A) → list_any p (xs ++ ys) ≡ (list_any p xs || list_any p ys)
-any-append p [] ys = refl
-any-append p (x ∷ xs) ys = ap (λ b. p x || b) (any-append p xs ys) ∙ or_assoc (p x) (list_any p xs) (list_any p ys)
+any_append : {A : Type 0} (p : A → Bool) (xs ys : List A) → list_any p (xs ++ ys) ≡ (list_any p xs || list_any p ys)
+any_append p [] ys = refl
+any_append p (x ∷ xs) ys = ap (λ b. p x || b) (any_append p xs ys) ∙ or_assoc (p x) (list_any p xs) (list_any p ys)
 
 -- whether a part moves, as a number
 abbrev pub one_if : Bool → ℕ
@@ -378,8 +378,8 @@ one_mark : (b : Bool) (t : Bool × FlatExpr) → list_any (λ u. u.0) (moving_on
 one_mark true t = refl
 one_mark false t = or_false t.0
 
-slopes-append : (vars : List FlatVar) (xs : List (Bool × FlatExpr)) (x : Bool × FlatExpr) → with_slopes vars (xs ++ x ∷ []) ≡ with_slopes vars xs ++ (x.0, (x.1, derived vars x.1)) ∷ []
-slopes-append vars xs x = map-append (λ t. (t.0, (t.1, derived vars t.1))) xs (x ∷ [])
+slopes_append : (vars : List FlatVar) (xs : List (Bool × FlatExpr)) (x : Bool × FlatExpr) → with_slopes vars (xs ++ x ∷ []) ≡ with_slopes vars xs ++ (x.0, (x.1, derived vars x.1)) ∷ []
+slopes_append vars xs x = map-append (λ t. (t.0, (t.1, derived vars t.1))) xs (x ∷ [])
 
 more_times : (n w : ℕ) → suc n * w ≡ w + n * w
 more_times n w = omega arith
@@ -435,7 +435,7 @@ module _ (vars : List FlatVar) (m : Measure) where
       list_any (λ t. t.0) (terms_of before (x ∷ after)) ≡ (mark_if (is_still vars x.1) x.0 || list_any (λ t. t.0) (terms_of (before ++ x ∷ []) after))
   front_marks before x after =
       ap (list_any (λ t. t.0)) (product_front vars before x after)
-      ∙ any-append (λ t. t.0) (moving_one (is_still vars x.1) (front before x after)) (terms_of (before ++ x ∷ []) after)
+      ∙ any_append (λ t. t.0) (moving_one (is_still vars x.1) (front before x after)) (terms_of (before ++ x ∷ []) after)
       ∙ ap (λ b. b || list_any (λ t. t.0) (terms_of (before ++ x ∷ []) after)) (one_mark (is_still vars x.1) (front before x after))
 
   -- the term of a factor behind others
@@ -489,7 +489,7 @@ module _ (vars : List FlatVar) (m : Measure) where
   moving xs = moving_terms vars (with_slopes vars xs)
 
   terms_more : (xs : List (Bool × FlatExpr)) (x : Bool × FlatExpr) → moving (xs ++ x ∷ []) ≡ moving xs ++ moving_one (is_still vars x.1) (x.0, derived vars x.1)
-  terms_more xs x = ap (moving_terms vars) (slopes-append vars xs x) ∙ moving-push vars (with_slopes vars xs) (x.0, (x.1, derived vars x.1))
+  terms_more xs x = ap (moving_terms vars) (slopes_append vars xs x) ∙ moving_push vars (with_slopes vars xs) (x.0, (x.1, derived vars x.1))
 
   pub terms_total : (xs : List (Bool × FlatExpr)) (x : Bool × FlatExpr) → total (moving (xs ++ x ∷ [])) ≡ total (moving xs) + (if is_still vars x.1 then 0 else weigh vars m (derived vars x.1))
   terms_total xs x =
@@ -503,7 +503,7 @@ module _ (vars : List FlatVar) (m : Measure) where
 
   pub terms_marks : (xs : List (Bool × FlatExpr)) (x : Bool × FlatExpr) → list_any (λ t. t.0) (moving (xs ++ x ∷ [])) ≡ (list_any (λ t. t.0) (moving xs) || mark_if (is_still vars x.1) x.0)
   terms_marks xs x =
-      ap (list_any (λ t. t.0)) (terms_more xs x) ∙ any-append (λ t. t.0) (moving xs) (moving_one (is_still vars x.1) (x.0, derived vars x.1))
+      ap (list_any (λ t. t.0)) (terms_more xs x) ∙ any_append (λ t. t.0) (moving xs) (moving_one (is_still vars x.1) (x.0, derived vars x.1))
       ∙ ap (λ b. list_any (λ t. t.0) (moving xs) || b) (one_mark (is_still vars x.1) (x.0, derived vars x.1))
 
   module _ (parts terms terms2 : List (Bool × FlatExpr)) (d : Bool) (e : FlatExpr) (extra : ℕ)
@@ -515,7 +515,7 @@ module _ (vars : List FlatVar) (m : Measure) where
         AreTermSizes vars m (parts ++ (d, e) ∷ []) terms2 still minus whole2 slope2 moved
     grown_still whole2 slope2 s w l =
         record {
-          still_is = all.still_is ∙ sym (all-push (λ (t : Bool × FlatExpr). is_still vars t.1) parts (d, e) ∙ ap (λ b. list_all (λ (t : Bool × FlatExpr). is_still vars t.1) parts && b) s ∙ and_true (list_all (λ (t : Bool × FlatExpr). is_still vars t.1) parts));
+          still_is = all.still_is ∙ sym (all_push (λ (t : Bool × FlatExpr). is_still vars t.1) parts (d, e) ∙ ap (λ b. list_all (λ (t : Bool × FlatExpr). is_still vars t.1) parts && b) s ∙ and_true (list_all (λ (t : Bool × FlatExpr). is_still vars t.1) parts));
           whole_is = w ∙ ap capped (sym (sum_by_push (λ (t : Bool × FlatExpr). weigh vars m t.1) parts (d, e)));
           slope_is = l ∙ ap capped (sym weight);
           moving_is = all.moving_is ∙ ap capped (sym (count ∙ ap (λ b. length terms + one_if b) s ∙ omega arith));
@@ -526,7 +526,7 @@ module _ (vars : List FlatVar) (m : Measure) where
         moved2 ≡ capped (length terms + 1) → AreTermSizes vars m (parts ++ (d, e) ∷ []) terms2 false minus2 whole2 slope2 moved2
     grown_moving minus2 whole2 slope2 moved2 s mk w l n =
         record {
-          still_is = sym (all-push (λ (t : Bool × FlatExpr). is_still vars t.1) parts (d, e) ∙ ap (λ b. list_all (λ (t : Bool × FlatExpr). is_still vars t.1) parts && b) s ∙ and_false (list_all (λ (t : Bool × FlatExpr). is_still vars t.1) parts));
+          still_is = sym (all_push (λ (t : Bool × FlatExpr). is_still vars t.1) parts (d, e) ∙ ap (λ b. list_all (λ (t : Bool × FlatExpr). is_still vars t.1) parts && b) s ∙ and_false (list_all (λ (t : Bool × FlatExpr). is_still vars t.1) parts));
           whole_is = w ∙ ap capped (sym (sum_by_push (λ (t : Bool × FlatExpr). weigh vars m t.1) parts (d, e)));
           slope_is = l ∙ ap capped (sym weight);
           moving_is = n ∙ ap capped (sym (count ∙ ap (λ b. length terms + one_if b) s));
@@ -566,7 +566,7 @@ module _ (vars : List FlatVar) (m : Measure) where
       ∙ ap (λ n. node_weight m + (n + weigh vars m (derived vars o))) (mapped (λ (b : FlatExpr × FlatExpr). weigh vars m b.0 + weigh vars m b.1) (λ b. (b.0, derived vars b.1)) bs)
 
   pub both_still : (es : List FlatExpr) (e : FlatExpr) (still one all : Bool) → still ≡ list_all (is_still vars) es → one ≡ is_still vars e → all ≡ (still && one) → all ≡ list_all (is_still vars) (es ++ e ∷ [])
-  both_still es e still one all h k l = l ∙ ap (λ b. b && one) h ∙ ap (λ b. list_all (is_still vars) es && b) k ∙ sym (all-push (is_still vars) es e)
+  both_still es e still one all h k l = l ∙ ap (λ b. b && one) h ∙ ap (λ b. list_all (is_still vars) es && b) k ∙ sym (all_push (is_still vars) es e)
 
   -- one more part
   pub parts_more : (es : List FlatExpr) (e : FlatExpr) (still one all : Bool) (whole slope x y whole2 slope2 : ℕ) → AreSizes vars m es still whole slope → IsSize vars m e one x y → all ≡ (still && one) →
@@ -583,7 +583,7 @@ module _ (vars : List FlatVar) (m : Measure) where
       slope2 ≡ capped (sum_by (λ b. weigh vars m b.0 + weigh vars m (derived vars b.1)) bs + (weigh vars m c + weigh vars m (derived vars e))) → AreBranchSizes vars m (bs ++ (c, e) ∷ []) all whole2 slope2
   branches_more bs c e still one all whole2 slope2 h k l w s =
       record {
-        still_is = l ∙ ap (λ b. b && one) h ∙ ap (λ b. list_all (λ (b : FlatExpr × FlatExpr). is_still vars b.1) bs && b) k ∙ sym (all-push (λ (b : FlatExpr × FlatExpr). is_still vars b.1) bs (c, e));
+        still_is = l ∙ ap (λ b. b && one) h ∙ ap (λ b. list_all (λ (b : FlatExpr × FlatExpr). is_still vars b.1) bs && b) k ∙ sym (all_push (λ (b : FlatExpr × FlatExpr). is_still vars b.1) bs (c, e));
         whole_is = w ∙ ap capped (sym (sum_by_push (λ (b : FlatExpr × FlatExpr). weigh vars m b.0 + weigh vars m b.1) bs (c, e)));
         slope_is = s ∙ ap capped (sym (sum_by_push (λ (b : FlatExpr × FlatExpr). weigh vars m b.0 + weigh vars m (derived vars b.1)) bs (c, e)));
       }

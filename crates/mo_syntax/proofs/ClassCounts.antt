@@ -29,24 +29,24 @@ use Rattle.mo_syntax.specs.steps.Parts.{marked, outline_of_class, classes_in_bod
 use Rattle.mo_syntax.proofs.Outlines.{at_Long, at_Short, at_Enumeration, at_Der, at_Modify, at_Redeclare, at_Replaceable, at_Import, at_Extends, at_Member, at_Equations, at_Algorithm, at_Class, at_Component, at_Element}
 
 -- a list has the sum of what its elements have
-pub each-classes : {A : Type 0} (f : A → Outline) (xs : List A) → (each f xs).classes ≡ sum_by (λ x. (f x).classes) xs
-each-classes f [] = refl
-each-classes f (x ∷ xs) = ap (λ n. (f x).classes + n) (each-classes f xs) ∙ sym (sum_by-cons (λ y. (f y).classes) x xs)
+pub each_classes : {A : Type 0} (f : A → Outline) (xs : List A) → (each f xs).classes ≡ sum_by (λ x. (f x).classes) xs
+each_classes f [] = refl
+each_classes f (x ∷ xs) = ap (λ n. (f x).classes + n) (each_classes f xs) ∙ sym (sum_by-cons (λ y. (f y).classes) x xs)
 
 abbrev arguments : List (ArgumentOf Give) → ℕ
 arguments xs = sum_by (λ argument. classes_in_give argument.give) xs
 
 of_arguments : (xs : List (ArgumentOf Give)) → (each (λ argument. outline_of_give argument.give) xs).classes ≡ arguments xs
-of_arguments xs = each-classes (λ argument. outline_of_give argument.give) xs
+of_arguments xs = each_classes (λ argument. outline_of_give argument.give) xs
 
 pub files : (fs : List FileTree) → class_count fs ≡ sum_by classes_in_file fs
-files fs = each-classes in_file fs
+files fs = each_classes in_file fs
 
 pub file : (f : FileTree) → classes_in_file f ≡ sum_by classes_in_class f.classes
-file f = each-classes (outline_of_class true) f.classes
+file f = each_classes (outline_of_class true) f.classes
 
 pub of_Long : (extending : Option (ModsOf Give)) (items : List Item) (external : Bool) → classes_in_body (Long extending items external) ≡ classes_in_extending extending + sum_by classes_in_item items
-of_Long extending items external = ap (λ o. o.classes) (at_Long extending items external) ∙ ap (λ n. classes_in_extending extending + n) (each-classes outline_of_item items)
+of_Long extending items external = ap (λ o. o.classes) (at_Long extending items external) ∙ ap (λ n. classes_in_extending extending + n) (each_classes outline_of_item items)
 
 pub of_Short : (causal : Causal) (base : ReferenceOf Expr) (subs : List (Option Expr)) (mods : ModsOf Give) → classes_in_body (Short causal base subs mods) ≡ arguments mods.0
 of_Short causal base subs mods = ap (λ o. o.classes) (at_Short causal base subs mods) ∙ of_arguments mods.0

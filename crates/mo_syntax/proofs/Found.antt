@@ -32,12 +32,12 @@ use Rattle.mo_syntax.specs.steps.Parts.{marked, outline_of_class, outline_of_mod
 use Rattle.mo_syntax.specs.Rows.{IsPassed}
 use Rattle.mo_syntax.proofs.ClassCounts.{of_Long}
 use Rattle.mo_syntax.proofs.Outlines.{at_Long, at_Short, at_Enumeration, at_Der, at_Import, at_Extends, at_Member, at_Equations, at_Algorithm, at_Class, at_Component, at_Element}
-use Rattle.mo_syntax.proofs.Searching.{passed, paths_same, path_eq-same, untrue, first_row-append, quiet_body, quiet_give, quiet_what}
+use Rattle.mo_syntax.proofs.Searching.{passed, paths_same, path_eq_same, untrue, first_row_append, quiet_body, quiet_give, quiet_what}
 
 -- what stands in modifiers has no path
 none_in_arguments : (path : List (List ℕ)) (xs : List (ArgumentOf Give)) (n : ℕ) → first_row path ((each (λ argument. outline_of_give argument.give) xs).declared Apart n) ≡ None
 none_in_arguments path [] n = refl
-none_in_arguments path (x ∷ xs) n = first_row-append path ((outline_of_give x.give).declared Apart n) ((each (λ argument. outline_of_give argument.give) xs).declared Apart (n + (outline_of_give x.give).classes))
+none_in_arguments path (x ∷ xs) n = first_row_append path ((outline_of_give x.give).declared Apart n) ((each (λ argument. outline_of_give argument.give) xs).declared Apart (n + (outline_of_give x.give).classes))
     ∙ ap (λ r. otherwise r (first_row path ((each (λ argument. outline_of_give argument.give) xs).declared Apart (n + (outline_of_give x.give).classes)))) (quiet_give path x.give Apart n tt)
     ∙ none_in_arguments path xs (n + (outline_of_give x.give).classes)
 
@@ -59,7 +59,7 @@ or_none (Some a) = refl
 -- one part behind the other
 of_both : (path : List (List ℕ)) (a b : Outline) (home : Home) (n : ℕ) →
     first_row path ((both a b).declared home n) ≡ otherwise (first_row path (a.declared home n)) (first_row path (b.declared home (n + a.classes)))
-of_both path a b home n = first_row-append path (a.declared home n) (b.declared home (n + a.classes))
+of_both path a b home n = first_row_append path (a.declared home n) (b.declared home (n + a.classes))
 
 at_part : (path : List (List ℕ)) (home : Home) (n : ℕ) (a b : Outline) → a ≡ b → first_row path (a.declared home n) ≡ first_row path (b.declared home n)
 at_part path home n a b same = ap (λ (o : Outline). first_row path (o.declared home n)) same
@@ -137,7 +137,7 @@ found path at outermost class n same last =
     let here : List (List ℕ) = take at path ++ class.name ∷ [] in
     let whole : here ≡ path = same ∙ take_all (at + 1) path (omega arith) in
     sym (ap (λ b. otherwise (if b then Some (record { number = n; class = class; outermost = outermost }) else None) (first_row path ((outline_of_body class.body).declared (Under here) (n + 1))))
-    (ap (λ p. path_eq p path) whole ∙ path_eq-same path))
+    (ap (λ p. path_eq p path) whole ∙ path_eq_same path))
 
 pub below : (path : List (List ℕ)) (at : ℕ) (outermost : Bool) (class : ClassDefOf Body) (n : ℕ) → take at path ++ class.name ∷ [] ≡ take (at + 1) path → (at + 1 ≡ length path → ⊥) → at < length path →
     first_row path ((outline_of_body class.body).declared (Under (take (at + 1) path)) (n + 1)) ≡ first_row path ((outline_of_class outermost class).declared (Under (take at path)) n)

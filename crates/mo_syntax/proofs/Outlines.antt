@@ -26,25 +26,25 @@ use Rattle.mo_syntax.specs.declared.class.What.TheVariants.{Class, Component, ro
 use Rattle.mo_syntax.specs.Classes.{Outline, nothing, both, each, apart, in_body, in_give, in_item, in_what, in_element, outline_of_body, outline_of_give, outline_of_item, outline_of_what, outline_of_element}
 use Rattle.mo_syntax.specs.steps.Parts.{outline_of_mods, outline_of_extending, outline_of_limit, outline_of_class, declares, outline_of_component, marked}
 
-pub each-map : {A B : Type 0} (f : B → Outline) (g : A → B) (xs : List A) → each f (map g xs) ≡ each (λ x. f (g x)) xs
-each-map f g [] = refl
-each-map f g (x ∷ xs) = ap (λ o. both (f (g x)) o) (each-map f g xs)
+pub each_map : {A B : Type 0} (f : B → Outline) (g : A → B) (xs : List A) → each f (map g xs) ≡ each (λ x. f (g x)) xs
+each_map f g [] = refl
+each_map f g (x ∷ xs) = ap (λ o. both (f (g x)) o) (each_map f g xs)
 
 pub at_Long : (extending : Option (ModsOf Give)) (items : List Item) (external : Bool) →
     outline_of_body (Long extending items external) ≡ both (outline_of_extending extending) (each outline_of_item items)
 at_Long None items external = ap outline_of_body (sym (rolls-Long None items external))
     ∙ para-roll-Body Outline Outline Outline Outline Outline in_body in_give in_item in_what in_element (Body-F.Long None items external)
-    ∙ ap (λ o. both nothing o) (each-map (λ item. item.1) (λ i. (i, outline_of_item i)) items)
+    ∙ ap (λ o. both nothing o) (each_map (λ item. item.1) (λ i. (i, outline_of_item i)) items)
 at_Long (Some mods) items external = ap outline_of_body (sym (rolls-Long (Some mods) items external))
     ∙ para-roll-Body Outline Outline Outline Outline Outline in_body in_give in_item in_what in_element (Body-F.Long (Some mods) items external)
-    ∙ ap (λ o. both (apart o) (each {A = Item × Outline} (λ item. item.1) (map (λ i. (i, outline_of_item i)) items))) (each-map _ _ mods.0)
-    ∙ ap (λ o. both (outline_of_mods mods) o) (each-map (λ item. item.1) (λ i. (i, outline_of_item i)) items)
+    ∙ ap (λ o. both (apart o) (each {A = Item × Outline} (λ item. item.1) (map (λ i. (i, outline_of_item i)) items))) (each_map _ _ mods.0)
+    ∙ ap (λ o. both (outline_of_mods mods) o) (each_map (λ item. item.1) (λ i. (i, outline_of_item i)) items)
 
 pub at_Short : (causal : Causal) (base : ReferenceOf Expr) (subs : List (Option Expr)) (mods : ModsOf Give) →
     outline_of_body (Short causal base subs mods) ≡ outline_of_mods mods
 at_Short causal base subs mods = ap outline_of_body (sym (rolls-Short causal base subs mods))
     ∙ para-roll-Body Outline Outline Outline Outline Outline in_body in_give in_item in_what in_element (Body-F.Short causal base subs mods)
-    ∙ ap apart (each-map _ _ mods.0)
+    ∙ ap apart (each_map _ _ mods.0)
 
 pub at_Enumeration : (literals : Option (List (List ℕ))) → outline_of_body (Enumeration literals) ≡ nothing
 at_Enumeration literals = ap outline_of_body (sym (rolls-Enumeration literals))
@@ -57,7 +57,7 @@ at_Der function names = ap outline_of_body (sym (rolls-Der function names))
 pub at_Modify : (mods : ModsOf Give) (value : Option Expr) → outline_of_give (Modify mods value) ≡ outline_of_mods mods
 at_Modify mods value = ap outline_of_give (sym (rolls-Modify mods value))
     ∙ para-roll-Give Outline Outline Outline Outline Outline in_body in_give in_item in_what in_element (Give-F.Modify mods value)
-    ∙ ap apart (each-map _ _ mods.0)
+    ∙ ap apart (each_map _ _ mods.0)
 
 pub at_Redeclare : (element : Element) → outline_of_give (Redeclare element) ≡ outline_of_element element
 at_Redeclare element = ap outline_of_give (sym (rolls-Redeclare element))
@@ -74,7 +74,7 @@ at_Import clause = ap outline_of_item (sym (rolls-Import clause))
 pub at_Extends : (clause : ExtendsOf Give) → outline_of_item (Extends clause) ≡ outline_of_mods clause.mods
 at_Extends clause = ap outline_of_item (sym (rolls-Extends clause))
     ∙ para-roll-Item Outline Outline Outline Outline Outline in_body in_give in_item in_what in_element (Item-F.Extends clause)
-    ∙ ap apart (each-map _ _ clause.mods.0)
+    ∙ ap apart (each_map _ _ clause.mods.0)
 
 pub at_Member : (element : Element) → outline_of_item (Member element) ≡ outline_of_element element
 at_Member element = ap outline_of_item (sym (rolls-Member element))
@@ -95,7 +95,7 @@ at_Class class = ap outline_of_what (sym (rolls-Class class))
 pub at_Component : (component : ComponentOf Give) → outline_of_what (Component component) ≡ outline_of_component component
 at_Component component = ap outline_of_what (sym (rolls-Component component))
     ∙ para-roll-What Outline Outline Outline Outline Outline in_body in_give in_item in_what in_element (What-F.Component component)
-    ∙ ap (declares component.name component.place) (ap apart (each-map _ _ component.mods.0))
+    ∙ ap (declares component.name component.place) (ap apart (each_map _ _ component.mods.0))
 
 pub rolled : (flags : ElementFlags) (what : What) (limit : Option (ReferenceOf Expr × ModsOf Give)) →
     outline_of_element (roll-Element (record { flags = flags; what = what; limit = limit })) ≡ both (marked flags.redeclare (outline_of_what what)) (outline_of_limit limit)
@@ -103,7 +103,7 @@ rolled flags what None =
     para-roll-Element Outline Outline Outline Outline Outline in_body in_give in_item in_what in_element (record { flags = flags; what = what; limit = None })
 rolled flags what (Some limit) =
     para-roll-Element Outline Outline Outline Outline Outline in_body in_give in_item in_what in_element (record { flags = flags; what = what; limit = Some limit })
-    ∙ ap (λ o. both (marked flags.redeclare (outline_of_what what)) (apart o)) (each-map _ _ limit.1.0)
+    ∙ ap (λ o. both (marked flags.redeclare (outline_of_what what)) (apart o)) (each_map _ _ limit.1.0)
 
 pub at_Element : (element : Element) →
     outline_of_element element ≡ both (marked (out-Element element).flags.redeclare (outline_of_what (out-Element element).what)) (outline_of_limit (out-Element element).limit)

@@ -56,9 +56,9 @@ paths_same (x ∷ xs) (y ∷ ys) h =
     let first : x ≡ y = (bytes_eq-Decides x y).0 tests.0 in
     let rest : xs ≡ ys = paths_same xs ys tests.1 in cc
 
-pub path_eq-same : (xs : List (List ℕ)) → path_eq xs xs ≡ true
-path_eq-same [] = refl
-path_eq-same (x ∷ xs) = ap (λ b. b && path_eq xs xs) ((bytes_eq-Decides x x).1 refl) ∙ path_eq-same xs
+pub path_eq_same : (xs : List (List ℕ)) → path_eq xs xs ≡ true
+path_eq_same [] = refl
+path_eq_same (x ∷ xs) = ap (λ b. b && path_eq xs xs) ((bytes_eq-Decides x x).1 refl) ∙ path_eq_same xs
 
 pub untrue : (b : Bool) → (b ≡ true → ⊥) → b ≡ false
 untrue true h = absurd (h refl)
@@ -70,9 +70,9 @@ otherwise_assoc : {A : Type 0} (a b c : Option A) → otherwise (otherwise a b) 
 otherwise_assoc None b c = refl
 otherwise_assoc (Some a) b c = refl
 
-pub first_row-append : (path : List (List ℕ)) (xs ys : List Declaration) → first_row path (xs ++ ys) ≡ otherwise (first_row path xs) (first_row path ys)
-first_row-append path [] ys = refl
-first_row-append path (x ∷ xs) ys = ap (otherwise _) (first_row-append path xs ys) ∙ sym (otherwise_assoc _ (first_row path xs) (first_row path ys))
+pub first_row_append : (path : List (List ℕ)) (xs ys : List Declaration) → first_row path (xs ++ ys) ≡ otherwise (first_row path xs) (first_row path ys)
+first_row_append path [] ys = refl
+first_row_append path (x ∷ xs) ys = ap (otherwise _) (first_row_append path xs ys) ∙ sym (otherwise_assoc _ (first_row path xs) (first_row path ys))
 
 abbrev class_row : Bool → ClassDefOf (Outlined Body) → ℕ → ClassRow
 class_row outermost class n = record {
@@ -88,7 +88,7 @@ append_nil (x ∷ xs) = ap (λ l. x ∷ l) (append_nil xs)
 -- ---- what outlines are made of
 
 quiet_both : (path : List (List ℕ)) (a b : Outline) → Quiet path a → Quiet path b → Quiet path (both a b)
-quiet_both path a b qa qb home n m = first_row-append path (a.declared home n) (b.declared home (n + a.classes))
+quiet_both path a b qa qb home n m = first_row_append path (a.declared home n) (b.declared home (n + a.classes))
     ∙ ap (λ r. otherwise r (first_row path (b.declared home (n + a.classes)))) (qa home n m) ∙ qb home (n + a.classes) m
 
 quiet_nothing : (path : List (List ℕ)) → Quiet path nothing

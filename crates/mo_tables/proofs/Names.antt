@@ -5,474 +5,474 @@ use Rattle.mo_tables.specs.declared.keywords.TheConstants.{ALGORITHM, AND, ANNOT
 use Rattle.mo_tables.specs.declared.operators.TheConstants.{OPEN_PAREN, CLOSE_PAREN, STAR, PLUS, COMMA, MINUS, DOT, DOT_STAR, DOT_PLUS, DOT_MINUS, DOT_SLASH, DOT_CARET, SLASH, COLON, ASSIGN, SEMICOLON, LESS, LESS_EQUAL, NOT_EQUAL, EQUALS, DOUBLE_EQUALS, GREATER, GREATER_EQUAL, OPEN_BRACKET, CLOSE_BRACKET, CARET, OPEN_BRACE, CLOSE_BRACE}
 use Rattle.mo_tables.specs.declared.functions.TheConstants.{ABS, ACOS, ASIN, ATAN, ATAN2, COS, COSH, CROSS, DIV, EXP, FILL, IDENTITY, LOG, LOG10, MAX, MIN, MOD, NDIMS, NO_EVENT, ONES, PRODUCT, REM, SIN, SINH, SIZE, SQRT, SUM, TAN, TANH, TRANSPOSE, ZEROS}
 
-pub keyword-algorithm : code_in keywords (codes "algorithm") ≡ Some ALGORITHM
+pub keyword_algorithm : code_in keywords (codes "algorithm") ≡ Some ALGORITHM
 unfolding keywords
-keyword-algorithm = refl
+keyword_algorithm = refl
 
-pub keyword-and : code_in keywords (codes "and") ≡ Some AND
+pub keyword_and : code_in keywords (codes "and") ≡ Some AND
 unfolding keywords
-keyword-and = refl
+keyword_and = refl
 
-pub keyword-annotation : code_in keywords (codes "annotation") ≡ Some ANNOTATION
+pub keyword_annotation : code_in keywords (codes "annotation") ≡ Some ANNOTATION
 unfolding keywords
-keyword-annotation = refl
+keyword_annotation = refl
 
-pub keyword-block : code_in keywords (codes "block") ≡ Some BLOCK
+pub keyword_block : code_in keywords (codes "block") ≡ Some BLOCK
 unfolding keywords
-keyword-block = refl
+keyword_block = refl
 
-pub keyword-break : code_in keywords (codes "break") ≡ Some BREAK
+pub keyword_break : code_in keywords (codes "break") ≡ Some BREAK
 unfolding keywords
-keyword-break = refl
+keyword_break = refl
 
-pub keyword-class : code_in keywords (codes "class") ≡ Some CLASS
+pub keyword_class : code_in keywords (codes "class") ≡ Some CLASS
 unfolding keywords
-keyword-class = refl
+keyword_class = refl
 
-pub keyword-connect : code_in keywords (codes "connect") ≡ Some CONNECT
+pub keyword_connect : code_in keywords (codes "connect") ≡ Some CONNECT
 unfolding keywords
-keyword-connect = refl
+keyword_connect = refl
 
-pub keyword-connector : code_in keywords (codes "connector") ≡ Some CONNECTOR
+pub keyword_connector : code_in keywords (codes "connector") ≡ Some CONNECTOR
 unfolding keywords
-keyword-connector = refl
+keyword_connector = refl
 
-pub keyword-constant : code_in keywords (codes "constant") ≡ Some CONSTANT
+pub keyword_constant : code_in keywords (codes "constant") ≡ Some CONSTANT
 unfolding keywords
-keyword-constant = refl
+keyword_constant = refl
 
-pub keyword-constrainedby : code_in keywords (codes "constrainedby") ≡ Some CONSTRAINEDBY
+pub keyword_constrainedby : code_in keywords (codes "constrainedby") ≡ Some CONSTRAINEDBY
 unfolding keywords
-keyword-constrainedby = refl
+keyword_constrainedby = refl
 
-pub keyword-der : code_in keywords (codes "der") ≡ Some DER
+pub keyword_der : code_in keywords (codes "der") ≡ Some DER
 unfolding keywords
-keyword-der = refl
+keyword_der = refl
 
-pub keyword-discrete : code_in keywords (codes "discrete") ≡ Some DISCRETE
+pub keyword_discrete : code_in keywords (codes "discrete") ≡ Some DISCRETE
 unfolding keywords
-keyword-discrete = refl
+keyword_discrete = refl
 
-pub keyword-each : code_in keywords (codes "each") ≡ Some EACH
+pub keyword_each : code_in keywords (codes "each") ≡ Some EACH
 unfolding keywords
-keyword-each = refl
+keyword_each = refl
 
-pub keyword-else : code_in keywords (codes "else") ≡ Some ELSE
+pub keyword_else : code_in keywords (codes "else") ≡ Some ELSE
 unfolding keywords
-keyword-else = refl
+keyword_else = refl
 
-pub keyword-elseif : code_in keywords (codes "elseif") ≡ Some ELSEIF
+pub keyword_elseif : code_in keywords (codes "elseif") ≡ Some ELSEIF
 unfolding keywords
-keyword-elseif = refl
+keyword_elseif = refl
 
-pub keyword-elsewhen : code_in keywords (codes "elsewhen") ≡ Some ELSEWHEN
+pub keyword_elsewhen : code_in keywords (codes "elsewhen") ≡ Some ELSEWHEN
 unfolding keywords
-keyword-elsewhen = refl
+keyword_elsewhen = refl
 
-pub keyword-encapsulated : code_in keywords (codes "encapsulated") ≡ Some ENCAPSULATED
+pub keyword_encapsulated : code_in keywords (codes "encapsulated") ≡ Some ENCAPSULATED
 unfolding keywords
-keyword-encapsulated = refl
+keyword_encapsulated = refl
 
-pub keyword-end : code_in keywords (codes "end") ≡ Some END
+pub keyword_end : code_in keywords (codes "end") ≡ Some END
 unfolding keywords
-keyword-end = refl
+keyword_end = refl
 
-pub keyword-enumeration : code_in keywords (codes "enumeration") ≡ Some ENUMERATION
+pub keyword_enumeration : code_in keywords (codes "enumeration") ≡ Some ENUMERATION
 unfolding keywords
-keyword-enumeration = refl
+keyword_enumeration = refl
 
-pub keyword-equation : code_in keywords (codes "equation") ≡ Some EQUATION
+pub keyword_equation : code_in keywords (codes "equation") ≡ Some EQUATION
 unfolding keywords
-keyword-equation = refl
+keyword_equation = refl
 
-pub keyword-expandable : code_in keywords (codes "expandable") ≡ Some EXPANDABLE
+pub keyword_expandable : code_in keywords (codes "expandable") ≡ Some EXPANDABLE
 unfolding keywords
-keyword-expandable = refl
+keyword_expandable = refl
 
-pub keyword-extends : code_in keywords (codes "extends") ≡ Some EXTENDS
+pub keyword_extends : code_in keywords (codes "extends") ≡ Some EXTENDS
 unfolding keywords
-keyword-extends = refl
+keyword_extends = refl
 
-pub keyword-external : code_in keywords (codes "external") ≡ Some EXTERNAL
+pub keyword_external : code_in keywords (codes "external") ≡ Some EXTERNAL
 unfolding keywords
-keyword-external = refl
+keyword_external = refl
 
-pub keyword-false : code_in keywords (codes "false") ≡ Some FALSE
+pub keyword_false : code_in keywords (codes "false") ≡ Some FALSE
 unfolding keywords
-keyword-false = refl
+keyword_false = refl
 
-pub keyword-final : code_in keywords (codes "final") ≡ Some FINAL
+pub keyword_final : code_in keywords (codes "final") ≡ Some FINAL
 unfolding keywords
-keyword-final = refl
+keyword_final = refl
 
-pub keyword-flow : code_in keywords (codes "flow") ≡ Some FLOW
+pub keyword_flow : code_in keywords (codes "flow") ≡ Some FLOW
 unfolding keywords
-keyword-flow = refl
+keyword_flow = refl
 
-pub keyword-for : code_in keywords (codes "for") ≡ Some FOR
+pub keyword_for : code_in keywords (codes "for") ≡ Some FOR
 unfolding keywords
-keyword-for = refl
+keyword_for = refl
 
-pub keyword-function : code_in keywords (codes "function") ≡ Some FUNCTION
+pub keyword_function : code_in keywords (codes "function") ≡ Some FUNCTION
 unfolding keywords
-keyword-function = refl
+keyword_function = refl
 
-pub keyword-if : code_in keywords (codes "if") ≡ Some IF
+pub keyword_if : code_in keywords (codes "if") ≡ Some IF
 unfolding keywords
-keyword-if = refl
+keyword_if = refl
 
-pub keyword-import : code_in keywords (codes "import") ≡ Some IMPORT
+pub keyword_import : code_in keywords (codes "import") ≡ Some IMPORT
 unfolding keywords
-keyword-import = refl
+keyword_import = refl
 
-pub keyword-impure : code_in keywords (codes "impure") ≡ Some IMPURE
+pub keyword_impure : code_in keywords (codes "impure") ≡ Some IMPURE
 unfolding keywords
-keyword-impure = refl
+keyword_impure = refl
 
-pub keyword-in : code_in keywords (codes "in") ≡ Some IN
+pub keyword_in : code_in keywords (codes "in") ≡ Some IN
 unfolding keywords
-keyword-in = refl
+keyword_in = refl
 
-pub keyword-initial : code_in keywords (codes "initial") ≡ Some INITIAL
+pub keyword_initial : code_in keywords (codes "initial") ≡ Some INITIAL
 unfolding keywords
-keyword-initial = refl
+keyword_initial = refl
 
-pub keyword-inner : code_in keywords (codes "inner") ≡ Some INNER
+pub keyword_inner : code_in keywords (codes "inner") ≡ Some INNER
 unfolding keywords
-keyword-inner = refl
+keyword_inner = refl
 
-pub keyword-input : code_in keywords (codes "input") ≡ Some INPUT
+pub keyword_input : code_in keywords (codes "input") ≡ Some INPUT
 unfolding keywords
-keyword-input = refl
+keyword_input = refl
 
-pub keyword-loop : code_in keywords (codes "loop") ≡ Some LOOP
+pub keyword_loop : code_in keywords (codes "loop") ≡ Some LOOP
 unfolding keywords
-keyword-loop = refl
+keyword_loop = refl
 
-pub keyword-model : code_in keywords (codes "model") ≡ Some MODEL
+pub keyword_model : code_in keywords (codes "model") ≡ Some MODEL
 unfolding keywords
-keyword-model = refl
+keyword_model = refl
 
-pub keyword-not : code_in keywords (codes "not") ≡ Some NOT
+pub keyword_not : code_in keywords (codes "not") ≡ Some NOT
 unfolding keywords
-keyword-not = refl
+keyword_not = refl
 
-pub keyword-operator : code_in keywords (codes "operator") ≡ Some OPERATOR
+pub keyword_operator : code_in keywords (codes "operator") ≡ Some OPERATOR
 unfolding keywords
-keyword-operator = refl
+keyword_operator = refl
 
-pub keyword-or : code_in keywords (codes "or") ≡ Some OR
+pub keyword_or : code_in keywords (codes "or") ≡ Some OR
 unfolding keywords
-keyword-or = refl
+keyword_or = refl
 
-pub keyword-outer : code_in keywords (codes "outer") ≡ Some OUTER
+pub keyword_outer : code_in keywords (codes "outer") ≡ Some OUTER
 unfolding keywords
-keyword-outer = refl
+keyword_outer = refl
 
-pub keyword-output : code_in keywords (codes "output") ≡ Some OUTPUT
+pub keyword_output : code_in keywords (codes "output") ≡ Some OUTPUT
 unfolding keywords
-keyword-output = refl
+keyword_output = refl
 
-pub keyword-package : code_in keywords (codes "package") ≡ Some PACKAGE
+pub keyword_package : code_in keywords (codes "package") ≡ Some PACKAGE
 unfolding keywords
-keyword-package = refl
+keyword_package = refl
 
-pub keyword-parameter : code_in keywords (codes "parameter") ≡ Some PARAMETER
+pub keyword_parameter : code_in keywords (codes "parameter") ≡ Some PARAMETER
 unfolding keywords
-keyword-parameter = refl
+keyword_parameter = refl
 
-pub keyword-partial : code_in keywords (codes "partial") ≡ Some PARTIAL
+pub keyword_partial : code_in keywords (codes "partial") ≡ Some PARTIAL
 unfolding keywords
-keyword-partial = refl
+keyword_partial = refl
 
-pub keyword-protected : code_in keywords (codes "protected") ≡ Some PROTECTED
+pub keyword_protected : code_in keywords (codes "protected") ≡ Some PROTECTED
 unfolding keywords
-keyword-protected = refl
+keyword_protected = refl
 
-pub keyword-public : code_in keywords (codes "public") ≡ Some PUBLIC
+pub keyword_public : code_in keywords (codes "public") ≡ Some PUBLIC
 unfolding keywords
-keyword-public = refl
+keyword_public = refl
 
-pub keyword-pure : code_in keywords (codes "pure") ≡ Some PURE
+pub keyword_pure : code_in keywords (codes "pure") ≡ Some PURE
 unfolding keywords
-keyword-pure = refl
+keyword_pure = refl
 
-pub keyword-record : code_in keywords (codes "record") ≡ Some RECORD
+pub keyword_record : code_in keywords (codes "record") ≡ Some RECORD
 unfolding keywords
-keyword-record = refl
+keyword_record = refl
 
-pub keyword-redeclare : code_in keywords (codes "redeclare") ≡ Some REDECLARE
+pub keyword_redeclare : code_in keywords (codes "redeclare") ≡ Some REDECLARE
 unfolding keywords
-keyword-redeclare = refl
+keyword_redeclare = refl
 
-pub keyword-replaceable : code_in keywords (codes "replaceable") ≡ Some REPLACEABLE
+pub keyword_replaceable : code_in keywords (codes "replaceable") ≡ Some REPLACEABLE
 unfolding keywords
-keyword-replaceable = refl
+keyword_replaceable = refl
 
-pub keyword-return : code_in keywords (codes "return") ≡ Some RETURN
+pub keyword_return : code_in keywords (codes "return") ≡ Some RETURN
 unfolding keywords
-keyword-return = refl
+keyword_return = refl
 
-pub keyword-stream : code_in keywords (codes "stream") ≡ Some STREAM
+pub keyword_stream : code_in keywords (codes "stream") ≡ Some STREAM
 unfolding keywords
-keyword-stream = refl
+keyword_stream = refl
 
-pub keyword-then : code_in keywords (codes "then") ≡ Some THEN
+pub keyword_then : code_in keywords (codes "then") ≡ Some THEN
 unfolding keywords
-keyword-then = refl
+keyword_then = refl
 
-pub keyword-true : code_in keywords (codes "true") ≡ Some TRUE
+pub keyword_true : code_in keywords (codes "true") ≡ Some TRUE
 unfolding keywords
-keyword-true = refl
+keyword_true = refl
 
-pub keyword-type : code_in keywords (codes "type") ≡ Some TYPE
+pub keyword_type : code_in keywords (codes "type") ≡ Some TYPE
 unfolding keywords
-keyword-type = refl
+keyword_type = refl
 
-pub keyword-when : code_in keywords (codes "when") ≡ Some WHEN
+pub keyword_when : code_in keywords (codes "when") ≡ Some WHEN
 unfolding keywords
-keyword-when = refl
+keyword_when = refl
 
-pub keyword-while : code_in keywords (codes "while") ≡ Some WHILE
+pub keyword_while : code_in keywords (codes "while") ≡ Some WHILE
 unfolding keywords
-keyword-while = refl
+keyword_while = refl
 
-pub keyword-within : code_in keywords (codes "within") ≡ Some WITHIN
+pub keyword_within : code_in keywords (codes "within") ≡ Some WITHIN
 unfolding keywords
-keyword-within = refl
+keyword_within = refl
 
-pub operator-open_paren : code_in operators (codes "(") ≡ Some OPEN_PAREN
+pub operator_open_paren : code_in operators (codes "(") ≡ Some OPEN_PAREN
 unfolding operators
-operator-open_paren = refl
+operator_open_paren = refl
 
-pub operator-close_paren : code_in operators (codes ")") ≡ Some CLOSE_PAREN
+pub operator_close_paren : code_in operators (codes ")") ≡ Some CLOSE_PAREN
 unfolding operators
-operator-close_paren = refl
+operator_close_paren = refl
 
-pub operator-star : code_in operators (codes "*") ≡ Some STAR
+pub operator_star : code_in operators (codes "*") ≡ Some STAR
 unfolding operators
-operator-star = refl
+operator_star = refl
 
-pub operator-plus : code_in operators (codes "+") ≡ Some PLUS
+pub operator_plus : code_in operators (codes "+") ≡ Some PLUS
 unfolding operators
-operator-plus = refl
+operator_plus = refl
 
-pub operator-comma : code_in operators (codes ",") ≡ Some COMMA
+pub operator_comma : code_in operators (codes ",") ≡ Some COMMA
 unfolding operators
-operator-comma = refl
+operator_comma = refl
 
-pub operator-minus : code_in operators (codes "-") ≡ Some MINUS
+pub operator_minus : code_in operators (codes "-") ≡ Some MINUS
 unfolding operators
-operator-minus = refl
+operator_minus = refl
 
-pub operator-dot : code_in operators (codes ".") ≡ Some DOT
+pub operator_dot : code_in operators (codes ".") ≡ Some DOT
 unfolding operators
-operator-dot = refl
+operator_dot = refl
 
-pub operator-dot_star : code_in operators (codes ".*") ≡ Some DOT_STAR
+pub operator_dot_star : code_in operators (codes ".*") ≡ Some DOT_STAR
 unfolding operators
-operator-dot_star = refl
+operator_dot_star = refl
 
-pub operator-dot_plus : code_in operators (codes ".+") ≡ Some DOT_PLUS
+pub operator_dot_plus : code_in operators (codes ".+") ≡ Some DOT_PLUS
 unfolding operators
-operator-dot_plus = refl
+operator_dot_plus = refl
 
-pub operator-dot_minus : code_in operators (codes ".-") ≡ Some DOT_MINUS
+pub operator_dot_minus : code_in operators (codes ".-") ≡ Some DOT_MINUS
 unfolding operators
-operator-dot_minus = refl
+operator_dot_minus = refl
 
-pub operator-dot_slash : code_in operators (codes "./") ≡ Some DOT_SLASH
+pub operator_dot_slash : code_in operators (codes "./") ≡ Some DOT_SLASH
 unfolding operators
-operator-dot_slash = refl
+operator_dot_slash = refl
 
-pub operator-dot_caret : code_in operators (codes ".^") ≡ Some DOT_CARET
+pub operator_dot_caret : code_in operators (codes ".^") ≡ Some DOT_CARET
 unfolding operators
-operator-dot_caret = refl
+operator_dot_caret = refl
 
-pub operator-slash : code_in operators (codes "/") ≡ Some SLASH
+pub operator_slash : code_in operators (codes "/") ≡ Some SLASH
 unfolding operators
-operator-slash = refl
+operator_slash = refl
 
-pub operator-colon : code_in operators (codes ":") ≡ Some COLON
+pub operator_colon : code_in operators (codes ":") ≡ Some COLON
 unfolding operators
-operator-colon = refl
+operator_colon = refl
 
-pub operator-assign : code_in operators (codes ":=") ≡ Some ASSIGN
+pub operator_assign : code_in operators (codes ":=") ≡ Some ASSIGN
 unfolding operators
-operator-assign = refl
+operator_assign = refl
 
-pub operator-semicolon : code_in operators (codes ";") ≡ Some SEMICOLON
+pub operator_semicolon : code_in operators (codes ";") ≡ Some SEMICOLON
 unfolding operators
-operator-semicolon = refl
+operator_semicolon = refl
 
-pub operator-less : code_in operators (codes "<") ≡ Some LESS
+pub operator_less : code_in operators (codes "<") ≡ Some LESS
 unfolding operators
-operator-less = refl
+operator_less = refl
 
-pub operator-less_equal : code_in operators (codes "<=") ≡ Some LESS_EQUAL
+pub operator_less_equal : code_in operators (codes "<=") ≡ Some LESS_EQUAL
 unfolding operators
-operator-less_equal = refl
+operator_less_equal = refl
 
-pub operator-not_equal : code_in operators (codes "<>") ≡ Some NOT_EQUAL
+pub operator_not_equal : code_in operators (codes "<>") ≡ Some NOT_EQUAL
 unfolding operators
-operator-not_equal = refl
+operator_not_equal = refl
 
-pub operator-equals : code_in operators (codes "=") ≡ Some EQUALS
+pub operator_equals : code_in operators (codes "=") ≡ Some EQUALS
 unfolding operators
-operator-equals = refl
+operator_equals = refl
 
-pub operator-double_equals : code_in operators (codes "==") ≡ Some DOUBLE_EQUALS
+pub operator_double_equals : code_in operators (codes "==") ≡ Some DOUBLE_EQUALS
 unfolding operators
-operator-double_equals = refl
+operator_double_equals = refl
 
-pub operator-greater : code_in operators (codes ">") ≡ Some GREATER
+pub operator_greater : code_in operators (codes ">") ≡ Some GREATER
 unfolding operators
-operator-greater = refl
+operator_greater = refl
 
-pub operator-greater_equal : code_in operators (codes ">=") ≡ Some GREATER_EQUAL
+pub operator_greater_equal : code_in operators (codes ">=") ≡ Some GREATER_EQUAL
 unfolding operators
-operator-greater_equal = refl
+operator_greater_equal = refl
 
-pub operator-open_bracket : code_in operators (codes "[") ≡ Some OPEN_BRACKET
+pub operator_open_bracket : code_in operators (codes "[") ≡ Some OPEN_BRACKET
 unfolding operators
-operator-open_bracket = refl
+operator_open_bracket = refl
 
-pub operator-close_bracket : code_in operators (codes "]") ≡ Some CLOSE_BRACKET
+pub operator_close_bracket : code_in operators (codes "]") ≡ Some CLOSE_BRACKET
 unfolding operators
-operator-close_bracket = refl
+operator_close_bracket = refl
 
-pub operator-caret : code_in operators (codes "^") ≡ Some CARET
+pub operator_caret : code_in operators (codes "^") ≡ Some CARET
 unfolding operators
-operator-caret = refl
+operator_caret = refl
 
-pub operator-open_brace : code_in operators (codes "{") ≡ Some OPEN_BRACE
+pub operator_open_brace : code_in operators (codes "{") ≡ Some OPEN_BRACE
 unfolding operators
-operator-open_brace = refl
+operator_open_brace = refl
 
-pub operator-close_brace : code_in operators (codes "}") ≡ Some CLOSE_BRACE
+pub operator_close_brace : code_in operators (codes "}") ≡ Some CLOSE_BRACE
 unfolding operators
-operator-close_brace = refl
+operator_close_brace = refl
 
-pub function-abs : code_in functions (codes "abs") ≡ Some ABS
+pub function_abs : code_in functions (codes "abs") ≡ Some ABS
 unfolding functions
-function-abs = refl
+function_abs = refl
 
-pub function-acos : code_in functions (codes "acos") ≡ Some ACOS
+pub function_acos : code_in functions (codes "acos") ≡ Some ACOS
 unfolding functions
-function-acos = refl
+function_acos = refl
 
-pub function-asin : code_in functions (codes "asin") ≡ Some ASIN
+pub function_asin : code_in functions (codes "asin") ≡ Some ASIN
 unfolding functions
-function-asin = refl
+function_asin = refl
 
-pub function-atan : code_in functions (codes "atan") ≡ Some ATAN
+pub function_atan : code_in functions (codes "atan") ≡ Some ATAN
 unfolding functions
-function-atan = refl
+function_atan = refl
 
-pub function-atan2 : code_in functions (codes "atan2") ≡ Some ATAN2
+pub function_atan2 : code_in functions (codes "atan2") ≡ Some ATAN2
 unfolding functions
-function-atan2 = refl
+function_atan2 = refl
 
-pub function-cos : code_in functions (codes "cos") ≡ Some COS
+pub function_cos : code_in functions (codes "cos") ≡ Some COS
 unfolding functions
-function-cos = refl
+function_cos = refl
 
-pub function-cosh : code_in functions (codes "cosh") ≡ Some COSH
+pub function_cosh : code_in functions (codes "cosh") ≡ Some COSH
 unfolding functions
-function-cosh = refl
+function_cosh = refl
 
-pub function-cross : code_in functions (codes "cross") ≡ Some CROSS
+pub function_cross : code_in functions (codes "cross") ≡ Some CROSS
 unfolding functions
-function-cross = refl
+function_cross = refl
 
-pub function-div : code_in functions (codes "div") ≡ Some DIV
+pub function_div : code_in functions (codes "div") ≡ Some DIV
 unfolding functions
-function-div = refl
+function_div = refl
 
-pub function-exp : code_in functions (codes "exp") ≡ Some EXP
+pub function_exp : code_in functions (codes "exp") ≡ Some EXP
 unfolding functions
-function-exp = refl
+function_exp = refl
 
-pub function-fill : code_in functions (codes "fill") ≡ Some FILL
+pub function_fill : code_in functions (codes "fill") ≡ Some FILL
 unfolding functions
-function-fill = refl
+function_fill = refl
 
-pub function-identity : code_in functions (codes "identity") ≡ Some IDENTITY
+pub function_identity : code_in functions (codes "identity") ≡ Some IDENTITY
 unfolding functions
-function-identity = refl
+function_identity = refl
 
-pub function-log : code_in functions (codes "log") ≡ Some LOG
+pub function_log : code_in functions (codes "log") ≡ Some LOG
 unfolding functions
-function-log = refl
+function_log = refl
 
-pub function-log10 : code_in functions (codes "log10") ≡ Some LOG10
+pub function_log10 : code_in functions (codes "log10") ≡ Some LOG10
 unfolding functions
-function-log10 = refl
+function_log10 = refl
 
-pub function-max : code_in functions (codes "max") ≡ Some MAX
+pub function_max : code_in functions (codes "max") ≡ Some MAX
 unfolding functions
-function-max = refl
+function_max = refl
 
-pub function-min : code_in functions (codes "min") ≡ Some MIN
+pub function_min : code_in functions (codes "min") ≡ Some MIN
 unfolding functions
-function-min = refl
+function_min = refl
 
-pub function-mod : code_in functions (codes "mod") ≡ Some MOD
+pub function_mod : code_in functions (codes "mod") ≡ Some MOD
 unfolding functions
-function-mod = refl
+function_mod = refl
 
-pub function-ndims : code_in functions (codes "ndims") ≡ Some NDIMS
+pub function_ndims : code_in functions (codes "ndims") ≡ Some NDIMS
 unfolding functions
-function-ndims = refl
+function_ndims = refl
 
-pub function-no_event : code_in functions (codes "noEvent") ≡ Some NO_EVENT
+pub function_no_event : code_in functions (codes "noEvent") ≡ Some NO_EVENT
 unfolding functions
-function-no_event = refl
+function_no_event = refl
 
-pub function-ones : code_in functions (codes "ones") ≡ Some ONES
+pub function_ones : code_in functions (codes "ones") ≡ Some ONES
 unfolding functions
-function-ones = refl
+function_ones = refl
 
-pub function-product : code_in functions (codes "product") ≡ Some PRODUCT
+pub function_product : code_in functions (codes "product") ≡ Some PRODUCT
 unfolding functions
-function-product = refl
+function_product = refl
 
-pub function-rem : code_in functions (codes "rem") ≡ Some REM
+pub function_rem : code_in functions (codes "rem") ≡ Some REM
 unfolding functions
-function-rem = refl
+function_rem = refl
 
-pub function-sin : code_in functions (codes "sin") ≡ Some SIN
+pub function_sin : code_in functions (codes "sin") ≡ Some SIN
 unfolding functions
-function-sin = refl
+function_sin = refl
 
-pub function-sinh : code_in functions (codes "sinh") ≡ Some SINH
+pub function_sinh : code_in functions (codes "sinh") ≡ Some SINH
 unfolding functions
-function-sinh = refl
+function_sinh = refl
 
-pub function-size : code_in functions (codes "size") ≡ Some SIZE
+pub function_size : code_in functions (codes "size") ≡ Some SIZE
 unfolding functions
-function-size = refl
+function_size = refl
 
-pub function-sqrt : code_in functions (codes "sqrt") ≡ Some SQRT
+pub function_sqrt : code_in functions (codes "sqrt") ≡ Some SQRT
 unfolding functions
-function-sqrt = refl
+function_sqrt = refl
 
-pub function-sum : code_in functions (codes "sum") ≡ Some SUM
+pub function_sum : code_in functions (codes "sum") ≡ Some SUM
 unfolding functions
-function-sum = refl
+function_sum = refl
 
-pub function-tan : code_in functions (codes "tan") ≡ Some TAN
+pub function_tan : code_in functions (codes "tan") ≡ Some TAN
 unfolding functions
-function-tan = refl
+function_tan = refl
 
-pub function-tanh : code_in functions (codes "tanh") ≡ Some TANH
+pub function_tanh : code_in functions (codes "tanh") ≡ Some TANH
 unfolding functions
-function-tanh = refl
+function_tanh = refl
 
-pub function-transpose : code_in functions (codes "transpose") ≡ Some TRANSPOSE
+pub function_transpose : code_in functions (codes "transpose") ≡ Some TRANSPOSE
 unfolding functions
-function-transpose = refl
+function_transpose = refl
 
-pub function-zeros : code_in functions (codes "zeros") ≡ Some ZEROS
+pub function_zeros : code_in functions (codes "zeros") ≡ Some ZEROS
 unfolding functions
-function-zeros = refl
+function_zeros = refl

@@ -11,7 +11,7 @@ use Rattle.mo_syntax.specs.declared.place.Place.{Place}
 use Rattle.mo_syntax.specs.Classes.{Home, Under, Inside, Apart, ClassRow, Component, Class, Declared, Declaration, Outline, Outlined, apart, both, in_class, inside}
 use Rattle.mo_syntax.specs.ClassTable.{class_of_path, declarations, first_row, is_repeated, otherwise, path_eq, path_of, same_home}
 use Rattle.mo_syntax.specs.steps.Parts.{declares}
-use Rattle.mo_syntax.proofs.Searching.{first_row-append, path_eq-same, paths_same, untrue}
+use Rattle.mo_syntax.proofs.Searching.{first_row_append, path_eq_same, paths_same, untrue}
 use Rattle.mo_tree.proofs.Everywhere.{Closed}
 use Rattle.mo_tree.proofs.Numbering.{Stands, from_six, one_class}
 use Rattle.mo_tree.proofs.Repeating.{HasNumber, is_same, same_tests}
@@ -114,7 +114,7 @@ none_before path name (d ∷ ds) h =
     apart_from : (front : List (List ℕ)) → (path_eq front path && bytes_eq d.name name) ≡ false → path_eq (front ++ d.name ∷ []) (path ++ name ∷ []) ≡ false
     apart_from front no_one = untrue _ (λ same.
         let parts = last_same front path d.name name (paths_same (front ++ d.name ∷ []) (path ++ name ∷ []) same) in
-        let yes : (path_eq front path && bytes_eq d.name name) ≡ true = rw (ap (λ p. path_eq front p) (sym parts.0) ∙ path_eq-same front, (bytes_eq-Decides d.name name).1 parts.1) refl in
+        let yes : (path_eq front path && bytes_eq d.name name) ≡ true = rw (ap (λ p. path_eq front p) (sym parts.0) ∙ path_eq_same front, (bytes_eq-Decides d.name name).1 parts.1) refl in
         let clash : false ≡ true = sym no_one ∙ yes in cc)
 
     other : (home : Home) (w : Declared) → (same_home home (Under path) && bytes_eq d.name name) ≡ false → row_with (path ++ name ∷ []) w (path_under home d.name) ≡ None
@@ -200,7 +200,7 @@ module _ (all : List FileTree) where
       to same = eq-eqb n m (same_some n m (sym x ∙ ap number_of_path (paths_same p q same) ∙ y))
 
       from : nat_eq n m ≡ true → path_eq p q ≡ true
-      from same = ap (path_eq p) (sym (one_path p q n x (y ∙ ap (λ k. Some k) (sym (eqb-true n m same))))) ∙ path_eq-same p
+      from same = ap (path_eq p) (sym (one_path p q n x (y ∙ ap (λ k. Some k) (sym (eqb-true n m same))))) ∙ path_eq_same p
   same_number (Under p) (Inside n) (Inside m) _ (of_path x) (of_class none) = sym (untrue (nat_eq n m) (λ same. none p (x ∙ ap (λ k. Some k) (eqb-true n m same))))
   same_number (Under p) (Inside n) Apart Apart (of_path x) of_none = refl
   same_number (Inside n) _ (Under q) (Inside m) (of_class none) (of_path y) = sym (untrue (nat_eq n m) (λ same. none q (y ∙ ap (λ k. Some k) (sym (eqb-true n m same)))))
@@ -302,12 +302,12 @@ module _ (all : List FileTree) where
       is_repeated before d ≡ false → class_of_path all (path ++ d.name ∷ []) ≡ Some row
   first_of_path before behind d row path is what home new =
       let longer : List (List ℕ) = path ++ d.name ∷ [] in
-      ap (first_row longer) is ∙ first_row-append longer before (d ∷ behind)
+      ap (first_row longer) is ∙ first_row_append longer before (d ∷ behind)
       ∙ ap (λ (r : Option ClassRow). otherwise r (first_row longer (d ∷ behind))) (none_before path d.name before (subst (λ h. list_any (is_same h d.name) before ≡ false) home new))
       ∙ first_is longer d behind
       ∙ ap (λ w. otherwise (row_with longer w (path_under d.home d.name)) (first_row longer behind)) what
       ∙ ap (λ h. otherwise (row_with longer (Class row) (path_under h d.name)) (first_row longer behind)) home
-      ∙ ap (λ b. otherwise (if b then Some row else None) (first_row longer behind)) (path_eq-same longer)
+      ∙ ap (λ b. otherwise (if b then Some row else None) (first_row longer behind)) (path_eq_same longer)
 
   abbrev row_of : Bool → ClassDefOf (Outlined Body) → ℕ → ClassRow
   row_of outermost class n = record {

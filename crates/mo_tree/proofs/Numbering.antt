@@ -12,12 +12,12 @@ abbrev numbers_from : ℕ → ℕ → List ℕ
 numbers_from n zero = []
 numbers_from n (suc k) = n ∷ numbers_from (n + 1) k
 
-numbers_from-append : (n a b : ℕ) → numbers_from n (a + b) ≡ numbers_from n a ++ numbers_from (n + a) b
-numbers_from-append n zero b = ap (numbers_from n) (omega arith) ∙ ap (λ m. numbers_from m b) (omega arith)
-numbers_from-append n (suc a) b =
+numbers_from_append : (n a b : ℕ) → numbers_from n (a + b) ≡ numbers_from n a ++ numbers_from (n + a) b
+numbers_from_append n zero b = ap (numbers_from n) (omega arith) ∙ ap (λ m. numbers_from m b) (omega arith)
+numbers_from_append n (suc a) b =
     let more : suc a + b ≡ suc (a + b) = omega arith in
     let on : (n + 1) + a ≡ n + suc a = omega arith in
-    ap (numbers_from n) more ∙ ap (λ l. n ∷ l) (numbers_from-append (n + 1) a b ∙ ap (λ m. numbers_from (n + 1) a ++ numbers_from m b) on)
+    ap (numbers_from n) more ∙ ap (λ l. n ∷ l) (numbers_from_append (n + 1) a b ∙ ap (λ m. numbers_from (n + 1) a ++ numbers_from m b) on)
 
 abbrev number_in : Declared → List ℕ
 number_in Component = []
@@ -36,7 +36,7 @@ counts_both a b ca cb home n =
     flat_map-append (λ (d : Declaration). number_in d.what) (a.declared home n) (b.declared home (n + a.classes))
     ∙ ap (λ l. l ++ numbers_of (b.declared home (n + a.classes))) (ca home n)
     ∙ ap (λ l. numbers_from n a.classes ++ l) (cb home (n + a.classes))
-    ∙ sym (numbers_from-append n a.classes b.classes)
+    ∙ sym (numbers_from_append n a.classes b.classes)
 
 one_more : (k : ℕ) → suc k ≡ 1 + k
 one_more k = omega arith

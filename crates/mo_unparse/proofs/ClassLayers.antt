@@ -32,21 +32,21 @@ use Rattle.mo_pieces.specs.ShownEquations.{pieces_of_equation, pieces_of_stateme
 use Rattle.mo_pieces.specs.ShownModifiers.{ShownGive, pieces_of_binding, argument_with, arguments_with, mods_with}
 use Rattle.mo_pieces.specs.ShownElements.{ShownElement, ShownItem, pieces_of_causal, type_of, value_of, component_with, pieces_of_flags, limit_with, extends_with, pieces_of_import, section_of}
 use Rattle.mo_pieces.specs.ShownClasses.{ShownBody, name_with, inside_of, short_with, enumeration_of, derivative_of, section_with, in_body, in_give, in_item, in_what, in_element, shown_body, shown_give, shown_item, pieces_of_what, shown_element, pieces_of_class, pieces_of_element}
-use Rattle.mo_unparse.proofs.Rows.{in_row-map}
+use Rattle.mo_unparse.proofs.Rows.{in_row_map}
 
 -- ---- modifier lists are mapped argument by argument
 
-arguments-map : (h : ArgumentOf Give → ArgumentOf ShownGive) → ((a : ArgumentOf Give) → argument_with (λ give. give) (h a) ≡ argument_with shown_give a) → (xs : List (ArgumentOf Give)) →
+arguments_map : (h : ArgumentOf Give → ArgumentOf ShownGive) → ((a : ArgumentOf Give) → argument_with (λ give. give) (h a) ≡ argument_with shown_give a) → (xs : List (ArgumentOf Give)) →
     arguments_with (λ give. give) (map h xs) ≡ arguments_with shown_give xs
-arguments-map h same [] = refl
-arguments-map h same (x ∷ xs) = ap in_parentheses (in_row-map (λ first a. (if first then [] else a_comma) ++ argument_with (λ give. give) a) (λ first a. (if first then [] else a_comma) ++ argument_with shown_give a) h (λ first a. ap (λ t. (if first then [] else a_comma) ++ t) (same a)) (x ∷ xs))
+arguments_map h same [] = refl
+arguments_map h same (x ∷ xs) = ap in_parentheses (in_row_map (λ first a. (if first then [] else a_comma) ++ argument_with (λ give. give) a) (λ first a. (if first then [] else a_comma) ++ argument_with shown_give a) h (λ first a. ap (λ t. (if first then [] else a_comma) ++ t) (same a)) (x ∷ xs))
 
 -- ---- what an argument gives
 
 pub at_Modify : (mods : ModsOf Give) (value : Option Expr) (flags name : List Piece) → shown_give (Modify mods value) flags name ≡ flags ++ (name ++ (mods_with shown_give mods ++ pieces_of_binding value))
 at_Modify mods value flags name = ap (λ f. f flags name) (ap shown_give (sym (rolls-Modify mods value))
     ∙ fold-roll-Give ShownBody ShownGive ShownItem (List Piece) ShownElement in_body in_give in_item in_what in_element (Give-F.Modify mods value))
-    ∙ ap (λ t. flags ++ (name ++ (t ++ pieces_of_binding value))) (arguments-map _ (λ a. refl) mods.0)
+    ∙ ap (λ t. flags ++ (name ++ (t ++ pieces_of_binding value))) (arguments_map _ (λ a. refl) mods.0)
 
 pub at_Redeclare : (element : Element) (flags name : List Piece) → shown_give (Redeclare element) flags name ≡ a_word (codes "redeclare") ∷ a_blank ∷ flags ++ pieces_of_element element
 at_Redeclare element flags name = ap (λ f. f flags name) (ap shown_give (sym (rolls-Redeclare element))
@@ -64,12 +64,12 @@ at_Long None items external name = ap (λ f. f name) (ap shown_body (sym (rolls-
     ∙ fold-roll-Body ShownBody ShownGive ShownItem (List Piece) ShownElement in_body in_give in_item in_what in_element (Body-F.Long None items external))
 at_Long (Some mods) items external name = ap (λ f. f name) (ap shown_body (sym (rolls-Long (Some mods) items external))
     ∙ fold-roll-Body ShownBody ShownGive ShownItem (List Piece) ShownElement in_body in_give in_item in_what in_element (Body-F.Long (Some mods) items external))
-    ∙ ap (λ t. (a_word (codes "extends") ∷ a_blank ∷ a_name name ∷ t) ++ inside_of (map shown_item items) external name) (arguments-map _ (λ a. refl) mods.0)
+    ∙ ap (λ t. (a_word (codes "extends") ∷ a_blank ∷ a_name name ∷ t) ++ inside_of (map shown_item items) external name) (arguments_map _ (λ a. refl) mods.0)
 
 pub at_Short : (causal : Causal) (base : ReferenceOf Expr) (subs : List (Option Expr)) (mods : ModsOf Give) (name : List ℕ) → shown_body (Short causal base subs mods) name ≡ short_with shown_give causal base subs mods name
 at_Short causal base subs mods name = ap (λ f. f name) (ap shown_body (sym (rolls-Short causal base subs mods))
     ∙ fold-roll-Body ShownBody ShownGive ShownItem (List Piece) ShownElement in_body in_give in_item in_what in_element (Body-F.Short causal base subs mods))
-    ∙ ap (λ t. a_name name ∷ spaced (a_mark (codes "=")) ++ (pieces_of_causal causal ++ (pieces_of_reference base ++ (pieces_of_subscripts subs ++ t)))) (arguments-map _ (λ a. refl) mods.0)
+    ∙ ap (λ t. a_name name ∷ spaced (a_mark (codes "=")) ++ (pieces_of_causal causal ++ (pieces_of_reference base ++ (pieces_of_subscripts subs ++ t)))) (arguments_map _ (λ a. refl) mods.0)
 
 pub at_Enumeration : (literals : Option (List (List ℕ))) (name : List ℕ) → shown_body (Enumeration literals) name ≡ enumeration_of literals name
 at_Enumeration literals name = ap (λ f. f name) (ap shown_body (sym (rolls-Enumeration literals))
@@ -88,7 +88,7 @@ at_Import clause = ap shown_item (sym (rolls-Import clause))
 pub at_Extends : (clause : ExtendsOf Give) → shown_item (Extends clause) ≡ record { section = Some (section_of clause.hidden); pieces = on_a_line (extends_with shown_give clause) }
 at_Extends clause = ap shown_item (sym (rolls-Extends clause))
     ∙ fold-roll-Item ShownBody ShownGive ShownItem (List Piece) ShownElement in_body in_give in_item in_what in_element (Item-F.Extends clause)
-    ∙ ap (λ t. let item : ShownItem = record { section = Some (section_of clause.hidden); pieces = on_a_line (a_word (codes "extends") ∷ a_blank ∷ pieces_of_reference clause.base ++ t) } in item) (arguments-map _ (λ a. refl) clause.mods.0)
+    ∙ ap (λ t. let item : ShownItem = record { section = Some (section_of clause.hidden); pieces = on_a_line (a_word (codes "extends") ∷ a_blank ∷ pieces_of_reference clause.base ++ t) } in item) (arguments_map _ (λ a. refl) clause.mods.0)
 
 pub at_Member : (element : Element) → shown_item (Member element) ≡ record { section = Some (shown_element element).section; pieces = on_a_line (pieces_of_element element) }
 at_Member element = ap shown_item (sym (rolls-Member element))
@@ -111,7 +111,7 @@ at_Class class = ap pieces_of_what (sym (rolls-Class class))
 pub at_Component : (component : ComponentOf Give) → pieces_of_what (Component component) ≡ component_with shown_give component
 at_Component component = ap pieces_of_what (sym (rolls-Component component))
     ∙ fold-roll-What ShownBody ShownGive ShownItem (List Piece) ShownElement in_body in_give in_item in_what in_element (What-F.Component component)
-    ∙ ap (λ t. type_of component ++ (a_blank ∷ a_name component.name ∷ pieces_of_subscripts component.subs ++ (t ++ value_of component))) (arguments-map _ (λ a. refl) component.mods.0)
+    ∙ ap (λ t. type_of component ++ (a_blank ∷ a_name component.name ∷ pieces_of_subscripts component.subs ++ (t ++ value_of component))) (arguments_map _ (λ a. refl) component.mods.0)
 
 -- an element from the pieces of its parts
 abbrev element_of : ElementFlags → List Piece → List Piece → ShownElement
@@ -123,7 +123,7 @@ rolled flags what None =
     fold-roll-Element ShownBody ShownGive ShownItem (List Piece) ShownElement in_body in_give in_item in_what in_element (record { flags = flags; what = what; limit = None })
 rolled flags what (Some limit) =
     fold-roll-Element ShownBody ShownGive ShownItem (List Piece) ShownElement in_body in_give in_item in_what in_element (record { flags = flags; what = what; limit = Some limit })
-    ∙ ap (λ t. element_of flags (pieces_of_what what) (spaced (a_word (codes "constrainedby")) ++ (pieces_of_reference limit.0 ++ t))) (arguments-map _ (λ a. refl) limit.1.0)
+    ∙ ap (λ t. element_of flags (pieces_of_what what) (spaced (a_word (codes "constrainedby")) ++ (pieces_of_reference limit.0 ++ t))) (arguments_map _ (λ a. refl) limit.1.0)
 
 at_element : (element : Element) → shown_element element ≡ element_of (out-Element element).flags (pieces_of_what (out-Element element).what) (limit_with shown_give (out-Element element).limit)
 at_element element = ap shown_element (sym (roll-out-Element element)) ∙ rolled (out-Element element).flags (out-Element element).what (out-Element element).limit

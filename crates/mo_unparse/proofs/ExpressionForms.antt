@@ -22,12 +22,12 @@ use Rattle.mo_pieces.specs.Pieces.{Piece, a_name, a_mark, a_word, a_blank, a_who
 use Rattle.std.specs.Prelude.{if◌then◌else◌}
 use Rattle.std.specs.Fmt.{signed_decimal}
 use Rattle.mo_pieces.specs.ShownExpressions.{Shown, itself, show_arg, show_node, node_level, node_pieces, show_args, show_expr, shown_expr, shown_node, pieces_of_node, pieces_of_arg, pieces_of_args, pieces_of_expr, pieces_of_reference, pieces_of_outputs, callee_pieces, terms_pieces, factors_pieces, chain_pieces, operand, term_pieces, factor_pieces, step_pieces, branch_pieces, output_pieces, row_pieces, iterators_pieces, given_pieces, named_pieces, in_parentheses, in_braces, in_brackets, in_row, joined_by, a_comma, a_semicolon, spaced, commas, subscript_pieces, part_pieces, subscripts_pieces, index_pieces, power_mark, relation_mark, top_pieces}
-use Rattle.mo_unparse.proofs.Rows.{in_row-map, map-same, commas-append}
+use Rattle.mo_unparse.proofs.Rows.{in_row_map, map_same, commas_append}
 
 -- ---- lists of parts that became pieces
 
-pub joined-map : {A B : Type 0} (mark : List Piece) (f : B → List Piece) (g : A → List Piece) (h : A → B) → ((a : A) → f (h a) ≡ g a) → (xs : List A) → joined_by mark f (map h xs) ≡ joined_by mark g xs
-joined-map mark f g h same xs = in_row-map (λ first x. (if first then [] else mark) ++ f x) (λ first x. (if first then [] else mark) ++ g x) h (λ first a. ap (λ t. (if first then [] else mark) ++ t) (same a)) xs
+pub joined_map : {A B : Type 0} (mark : List Piece) (f : B → List Piece) (g : A → List Piece) (h : A → B) → ((a : A) → f (h a) ≡ g a) → (xs : List A) → joined_by mark f (map h xs) ≡ joined_by mark g xs
+joined_map mark f g h same xs = in_row_map (λ first x. (if first then [] else mark) ++ f x) (λ first x. (if first then [] else mark) ++ g x) h (λ first a. ap (λ t. (if first then [] else mark) ++ t) (same a)) xs
 
 output_same : (o : Option Expr) → output_pieces itself (shapes.former-Node-Tuple-0-at-1.map Expr Shown shown_expr o) ≡ output_pieces shown_expr o
 output_same None = refl
@@ -39,7 +39,7 @@ subscript_same (Some e) = refl
 
 subscripts_same : (xs : List (Option Expr)) → subscripts_pieces itself (map (shapes.former-Node-Tuple-0-at-1.map Expr Shown shown_expr) xs) ≡ subscripts_pieces shown_expr xs
 subscripts_same [] = refl
-subscripts_same (x ∷ xs) = ap in_brackets (joined-map a_comma (subscript_pieces itself) (subscript_pieces shown_expr) (shapes.former-Node-Tuple-0-at-1.map Expr Shown shown_expr) subscript_same (x ∷ xs))
+subscripts_same (x ∷ xs) = ap in_brackets (joined_map a_comma (subscript_pieces itself) (subscript_pieces shown_expr) (shapes.former-Node-Tuple-0-at-1.map Expr Shown shown_expr) subscript_same (x ∷ xs))
 
 part_same : (p : PartOf Expr) → part_pieces itself (shapes.former-Node-Call-0-at-6.map Expr Shown shown_expr p) ≡ part_pieces shown_expr p
 part_same p = ap (λ t. a_name p.name ∷ t) (subscripts_same p.subs)
@@ -53,13 +53,13 @@ index_same i = index_at i.name i.range
 
 iterators_same : (xs : List (IndexOf Expr)) → iterators_pieces itself (map (shapes.former-Node-ArrayFor-1-at-3.map Expr Shown shown_expr) xs) ≡ iterators_pieces shown_expr xs
 iterators_same [] = refl
-iterators_same (x ∷ xs) = ap (λ t. spaced (a_word (codes "for")) ++ t) (joined-map a_comma (index_pieces itself) (index_pieces shown_expr) (shapes.former-Node-ArrayFor-1-at-3.map Expr Shown shown_expr) index_same (x ∷ xs))
+iterators_same (x ∷ xs) = ap (λ t. spaced (a_word (codes "for")) ++ t) (joined_map a_comma (index_pieces itself) (index_pieces shown_expr) (shapes.former-Node-ArrayFor-1-at-3.map Expr Shown shown_expr) index_same (x ∷ xs))
 
 row_same : (es : List Expr) → row_pieces itself (map shown_expr es) ≡ row_pieces shown_expr es
-row_same es = joined-map a_comma (λ e. e.pieces) pieces_of_expr shown_expr (λ e. refl) es
+row_same es = joined_map a_comma (λ e. e.pieces) pieces_of_expr shown_expr (λ e. refl) es
 
 named_same : (named : List (Text × Arg)) → commas (named_pieces (λ arg. arg)) (map (λ n. (n.0, pieces_of_arg n.1)) named) ≡ commas (named_pieces pieces_of_arg) named
-named_same named = joined-map a_comma (named_pieces (λ arg. arg)) (named_pieces pieces_of_arg) (λ n. (n.0, pieces_of_arg n.1)) (λ n. refl) named
+named_same named = joined_map a_comma (named_pieces (λ arg. arg)) (named_pieces pieces_of_arg) (λ n. (n.0, pieces_of_arg n.1)) (λ n. refl) named
 
 -- ---- each form
 
@@ -92,13 +92,13 @@ pub at_EndMark : pieces_of_node EndMark ≡ a_word (codes "end") ∷ []
 at_EndMark = pieces_at EndMark _ (outs-EndMark)
 
 pub at_Ref : (r : ReferenceOf Expr) → pieces_of_node (Ref r) ≡ pieces_of_reference r
-at_Ref r = pieces_at (Ref r) _ (outs-Ref r) ∙ (ap (λ t. top_pieces r.top ++ t) (joined-map (a_mark (codes ".") ∷ []) (part_pieces itself) (part_pieces shown_expr) (shapes.former-Node-Call-0-at-6.map Expr Shown shown_expr) part_same r.parts))
+at_Ref r = pieces_at (Ref r) _ (outs-Ref r) ∙ (ap (λ t. top_pieces r.top ++ t) (joined_map (a_mark (codes ".") ∷ []) (part_pieces itself) (part_pieces shown_expr) (shapes.former-Node-Call-0-at-6.map Expr Shown shown_expr) part_same r.parts))
 
 pub at_Sum : (terms : List (TermOf Expr)) → pieces_of_node (Sum terms) ≡ terms_pieces shown_expr terms
-at_Sum terms = pieces_at (Sum terms) _ (outs-Sum terms) ∙ (in_row-map {B = TermOf Shown} (term_pieces itself) (term_pieces shown_expr) _ (λ first t. refl) terms)
+at_Sum terms = pieces_at (Sum terms) _ (outs-Sum terms) ∙ (in_row_map {B = TermOf Shown} (term_pieces itself) (term_pieces shown_expr) _ (λ first t. refl) terms)
 
 pub at_Product : (factors : List (FactorOf Expr)) → pieces_of_node (Product factors) ≡ factors_pieces shown_expr factors
-at_Product factors = pieces_at (Product factors) _ (outs-Product factors) ∙ (in_row-map {B = FactorOf Shown} (factor_pieces itself) (factor_pieces shown_expr) _ (λ first t. refl) factors)
+at_Product factors = pieces_at (Product factors) _ (outs-Product factors) ∙ (in_row_map {B = FactorOf Shown} (factor_pieces itself) (factor_pieces shown_expr) _ (λ first t. refl) factors)
 
 pub at_Power : (a : Expr) (dotted : Bool) (b : Expr) → pieces_of_node (Power a dotted b) ≡ operand 9 (shown_expr a) ++ power_mark dotted ++ operand 9 (shown_expr b)
 at_Power a dotted b = pieces_at (Power a dotted b) _ (outs-Power a dotted b)
@@ -110,26 +110,26 @@ pub at_Not : (a : Expr) → pieces_of_node (Not a) ≡ a_word (codes "not") ∷ 
 at_Not a = pieces_at (Not a) _ (outs-Not a)
 
 pub at_All : (es : List Expr) → pieces_of_node (All es) ≡ chain_pieces (codes "and") 4 shown_expr es
-at_All es = pieces_at (All es) _ (outs-All es) ∙ joined-map (spaced (a_word (codes "and"))) (operand 4) (λ e. operand 4 (shown_expr e)) shown_expr (λ e. refl) es
+at_All es = pieces_at (All es) _ (outs-All es) ∙ joined_map (spaced (a_word (codes "and"))) (operand 4) (λ e. operand 4 (shown_expr e)) shown_expr (λ e. refl) es
 
 pub at_Any : (es : List Expr) → pieces_of_node (Any es) ≡ chain_pieces (codes "or") 3 shown_expr es
-at_Any es = pieces_at (Any es) _ (outs-Any es) ∙ joined-map (spaced (a_word (codes "or"))) (operand 3) (λ e. operand 3 (shown_expr e)) shown_expr (λ e. refl) es
+at_Any es = pieces_at (Any es) _ (outs-Any es) ∙ joined_map (spaced (a_word (codes "or"))) (operand 3) (λ e. operand 3 (shown_expr e)) shown_expr (λ e. refl) es
 
 pub at_Range : (a : Expr) (step : Option Expr) (b : Expr) → pieces_of_node (Range a step b) ≡ operand 2 (shown_expr a) ++ a_mark (codes ":") ∷ step_pieces shown_expr step ++ operand 2 (shown_expr b)
 at_Range a None b = pieces_at (Range a None b) _ (outs-Range a None b)
 at_Range a (Some c) b = pieces_at (Range a (Some c) b) _ (outs-Range a (Some c) b)
 
 pub at_If : (bs : List (BranchOf Expr)) (e : Expr) → pieces_of_node (If bs e) ≡ in_row (branch_pieces shown_expr) bs ++ spaced (a_word (codes "else")) ++ pieces_of_expr e
-at_If bs e = pieces_at (If bs e) _ (outs-If bs e) ∙ (ap (λ t. t ++ spaced (a_word (codes "else")) ++ pieces_of_expr e) (in_row-map {B = BranchOf Shown} (branch_pieces itself) (branch_pieces shown_expr) _ (λ first b. refl) bs))
+at_If bs e = pieces_at (If bs e) _ (outs-If bs e) ∙ (ap (λ t. t ++ spaced (a_word (codes "else")) ++ pieces_of_expr e) (in_row_map {B = BranchOf Shown} (branch_pieces itself) (branch_pieces shown_expr) _ (λ first b. refl) bs))
 
 pub at_Call : (callee : CalleeOf Expr) (args : Args) → pieces_of_node (Call callee args) ≡ callee_pieces shown_expr callee ++ pieces_of_args args
-at_Call (Named r) args = pieces_at (Call (Named r) args) _ (outs-Call (Named r) args) ∙ (ap (λ t. (top_pieces r.top ++ t) ++ pieces_of_args args) (joined-map (a_mark (codes ".") ∷ []) (part_pieces itself) (part_pieces shown_expr) (shapes.former-Node-Call-0-at-6.map Expr Shown shown_expr) part_same r.parts))
+at_Call (Named r) args = pieces_at (Call (Named r) args) _ (outs-Call (Named r) args) ∙ (ap (λ t. (top_pieces r.top ++ t) ++ pieces_of_args args) (joined_map (a_mark (codes ".") ∷ []) (part_pieces itself) (part_pieces shown_expr) (shapes.former-Node-Call-0-at-6.map Expr Shown shown_expr) part_same r.parts))
 at_Call Der args = pieces_at (Call Der args) _ (outs-Call Der args)
 at_Call Initial args = pieces_at (Call Initial args) _ (outs-Call Initial args)
 at_Call Pure args = pieces_at (Call Pure args) _ (outs-Call Pure args)
 
 pub at_Tuple : (es : List (Option Expr)) → pieces_of_node (Tuple es) ≡ in_parentheses (pieces_of_outputs es)
-at_Tuple es = pieces_at (Tuple es) _ (outs-Tuple es) ∙ (ap in_parentheses (joined-map a_comma (output_pieces itself) (output_pieces shown_expr) (shapes.former-Node-Tuple-0-at-1.map Expr Shown shown_expr) output_same es))
+at_Tuple es = pieces_at (Tuple es) _ (outs-Tuple es) ∙ (ap in_parentheses (joined_map a_comma (output_pieces itself) (output_pieces shown_expr) (shapes.former-Node-Tuple-0-at-1.map Expr Shown shown_expr) output_same es))
 
 pub at_Array : (es : List Expr) → pieces_of_node (Array es) ≡ in_braces (row_pieces shown_expr es)
 at_Array es = pieces_at (Array es) _ (outs-Array es) ∙ ap in_braces (row_same es)
@@ -138,7 +138,7 @@ pub at_ArrayFor : (e : Expr) (is : List (IndexOf Expr)) → pieces_of_node (Arra
 at_ArrayFor e is = pieces_at (ArrayFor e is) _ (outs-ArrayFor e is) ∙ (ap (λ t. in_braces (pieces_of_expr e ++ t)) (iterators_same is))
 
 pub at_Matrix : (rows : List (List Expr)) → pieces_of_node (Matrix rows) ≡ in_brackets (joined_by a_semicolon (row_pieces shown_expr) rows)
-at_Matrix rows = pieces_at (Matrix rows) _ (outs-Matrix rows) ∙ ap in_brackets (joined-map a_semicolon (row_pieces itself) (row_pieces shown_expr) (map shown_expr) row_same rows)
+at_Matrix rows = pieces_at (Matrix rows) _ (outs-Matrix rows) ∙ ap in_brackets (joined_map a_semicolon (row_pieces itself) (row_pieces shown_expr) (map shown_expr) row_same rows)
 
 abbrev argument_shown : Arg-F Arg Node Args Expr → Arg-F (List Piece) Shown (List Piece) Shown
 argument_shown = map-Arg Arg Node Args Expr (List Piece) Shown (List Piece) Shown pieces_of_arg shown_node pieces_of_args shown_expr
@@ -155,13 +155,13 @@ two a b c d p q = cc
 pub at_Partial : (function : ReferenceOf Expr) (named : List (Text × Arg)) → pieces_of_arg (Partial function named) ≡ a_word (codes "function") ∷ a_blank ∷ pieces_of_reference function ++ in_parentheses (commas (named_pieces pieces_of_arg) named)
 at_Partial function named =
     arg_at (Partial function named) _ (outs-Partial function named) ∙
-    (ap (λ t. a_word (codes "function") ∷ a_blank ∷ t) (two _ _ _ _ (ap (λ t. top_pieces function.top ++ t) (joined-map (a_mark (codes ".") ∷ []) (part_pieces itself) (part_pieces shown_expr) (shapes.former-Node-Call-0-at-6.map Expr Shown shown_expr) part_same function.parts)) (ap in_parentheses (named_same named))))
+    (ap (λ t. a_word (codes "function") ∷ a_blank ∷ t) (two _ _ _ _ (ap (λ t. top_pieces function.top ++ t) (joined_map (a_mark (codes ".") ∷ []) (part_pieces itself) (part_pieces shown_expr) (shapes.former-Node-Call-0-at-6.map Expr Shown shown_expr) part_same function.parts)) (ap in_parentheses (named_same named))))
 
 given_same : (plain : List Arg) (named : List (Text × Arg)) → given_pieces (λ a. a) (map pieces_of_arg plain) (map (λ n. (n.0, pieces_of_arg n.1)) named) ≡ given_pieces pieces_of_arg plain named
 given_same plain named =
-    let one : map (λ a. a) (map pieces_of_arg plain) ≡ map pieces_of_arg plain = map-same (λ a. a) pieces_of_arg pieces_of_arg (λ a. refl) plain in
+    let one : map (λ a. a) (map pieces_of_arg plain) ≡ map pieces_of_arg plain = map_same (λ a. a) pieces_of_arg pieces_of_arg (λ a. refl) plain in
     let other : map (named_pieces (λ a. a)) (map (λ n. (n.0, pieces_of_arg n.1)) named) ≡ map (named_pieces pieces_of_arg) named =
-    map-same (named_pieces (λ a. a)) (named_pieces pieces_of_arg) (λ n. (n.0, pieces_of_arg n.1)) (λ n. refl) named in
+    map_same (named_pieces (λ a. a)) (named_pieces pieces_of_arg) (λ n. (n.0, pieces_of_arg n.1)) (λ n. refl) named in
     ap (commas (λ x. x)) (appended _ _ _ _ one other)
   where
     appended : (a b c d : List (List Piece)) → a ≡ b → c ≡ d → a ++ c ≡ b ++ d
@@ -176,9 +176,9 @@ pub ruleset forms = (at_Ref, at_Sum, at_Product, at_All, at_Any, at_Range, at_If
 given_split : (plain : List Arg) (named : List (Text × Arg)) (p q : Bool) → p ≡ eqb (length plain) 0 → q ≡ eqb (length named) 0 →
     given_pieces pieces_of_arg plain named ≡ commas pieces_of_arg plain ++ (if p then [] else (if q then [] else a_comma)) ++ commas (named_pieces pieces_of_arg) named
 given_split plain named p q e d =
-    let one = joined-map a_comma (λ x. x) pieces_of_arg pieces_of_arg (λ a. refl) plain in
-    let other = joined-map a_comma (λ x. x) (named_pieces pieces_of_arg) (named_pieces pieces_of_arg) (λ a. refl) named in
-    commas-append (λ x. x) (map pieces_of_arg plain) (map (named_pieces pieces_of_arg) named) p q (e ∙ ap (λ n. eqb n 0) (sym (length-map plain pieces_of_arg))) (d ∙ ap (λ n. eqb n 0) (sym (length-map named (named_pieces pieces_of_arg))))
+    let one = joined_map a_comma (λ x. x) pieces_of_arg pieces_of_arg (λ a. refl) plain in
+    let other = joined_map a_comma (λ x. x) (named_pieces pieces_of_arg) (named_pieces pieces_of_arg) (λ a. refl) named in
+    commas_append (λ x. x) (map pieces_of_arg plain) (map (named_pieces pieces_of_arg) named) p q (e ∙ ap (λ n. eqb n 0) (sym (length-map plain pieces_of_arg))) (d ∙ ap (λ n. eqb n 0) (sym (length-map named (named_pieces pieces_of_arg))))
     ∙ ap (λ t. t ++ (if p then [] else (if q then [] else a_comma)) ++ commas (λ x. x) (map (named_pieces pieces_of_arg) named)) one ∙ ap (λ t. commas pieces_of_arg plain ++ (if p then [] else (if q then [] else a_comma)) ++ t) other
 
 in_order : (before a b c d e f g0 g1 g2 g3 g4 after : List Piece) → g0 ≡ before ++ a → g1 ≡ g0 ++ b → g2 ≡ g1 ++ c → g3 ≡ g2 ++ d → g4 ≡ g3 ++ e → after ≡ g4 ++ f → after ≡ before ++ (a ++ (((b ++ c) ++ d) ++ e) ++ f)

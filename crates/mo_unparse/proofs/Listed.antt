@@ -4,29 +4,29 @@ use Rattle.std.specs.Prelude.{flat_map, codes, if◌then◌else◌}
 use Rattle.mo_syntax.specs.declared.expr.Expr.{Expr}
 use Rattle.mo_pieces.specs.Pieces.{Piece, a_word, a_line, deeper, shallower}
 use Rattle.mo_pieces.specs.Lines.{on_a_line, lines_of, block_of}
-use Rattle.mo_unparse.proofs.Rows.{row_step, in_row-map}
+use Rattle.mo_unparse.proofs.Rows.{row_step, in_row_map}
 use Rattle.mo_pieces.proofs.Written.{after_two}
 use Rattle.mo_pieces.specs.ShownEquations.{branch_of, branches_of, else_of}
 
 -- ---- mapped parts
 
-pub flat_map-map : {A B C : Type 0} (h : A → B) (f : B → List C) (g : A → List C) → ((a : A) → f (h a) ≡ g a) → (xs : List A) → flat_map f (map h xs) ≡ flat_map g xs
-flat_map-map h f g same [] = refl
-flat_map-map h f g same (x ∷ xs) = ap (λ t. t ++ flat_map f (map h xs)) (same x) ∙ ap (λ t. g x ++ t) (flat_map-map h f g same xs)
+pub flat_map_map : {A B C : Type 0} (h : A → B) (f : B → List C) (g : A → List C) → ((a : A) → f (h a) ≡ g a) → (xs : List A) → flat_map f (map h xs) ≡ flat_map g xs
+flat_map_map h f g same [] = refl
+flat_map_map h f g same (x ∷ xs) = ap (λ t. t ++ flat_map f (map h xs)) (same x) ∙ ap (λ t. g x ++ t) (flat_map_map h f g same xs)
 
-pub lines-map : {A B : Type 0} (h : A → B) (f : B → List Piece) (g : A → List Piece) → ((a : A) → f (h a) ≡ g a) → (xs : List A) → lines_of f (map h xs) ≡ lines_of g xs
-lines-map h f g same xs = flat_map-map h (λ part. on_a_line (f part)) (λ part. on_a_line (g part)) (λ a. ap on_a_line (same a)) xs
+pub lines_map : {A B : Type 0} (h : A → B) (f : B → List Piece) (g : A → List Piece) → ((a : A) → f (h a) ≡ g a) → (xs : List A) → lines_of f (map h xs) ≡ lines_of g xs
+lines_map h f g same xs = flat_map_map h (λ part. on_a_line (f part)) (λ part. on_a_line (g part)) (λ a. ap on_a_line (same a)) xs
 
-pub block-map : {A B : Type 0} (h : A → B) (f : B → List Piece) (g : A → List Piece) → ((a : A) → f (h a) ≡ g a) → (xs : List A) → block_of f (map h xs) ≡ block_of g xs
-block-map h f g same xs = ap (λ t. deeper ∷ t ++ shallower ∷ []) (lines-map h f g same xs)
+pub block_map : {A B : Type 0} (h : A → B) (f : B → List Piece) (g : A → List Piece) → ((a : A) → f (h a) ≡ g a) → (xs : List A) → block_of f (map h xs) ≡ block_of g xs
+block_map h f g same xs = ap (λ t. deeper ∷ t ++ shallower ∷ []) (lines_map h f g same xs)
 
-pub else-map : {A B : Type 0} (h : A → B) (f : B → List Piece) (g : A → List Piece) → ((a : A) → f (h a) ≡ g a) → (xs : List A) → else_of f (map h xs) ≡ else_of g xs
-else-map h f g same [] = refl
-else-map h f g same (x ∷ xs) = ap (λ t. a_line ∷ a_word (codes "else") ∷ t) (block-map h f g same (x ∷ xs))
+pub else_map : {A B : Type 0} (h : A → B) (f : B → List Piece) (g : A → List Piece) → ((a : A) → f (h a) ≡ g a) → (xs : List A) → else_of f (map h xs) ≡ else_of g xs
+else_map h f g same [] = refl
+else_map h f g same (x ∷ xs) = ap (λ t. a_line ∷ a_word (codes "else") ∷ t) (block_map h f g same (x ∷ xs))
 
-pub branches-map : {A B : Type 0} (word other : List ℕ) (h : Expr × List A → Expr × List B) (f : B → List Piece) (g : A → List Piece) → ((w : List ℕ) (b : Expr × List A) → branch_of w f (h b) ≡ branch_of w g b) → (xs : List (Expr × List A)) → branches_of word other f (map h xs) ≡ branches_of word other g xs
-branches-map word other h f g same xs =
-    in_row-map (λ first branch. (if first then [] else a_line ∷ []) ++ branch_of (if first then word else other) f branch) (λ first branch. (if first then [] else a_line ∷ []) ++ branch_of (if first then word else other) g branch) h
+pub branches_map : {A B : Type 0} (word other : List ℕ) (h : Expr × List A → Expr × List B) (f : B → List Piece) (g : A → List Piece) → ((w : List ℕ) (b : Expr × List A) → branch_of w f (h b) ≡ branch_of w g b) → (xs : List (Expr × List A)) → branches_of word other f (map h xs) ≡ branches_of word other g xs
+branches_map word other h f g same xs =
+    in_row_map (λ first branch. (if first then [] else a_line ∷ []) ++ branch_of (if first then word else other) f branch) (λ first branch. (if first then [] else a_line ∷ []) ++ branch_of (if first then word else other) g branch) h
     (λ first b. ap (λ t. (if first then [] else a_line ∷ []) ++ t) (same (if first then word else other) b)) xs
 
 -- ---- parts one by one

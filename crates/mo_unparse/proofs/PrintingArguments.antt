@@ -123,7 +123,7 @@ more_printed : {g : Form Arg} (l : Limits) (a : Arg) (o : Option Given) → IsPr
 more_printed l a o p h = by_made (more_value a o) (by_pieces (more_pieces a o (some_behind l o h)) (by_seq p (behind_printed l o h)))
 
 named_only : (list : List (List ℕ × Arg)) → commas (named_pieces pieces_of_arg) list ≡ given_pieces pieces_of_arg [] list
-named_only list = sym (forms.joined-map a_comma (λ p. p) (named_pieces pieces_of_arg) (named_pieces pieces_of_arg) (λ n. refl) list)
+named_only list = sym (forms.joined_map a_comma (λ p. p) (named_pieces pieces_of_arg) (named_pieces pieces_of_arg) (λ n. refl) list)
 
 some_parts : (list : List (List ℕ × Arg)) → IsSome list → IsSome (parts_of [] list)
 some_parts [] h = elim h [ ]

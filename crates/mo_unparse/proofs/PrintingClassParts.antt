@@ -24,7 +24,7 @@ use Rattle.mo_unparse.proofs.Holding.{Fact, HoldsBy}
 use Rattle.mo_unparse.proofs.Building.{IsPrinted, by_absent, by_pieces, by_present}
 use Rattle.mo_unparse.proofs.Inverting.{HoldsOption, optional_holds}
 use Rattle.mo_unparse.proofs.PrintingParts.{name_of, pieces_of_names}
-use Rattle.mo_unparse.proofs.Rows.{in_row-map}
+use Rattle.mo_unparse.proofs.Rows.{in_row_map}
 
 pub record TypesPrinted (P : Fact Symbol ValueOf) : Type 0 where
   pub type_spec : (l : Limits) (a : ReferenceOf Expr) → P TypeSpecs l a → IsPrinted (symbol TypeSpecs) l (pieces_of_reference a) (placeless_reference a)
@@ -82,4 +82,4 @@ module _ (P : Fact Symbol ValueOf) (types : TypesPrinted P) (modifiers : Modifie
 
 -- the identifiers of a name in pieces, by their tokens
 pub names_same : (names : List Lexeme) → pieces_of_path (path_of names) ≡ pieces_of_names names
-names_same names = in_row-map (λ first text. (if first then [] else a_mark (codes ".") ∷ []) ++ pieces_of_name text) (λ first t. (if first then [] else a_mark (codes ".") ∷ []) ++ name_of t) text_of (λ first t. refl) names
+names_same names = in_row_map (λ first text. (if first then [] else a_mark (codes ".") ∷ []) ++ pieces_of_name text) (λ first t. (if first then [] else a_mark (codes ".") ∷ []) ++ name_of t) text_of (λ first t. refl) names

@@ -20,7 +20,7 @@ use Rattle.mo_pieces.specs.ShownModifiers.{pieces_of_name}
 use Rattle.mo_unparse.proofs.ClassLayers as layers
 use Rattle.mo_unparse.proofs.PlacelessClassForms as placeless_forms
 use Rattle.mo_unparse.proofs.PlacelessForms.{map_twice}
-use Rattle.mo_unparse.proofs.Rows.{in_row-map}
+use Rattle.mo_unparse.proofs.Rows.{in_row_map}
 use Rattle.mo_unparse.proofs.Holding.{Fact, HoldsBy, each_follows}
 use Rattle.mo_unparse.proofs.Building.{IsPrinted, after_blank, by_behind, by_between, by_made, by_name, by_pieces, by_seq}
 use Rattle.mo_unparse.proofs.WordPieces.{close_paren_is, comma_is, der_word_is, open_paren_is}
@@ -44,7 +44,7 @@ module _ (P : Fact Symbol ValueOf) (types : TypesPrinted P) where
   identifiers_printed : (l : Limits) (names : List Lexeme) → HoldsBy P IsToken identifiers l names → IsPrinted identifiers l (commas pieces_of_name (map text_of names)) (map placeless_token names)
   identifiers_printed l names h =
       let parts = separated_holds P IsToken comma (token (ident ∷ [])) l names h in
-      by_pieces (sym (in_row-map (λ first n. (if first then [] else a_comma) ++ pieces_of_name n) (λ first t. (if first then [] else a_comma) ++ name_of t) text_of (λ first t. refl) names))
+      by_pieces (sym (in_row_map (λ first n. (if first then [] else a_comma) ++ pieces_of_name n) (λ first t. (if first then [] else a_comma) ++ name_of t) text_of (λ first t. refl) names))
       (subst (λ v. IsPrinted identifiers l (commas name_of v) (map placeless_token v)) parts.2
       (by_joined a_comma name_of placeless_token (λ t p. by_behind comma_is (after_blank p)) parts.0 parts.1 (identifier_printed l parts.0 parts.3)
       (each_follows (HoldsBy P IsToken (token (ident ∷ [])) l) (λ t. IsPrinted (token (ident ∷ [])) l (name_of t) (placeless_token t)) (identifier_printed l) parts.1 parts.4)))

@@ -18,7 +18,7 @@ use Rattle.mo_pieces.specs.ShownElements.{in_import, pieces_of_import}
 use Rattle.mo_pieces.specs.ShownExpressions.{a_comma, commas, in_braces, spaced}
 use Rattle.mo_pieces.specs.ShownModifiers.{pieces_of_name, pieces_of_path}
 use Rattle.mo_unparse.proofs.Building.{IsPrinted, after_blank, by_absent, by_behind, by_between, by_left, by_left2, by_made, by_name, by_one, by_pieces, by_present, by_right, by_right2, by_rule, by_seq}
-use Rattle.mo_unparse.proofs.ExpressionForms.{joined-map}
+use Rattle.mo_unparse.proofs.ExpressionForms.{joined_map}
 use Rattle.mo_unparse.proofs.Holding.{Fact, HoldsBy, each_follows}
 use Rattle.mo_unparse.proofs.Inverting.{HoldsOption, behind_holds, between_holds, commented_holds, optional_holds, separated_holds}
 use Rattle.mo_unparse.proofs.PlacelessForms.{both_same, map_twice}
@@ -70,7 +70,7 @@ BehindPrinted l t z = IsPrinted (symbol ImportNames) l (pieces_of_imported (t �
 -- ---- imports by their names
 
 path_pieces : (names : List Lexeme) → pieces_of_names names ≡ pieces_of_path (path_of names)
-path_pieces names = sym (joined-map (a_mark (codes ".") ∷ []) pieces_of_name name_of text_of (λ t. refl) names)
+path_pieces names = sym (joined_map (a_mark (codes ".") ∷ []) pieces_of_name name_of text_of (λ t. refl) names)
 
 -- an import in pieces, by the names that it is made of
 import_pieces : (x : Imported) → pieces_of_imported x ≡ in_import (import_of x)
@@ -78,7 +78,7 @@ import_pieces (names, None) = append-nil (pieces_of_names names) ∙ path_pieces
 import_pieces (names, Some None) = ap (λ v. v ++ a_mark (codes ".*") ∷ []) (path_pieces names)
 import_pieces (names, Some (Some group)) =
     ap (λ v. v ++ (a_mark (codes ".") ∷ in_braces (commas name_of group))) (path_pieces names)
-    ∙ ap (λ v. pieces_of_path (path_of names) ++ (a_mark (codes ".") ∷ in_braces v)) (sym (joined-map a_comma pieces_of_name name_of text_of (λ t. refl) group))
+    ∙ ap (λ v. pieces_of_path (path_of names) ++ (a_mark (codes ".") ∷ in_braces v)) (sym (joined_map a_comma pieces_of_name name_of text_of (λ t. refl) group))
 
 path_placeless : (names : List Lexeme) → path_of (map placeless_token names) ≡ path_of names
 path_placeless names = ap (λ v. record { 0 = v }) (map_twice placeless_token text_of text_of (λ t. refl) names)

@@ -18,7 +18,7 @@ use Rattle.mo_pieces.specs.Pieces.{a_name, a_mark, a_word, IsToken, placeless_to
 use Rattle.mo_unparse.specs.Placeless.{placeless_option, placeless_options, placeless_part, placeless_reference, placeless_index, placeless_indices}
 use Rattle.mo_pieces.specs.ShownExpressions.{shown_expr, pieces_of_reference, pieces_of_subscripts, pieces_of_indices, part_pieces, top_pieces, subscript_pieces, range_pieces, index_pieces, iterators_pieces, a_comma, spaced, joined_by, in_brackets}
 use Rattle.mo_unparse.proofs.PlacelessForms.{map_twice}
-use Rattle.mo_unparse.proofs.ExpressionForms.{joined-map}
+use Rattle.mo_unparse.proofs.ExpressionForms.{joined_map}
 use Rattle.mo_unparse.proofs.Holding.{HoldsBy}
 use Rattle.mo_unparse.proofs.Building.{IsPrinted, by_pieces, by_name, by_one, by_made, by_seq, by_rule, by_left, by_right, by_between, by_present, by_absent, by_flag, by_no_flag}
 use Rattle.mo_unparse.proofs.WordPieces.{dot_is, comma_is, colon_is, open_bracket_is, close_bracket_is, in_word_is}
@@ -37,7 +37,7 @@ top_printed true = by_flag dot_is
 top_printed false = by_no_flag
 
 names_in_reference : (names : List Lexeme) → pieces_of_names names ≡ joined_by (a_mark (codes ".") ∷ []) (part_pieces shown_expr) (map plain_part names)
-names_in_reference names = sym (joined-map (a_mark (codes ".") ∷ []) (part_pieces shown_expr) (λ t. a_name t.text ∷ []) plain_part (λ t. refl) names)
+names_in_reference names = sym (joined_map (a_mark (codes ".") ∷ []) (part_pieces shown_expr) (λ t. a_name t.text ∷ []) plain_part (λ t. refl) names)
 
 placeless_names : (names : List Lexeme) → map plain_part (map placeless_token names) ≡ map placeless_part (map plain_part names)
 placeless_names names = map_twice placeless_token plain_part (λ t. plain_part (placeless_token t)) (λ t. refl) names ∙ sym (map_twice plain_part placeless_part (λ t. plain_part (placeless_token t)) (λ t. refl) names)

@@ -10,9 +10,9 @@ use Rattle.mo_incidence.specs.Assignment.{Assigns}
 use Rattle.mo_incidence.specs.Offsets.{IsTight, by_place, by_number, sum_unknowns}
 use Rattle.mo_incidence.specs.Dummies.{greatest, dummies_of, states_of}
 use Rattle.mo_incidence.specs.Model.{incidence_of}
-use Rattle.mo_incidence.proofs.Counting.{sum-without}
-use Rattle.mo_blocks.proofs.Counts.{count-dummies, count-states}
-use Rattle.mo_certify.proofs.Leastness.{reached, assigns-permute, tight-entry}
+use Rattle.mo_incidence.proofs.Counting.{sum_without}
+use Rattle.mo_blocks.proofs.Counts.{count_dummies, count_states}
+use Rattle.mo_certify.proofs.Leastness.{reached, assigns_permute, tight_entry}
 use Rattle.mo_report.specs.declared.report.Report.{Report}
 use Rattle.mo_report.specs.Right.{has_zero, index_of}
 use Rattle.mo_report.specs.Lines.{derivative, numbered, reason_line, block_line, dummy_line, state_line, report_lines}
@@ -103,22 +103,22 @@ module _ (m : FlatModel) (sound : IsSound (incidence_of m)) (p : Printed) (r : R
 
   sum_within : sum_below (by_place p.c) (equations (incidence_of m)) ≤ 67108864
   sum_within =
-      let count = count-dummies (by_place p.c) (by_number p.d) (by_place p.pairs) (equations (incidence_of m)) in
+      let count = count_dummies (by_place p.c) (by_number p.d) (by_place p.pairs) (equations (incidence_of m)) in
       omega (arith, count, ap length chosen_is, dummies_many r, inside, few)
 
   pub c_within : (i : ℕ) → i < equations (incidence_of m) → get_or p.c i 0 ≤ 67108864
-  c_within i below = let parts = sum-without (by_place p.c) i (equations (incidence_of m)) below in omega (arith, parts, sum_within)
+  c_within i below = let parts = sum_without (by_place p.c) i (equations (incidence_of m)) below in omega (arith, parts, sum_within)
 
   pub pair_known : (i : ℕ) → i < equations (incidence_of m) → (0 < get_or p.pairs i 0) × (get_or p.pairs i 0 ≤ (incidence_of m).unknowns)
   pair_known i below =
-      let entry = tight-entry (incidence_of m) (by_place p.c) (by_number p.d) i (get_or p.pairs i 0) (tight.allowed i below (right.all i below)) in
+      let entry = tight_entry (incidence_of m) (by_place p.c) (by_number p.d) i (get_or p.pairs i 0) (tight.allowed i below (right.all i below)) in
       rw entry.2 at (sound.known i entry.0 below entry.1)
 
   pub d_within : (j : ℕ) → 0 < j → j ≤ (incidence_of m).unknowns → by_number p.d j ≤ 67174400
   d_within j some within =
-      let permutes = assigns-permute (incidence_of m) (by_place p.c) (by_number p.d) (by_place p.pairs) sound square tight right.all in
+      let permutes = assigns_permute (incidence_of m) (by_place p.c) (by_number p.d) (by_place p.pairs) sound square tight right.all in
       let paired = reached (by_place p.pairs) (equations (incidence_of m)) permutes j some (omega (arith, square, within)) in
-      let entry = tight-entry (incidence_of m) (by_place p.c) (by_number p.d) paired.0 (get_or p.pairs paired.0 0) (tight.allowed paired.0 paired.1 (right.all paired.0 paired.1)) in
+      let entry = tight_entry (incidence_of m) (by_place p.c) (by_number p.d) paired.0 (get_or p.pairs paired.0 0) (tight.allowed paired.0 paired.1 (right.all paired.0 paired.1)) in
       let sum : by_number p.d (get_or p.pairs paired.0 0) ≡ get_or p.c paired.0 0 + order_at (incidence_of m) paired.0 entry.0 = entry.3 in
       let here : by_number p.d j ≡ get_or p.c paired.0 0 + order_at (incidence_of m) paired.0 entry.0 = moved (by_number p.d) (get_or p.pairs paired.0 0) j _ paired.2 sum in
       omega (arith, here, c_within paired.0 paired.1, sound.low paired.0 entry.0 paired.1 entry.1)
@@ -140,5 +140,5 @@ module _ (m : FlatModel) (sound : IsSound (incidence_of m)) (p : Printed) (r : R
   pub freedom_small : r.freedom ≤ 67108864
   freedom_small =
       let is : r.freedom + sum_below (by_place p.c) (equations (incidence_of m)) ≡ sum_unknowns (incidence_of m) (by_number p.d) = rw (right.report.has.c, right.report.has.d) at right.report.parts.freedom in
-      let count = count-states (incidence_of m) (by_place p.c) (by_number p.d) (by_place p.pairs) sound square tight right.all in
+      let count = count_states (incidence_of m) (by_place p.c) (by_number p.d) (by_place p.pairs) sound square tight right.all in
       omega (arith, is, count, ap length states_are, states_many r, inside, few)

@@ -3,7 +3,7 @@ use Rattle.std.proofs.Common.{◌≡◌, ◌≢◌, ℕ, zero, suc, ◌+◌, ◌
 use Rattle.std.proofs.lemmas.Bool.{cases_lt}
 use Rattle.std.proofs.lemmas.Bool.Decides.{eqb_tells}
 use Rattle.mo_flat.specs.declared.model.FlatModel.{FlatModel}
-use Rattle.mo_graph.proofs.Unique.{order-unique}
+use Rattle.mo_graph.proofs.Unique.{order_unique}
 use Rattle.mo_incidence.specs.declared.findings.Deficit.{Deficit}
 use Rattle.mo_incidence.specs.declared.findings.Offsets.{Offsets}
 use Rattle.mo_incidence.specs.Counting.{sum_below}
@@ -14,12 +14,12 @@ use Rattle.mo_incidence.specs.Reasons.{IsReason, IsWithin, AreReasonsOf}
 use Rattle.mo_incidence.specs.Blocks.{Needs, AreBlocksInOrder, numbers_in}
 use Rattle.mo_incidence.specs.Dummies.{dummies_of, states_of}
 use Rattle.mo_incidence.specs.Model.{incidence_of}
-use Rattle.mo_certify.proofs.Leastness.{tight-entry}
+use Rattle.mo_certify.proofs.Leastness.{tight_entry}
 use Rattle.mo_report.specs.declared.report.Report.{Report}
 use Rattle.mo_report.specs.Right.{index_of, HasSquareParts, singular, underdetermined, square, IsRightFor}
 use Rattle.mo_report.specs.Lines.{unknown_name, report_lines}
 use Rattle.mo_report.specs.Size.{unknown_names}
-use Rattle.mo_report.proofs.Once.{same-numbers, same-reasons, one-entry}
+use Rattle.mo_report.proofs.Once.{same_numbers, same_reasons, one_entry}
 use Rattle.mo_report_lines.specs.Lines.{lines_of, line_at, AreReadable, IsFirstUnreadable, DifferFirst}
 use Rattle.mo_verify.specs.declared.verdict.Verdict.{Verdict}
 use Rattle.mo_verify.specs.declared.verdict.Verdict.TheVariants.{Yes}
@@ -80,7 +80,7 @@ chain_of g p by reason (suc n) i below e = elim (eqb_tells (get_or p.c i 0) 0) [
 pub sigma_once : (m : FlatModel) (i j x : ℕ) (o : Option ℕ) → IsSigma (incidence_of m) i j (Some x) → IsSigma (incidence_of m) i j o → o ≡ Some x
 sigma_once m i j x None s none = absurd (none s.0 s.1 s.2)
 sigma_once m i j x (Some y) s t =
-    let same : t.0 ≡ s.0 = one-entry m i s.0 t.0 s.1 t.1 (s.2 ∙ sym t.2) in
+    let same : t.0 ≡ s.0 = one_entry m i s.0 t.0 s.1 t.1 (s.2 ∙ sym t.2) in
     let here : order_at (incidence_of m) i s.0 ≡ y = rw same at t.3 in
     ap Some (sym here ∙ s.3)
 
@@ -101,12 +101,12 @@ module _ (g : Signature) (o p : Offsets) (c_is : o.c.items ≡ p.c.items) (d_is 
   both_reasons : r.reasons.items ≡ s.reasons.items
   both_reasons =
       let other : AreReasonsOf g (c_of o) (d_of o) (pairs_of o) s.reasons.items = rw (c_is, d_is, t_is) b.reasons in
-      a.reasons.listed ∙ (same-reasons g (c_of o) (d_of o) (pairs_of o) a.reasons.by other.by a.reasons.reason other.reason (equations g) (omega arith) ∙ sym other.listed)
+      a.reasons.listed ∙ (same_reasons g (c_of o) (d_of o) (pairs_of o) a.reasons.by other.by a.reasons.reason other.reason (equations g) (omega arith) ∙ sym other.listed)
 
   both_blocks : numbers_in r.blocks.0.items ≡ numbers_in s.blocks.0.items
   both_blocks =
       let other : AreBlocksInOrder g (c_of o) (d_of o) (pairs_of o) (numbers_in s.blocks.0.items) = rw (c_is, d_is, t_is) b.blocks in
-      order-unique (Needs g (c_of o) (d_of o) (pairs_of o)) (equations g) (numbers_in r.blocks.0.items) (numbers_in s.blocks.0.items) a.blocks other
+      order_unique (Needs g (c_of o) (d_of o) (pairs_of o)) (equations g) (numbers_in r.blocks.0.items) (numbers_in s.blocks.0.items) a.blocks other
 
   both_dummies : r.dummies.chosen.items ≡ s.dummies.chosen.items
   both_dummies =
@@ -208,13 +208,13 @@ module _ (m : FlatModel) (names : HasNames m) (sound : IsSound (incidence_of m))
       let number : Some (get_or q.pairs i 0) ≡ Some (get_or p.pairs i 0) = sym there.is_number ∙ (ap (number_of (unknown_names m.vars)) one.2 ∙ here.is_number) in
       (one.1, some_is _ _ number, one.3) in
       same_printed q p
-      (same-numbers q.c p.c (a.c_all ∙ sym (sizes.c_all ∙ equations_of m [])) (λ i l. (says i (omega (arith, l, a.c_all))).0))
-      (same-numbers q.d p.d (a.d_all ∙ sym (sizes.d_all ∙ unknowns_of m []))
+      (same_numbers q.c p.c (a.c_all ∙ sym (sizes.c_all ∙ equations_of m [])) (λ i l. (says i (omega (arith, l, a.c_all))).0))
+      (same_numbers q.d p.d (a.d_all ∙ sym (sizes.d_all ∙ unknowns_of m []))
       (λ j l.
       let below : j < length (unknown_names m.vars) = omega (arith, l, a.d_all) in
       (one_unknown_line (text_at (report_lines r) (length m.equations + j + 3)) _ _ _ _ (a.lines.unknown j below (omega (arith, below))) (unknown_at_line j below)).1))
-      (same-numbers q.pairs p.pairs (a.pairs_all ∙ sym (sizes.pairs_all ∙ equations_of m [])) (λ i l. (says i (omega (arith, l, a.pairs_all))).1))
-      (same-numbers q.orders p.orders (a.orders_all ∙ sym (sizes.orders_all ∙ equations_of m [])) (λ i l. (says i (omega (arith, l, a.orders_all))).2))
+      (same_numbers q.pairs p.pairs (a.pairs_all ∙ sym (sizes.pairs_all ∙ equations_of m [])) (λ i l. (says i (omega (arith, l, a.pairs_all))).1))
+      (same_numbers q.orders p.orders (a.orders_all ∙ sym (sizes.orders_all ∙ equations_of m [])) (λ i l. (says i (omega (arith, l, a.orders_all))).2))
 
   not_misshapen : (k : ℕ) → IsMisshapen (unknown_names m.vars) (length m.equations) (report_lines r) k → ⊥
   not_misshapen k shape = elim (cases_lt k (length m.equations)) [
@@ -227,9 +227,9 @@ module _ (m : FlatModel) (names : HasNames m) (sound : IsSound (incidence_of m))
 
   tight_sigma : (i : ℕ) → i < equations (incidence_of m) → by_number p.d (get_or p.pairs i 0) ≡ get_or p.c i 0 + get_or p.orders i 0
   tight_sigma i below =
-      let entry = tight-entry (incidence_of m) (by_place p.c) (by_number p.d) i (get_or p.pairs i 0) ((tight m sound p r right few).allowed i below (right.all i below)) in
+      let entry = tight_entry (incidence_of m) (by_place p.c) (by_number p.d) i (get_or p.pairs i 0) ((tight m sound p r right few).allowed i below (right.all i below)) in
       let order = right.orders i (rw (equations_of m []) at below) in
-      let same : entry.0 ≡ order.0 = one-entry m i order.0 entry.0 order.1 entry.1 (order.2 ∙ sym entry.2) in
+      let same : entry.0 ≡ order.0 = one_entry m i order.0 entry.0 order.1 entry.1 (order.2 ∙ sym entry.2) in
       let here : by_number p.d (get_or p.pairs i 0) ≡ get_or p.c i 0 + order_at (incidence_of m) i order.0 = rw same at entry.3 in
       omega (arith, here, order.3)
 
@@ -237,7 +237,7 @@ module _ (m : FlatModel) (names : HasNames m) (sound : IsSound (incidence_of m))
   unfolding Mentions
   can =
       let t = tight m sound p r right few in
-      (by_place p.pairs, record { allowed = λ i l some. let entry = tight-entry (incidence_of m) (by_place p.c) (by_number p.d) i (get_or p.pairs i 0) (t.allowed i l some) in (entry.0, entry.1, entry.2); apart = t.apart }, right.all)
+      (by_place p.pairs, record { allowed = λ i l some. let entry = tight_entry (incidence_of m) (by_place p.c) (by_number p.d) i (get_or p.pairs i 0) (t.allowed i l some) in (entry.0, entry.1, entry.2); apart = t.apart }, right.all)
 
   chained : (i : ℕ) → i < equations (incidence_of m) → IsChained (incidence_of m) p i
   chained i below =

@@ -11,9 +11,9 @@ use Rattle.mo_incidence.specs.Model.{incidence_of}
 use Rattle.mo_report.specs.declared.report.Report.{Report}
 use Rattle.mo_report.specs.Lines.{name_line, rest_lines, report_lines}
 use Rattle.mo_report.specs.Size.{unknown_names}
-use Rattle.mo_report.proofs.Once.{same-numbers, same-listed}
-use Rattle.mo_report.proofs.OneReport.{one-report}
-use Rattle.mo_report.proofs.SameLines.{same-lines}
+use Rattle.mo_report.proofs.Once.{same_numbers, same_listed}
+use Rattle.mo_report.proofs.OneReport.{one_report}
+use Rattle.mo_report.proofs.SameLines.{same_lines}
 use Rattle.mo_report_lines.specs.Lines.{line_at, without_feed, AreReadable, IsFirstUnreadable, DifferFirst}
 use Rattle.mo_verify.specs.declared.verdict.Verdict.{Verdict}
 use Rattle.mo_verify.specs.declared.verdict.Verdict.TheVariants.{Yes, Admissible, Unreadable, Line, Shape, Order, Low, Loose, Twice, NotLeast}
@@ -90,13 +90,13 @@ module _ (names : List (List ℕ)) (m : ℕ) (report : List ℕ) where
       let number : Some (get_or p.pairs i 0) ≡ Some (get_or q.pairs i 0) = sym left.is_number ∙ (ap (number_of names) one.2 ∙ right.is_number) in
       (one.1, some_is _ _ number, one.3) in
       same_printed p q
-      (same-numbers p.c q.c (a.c_all ∙ sym b.c_all) (λ i l. (says i (omega (arith, l, a.c_all))).0))
-      (same-numbers p.d q.d (a.d_all ∙ sym b.d_all)
+      (same_numbers p.c q.c (a.c_all ∙ sym b.c_all) (λ i l. (says i (omega (arith, l, a.c_all))).0))
+      (same_numbers p.d q.d (a.d_all ∙ sym b.d_all)
       (λ j l.
       let below : j < length names = omega (arith, l, a.d_all) in
       (one_unknown_line (text_at report (m + j + 3)) _ _ _ _ (a.lines.unknown j below (omega (arith, below))) (b.lines.unknown j below (omega (arith, below)))).1))
-      (same-numbers p.pairs q.pairs (a.pairs_all ∙ sym b.pairs_all) (λ i l. (says i (omega (arith, l, a.pairs_all))).1))
-      (same-numbers p.orders q.orders (a.orders_all ∙ sym b.orders_all) (λ i l. (says i (omega (arith, l, a.orders_all))).2))
+      (same_numbers p.pairs q.pairs (a.pairs_all ∙ sym b.pairs_all) (λ i l. (says i (omega (arith, l, a.pairs_all))).1))
+      (same_numbers p.orders q.orders (a.orders_all ∙ sym b.orders_all) (λ i l. (says i (omega (arith, l, a.orders_all))).2))
 
   -- a line that is read has its shape
   shaped : (p : Printed) (n k : ℕ) → ArePrintedTo names m report p n → k < n → IsMisshapen names m report k → ⊥
@@ -279,7 +279,7 @@ few_text m p q r s e a b = go (rw e at a)
   where
     go : IsUndeterminedReport m q r → report_lines r ≡ report_lines s
     go a =
-        let loose = same-listed (IsUndetermined (incidence_of m)) (incidence_of m).unknowns r.loose.items s.loose.items a.loose b.loose in
+        let loose = same_listed (IsUndetermined (incidence_of m)) (incidence_of m).unknowns r.loose.items s.loose.items a.loose b.loose in
         let rest : rest_lines r ≡ rest_lines s = few_lines m q r a ∙ (ap (flat_map (name_line (codes "undetermined ") (unknown_names m.vars))) loose ∙ sym (few_lines m q s b)) in
         below_text m q a.offsets r a.has ∙ (same_rest m q (rest_lines r) (rest_lines s) rest ∙ sym (below_text m q b.offsets s b.has))
 
@@ -342,7 +342,7 @@ module _ (m : FlatModel) (report : List ℕ) where
   one_view v w (other_head an aline aother areadable ad awithin ais) (whole bp br bread bright bchains bs bcompares) = absurd (not_head report (head_text m) an aline aother bread.begun.first bread.begun.second ad awithin)
   one_view v w (in_deficit ar abegun ad acompares) (not_readable bn bf bis) = absurd (not_unreadable report bn abegun.readable bf)
   one_view v w (in_deficit ar abegun ad acompares) (other_head bn bline bother breadable bd bwithin bis) = absurd (not_head report (head_text m) bn bline bother abegun.first abegun.second bd bwithin)
-  one_view v w (in_deficit ar abegun ad acompares) (in_deficit br bbegun bd bcompares) = one_comparison report (report_lines ar) (report_lines br) Yes v w (same-lines ar br (one-report m ar br ad.right bd.right)) acompares bcompares
+  one_view v w (in_deficit ar abegun ad acompares) (in_deficit br bbegun bd bcompares) = one_comparison report (report_lines ar) (report_lines br) Yes v w (same_lines ar br (one_report m ar br ad.right bd.right)) acompares bcompares
   one_view v w (in_deficit ar abegun ad acompares) (misshapen bp bk bbegun bcan bbefore bhere bis) = absurd (no_cover m ar ad bcan)
   one_view v w (in_deficit ar abegun ad acompares) (faulty bp bread bfault) = absurd (no_cover m ar ad bread.can)
   one_view v w (in_deficit ar abegun ad acompares) (fewer bp br bread bright bu bcompares) = absurd (no_cover m ar ad bread.can)

@@ -1,7 +1,7 @@
 -- The text of a right report on a model in which some equation can't be assigned gets the verdict Yes.
 use Rattle.std.proofs.Common.{◌≡◌, ℕ, ◌<◌, ◌≤◌, List, [], ◌∷◌, ◌++◌, map, length, get_or, codes, Some, refl, sym, ap, ◌∙◌, arith, append_assoc}
 use Rattle.mo_flat.specs.declared.model.FlatModel.{FlatModel}
-use Rattle.mo_graph.proofs.Members.{at-contains}
+use Rattle.mo_graph.proofs.Members.{at_contains}
 use Rattle.mo_incidence.specs.declared.findings.Deficit.{Deficit}
 use Rattle.mo_incidence.specs.Signature.{IsSound}
 use Rattle.mo_incidence.specs.Assignment.{IsDeficit}
@@ -9,8 +9,8 @@ use Rattle.mo_incidence.specs.Model.{incidence_of}
 use Rattle.mo_report.specs.declared.report.Report.{Report}
 use Rattle.mo_report.specs.Lines.{head_lines, in_line, name_line, deficit_head, deficit_lines, report_lines}
 use Rattle.mo_report.specs.Size.{unknown_names}
-use Rattle.mo_report.proofs.OneReport.{one-report}
-use Rattle.mo_report.proofs.SameLines.{same-lines}
+use Rattle.mo_report.proofs.OneReport.{one_report}
+use Rattle.mo_report.proofs.SameLines.{same_lines}
 use Rattle.mo_report_lines.specs.Lines.{lines_of, AreReadable}
 use Rattle.mo_verify.specs.declared.verdict.Verdict.{Verdict}
 use Rattle.mo_verify.specs.declared.verdict.Verdict.TheVariants.{Yes}
@@ -68,10 +68,10 @@ module _ (m : FlatModel) (names : HasNames m) (sound : IsSound (incidence_of m))
       let a = map in_line deficit.equations.items in
       let b = map (name_line (codes "mentions ") us) deficit.unknowns.items in
       let listed : Each IsGood (map in_line deficit.equations.items) = each_mapped IsGood in_line deficit.equations.items 0
-      (λ i l. let known = is_deficit.equations.only (get_or deficit.equations.items i 0) (at-contains deficit.equations.items (get_or deficit.equations.items i 0) i l refl) in good_in (get_or deficit.equations.items i 0) (omega (arith, known.1, sound.few_equations))) in
+      (λ i l. let known = is_deficit.equations.only (get_or deficit.equations.items i 0) (at_contains deficit.equations.items (get_or deficit.equations.items i 0) i l refl) in good_in (get_or deficit.equations.items i 0) (omega (arith, known.1, sound.few_equations))) in
       let mentioned : Each IsGood (map (name_line (codes "mentions ") us) deficit.unknowns.items) = each_mapped IsGood (name_line (codes "mentions ") us) deficit.unknowns.items 0
       (λ i l.
-      let known = is_deficit.unknowns.only (get_or deficit.unknowns.items i 0) (at-contains deficit.unknowns.items (get_or deficit.unknowns.items i 0) i l refl) in
+      let known = is_deficit.unknowns.only (get_or deficit.unknowns.items i 0) (at_contains deficit.unknowns.items (get_or deficit.unknowns.items i 0) i l refl) in
       good_mention us (get_or deficit.unknowns.items i 0) (known_name m names (get_or deficit.unknowns.items i 0) known.0 (omega (arith, known.1, unknowns_of m [])))) in
       each_both IsGood (head_two m) (deficit_list us deficit) (good_head m names sound)
       (each_both IsGood (deficit_head deficit ∷ []) (a ++ b) (each_one IsGood (deficit_head deficit) (good_deficit deficit (omega (arith, few_equations)) (omega (arith, few_unknowns)))) (each_both IsGood a b listed mentioned))
@@ -99,7 +99,7 @@ module _ (m : FlatModel) (names : HasNames m) (sound : IsSound (incidence_of m))
   deficit_complete : (v : Verdict) → IsVerdict m (report_lines r) v → v ≡ Yes
   deficit_complete v (verdict.unreadable {n} f) = absurd (not_unreadable (report_lines r) n all_readable f)
   deficit_complete v (verdict.head line other {n} readable e within a b) = absurd (not_head (report_lines r) (head_text m) n line other (head_at 0 (omega arith)) (head_at 1 (omega arith)) e within)
-  deficit_complete v (verdict.deficit_differs s line other {n} b e differ f h) = absurd (not_differ (report_lines r) (report_lines s) n line other (same-lines r s (one-report m r s d.right e.right)) differ)
+  deficit_complete v (verdict.deficit_differs s line other {n} b e differ f h) = absurd (not_differ (report_lines r) (report_lines s) n line other (same_lines r s (one_report m r s d.right e.right)) differ)
   deficit_complete v (verdict.deficit s b e is) = refl
   deficit_complete v (verdict.shape p n b can before here f h i) = absurd (no_cover m r d can)
   deficit_complete v (verdict.order p i read before below a b c sigma apart) = absurd (no_cover m r d read.can)

@@ -4,7 +4,7 @@ use Rattle.std.proofs.lemmas.Bool.Decides.{eqb_tells}
 use Rattle.std.proofs.lemmas.List.{map-append}
 use Rattle.mo_flat.specs.declared.model.FlatModel.{FlatModel}
 use Rattle.mo_graph.specs.Order.{none}
-use Rattle.mo_graph.proofs.Members.{at-contains}
+use Rattle.mo_graph.proofs.Members.{at_contains}
 use Rattle.mo_incidence.specs.declared.findings.Reason.{Reason}
 use Rattle.mo_incidence.specs.Signature.{Signature, equations, IsSound}
 use Rattle.mo_incidence.specs.Offsets.{by_place, by_number}
@@ -77,7 +77,7 @@ each_block g c d t blocks few order = each_mapped IsGood block_line blocks [] (�
     let block = (order.next b below).ready.is_block in
     let back : suc block.0 - 1 ≡ block.0 = omega arith in
     let there = block.2.all (suc block.0) (omega arith) (omega (arith, block.1)) (rw back (none, none)) in
-    good_block (get_or blocks b []) (omega (arith, there.1)) (λ k l. let known = block.2.only (get_or (get_or blocks b []) k 0) (at-contains (get_or blocks b []) (get_or (get_or blocks b []) k 0) k l refl) in omega (arith, known.1, few)))
+    good_block (get_or blocks b []) (omega (arith, there.1)) (λ k l. let known = block.2.only (get_or (get_or blocks b []) k 0) (at_contains (get_or blocks b []) (get_or (get_or blocks b []) k 0) k l refl) in omega (arith, known.1, few)))
 
 pub good_head : (m : FlatModel) → HasNames m → IsSound (incidence_of m) → Each IsGood (head_two m)
 unfolding head_two

@@ -5,7 +5,7 @@ use Rattle.mo_incidence.specs.Signature.{Signature, equations, unknown_at, order
 use Rattle.mo_incidence.specs.Assignment.{Assigns, CoversAll}
 use Rattle.mo_incidence.specs.Offsets.{Fits, IsTight, IsAdmissible, IsLeast, by_place, by_number}
 use Rattle.mo_incidence.specs.Reasons.{IsWithin}
-use Rattle.mo_certify.proofs.Leastness.{above-along, above-all}
+use Rattle.mo_certify.proofs.Leastness.{above_along, above_all}
 use Rattle.mo_verify.specs.Printed.{Printed}
 use Rattle.mo_verify.specs.Faults.{AreChainedTo}
 use Rattle.mo_verify.specs.Finding.{HaveSizes, HasNoFault}
@@ -55,13 +55,13 @@ module _ (g : Signature) (p : Printed) (sizes : HaveSizes g p) (right : HasNoFau
       below_at zero i below nought = omega (arith, nought)
       below_at (suc n) i below (inl nought) = omega (arith, nought)
       below_at (suc n) i below (inr (k, candidate, rest)) =
-          above-along g (by_place p.c) (by_number p.d) (by_place p.pairs) sound square fits tight covers c' d' rival i k below candidate.known candidate.tight (below_at n k candidate.known rest)
+          above_along g (by_place p.c) (by_number p.d) (by_place p.pairs) sound square fits tight covers c' d' rival i k below candidate.known candidate.tight (below_at n k candidate.known rest)
 
     pub least : IsLeast g (by_place p.c) (by_number p.d)
     least = record {
       admissible = admissible;
       least = record {
-        below = λ c' d' rival. above-all g (by_place p.c) (by_number p.d) (by_place p.pairs) sound square fits tight covers c' d' rival
+        below = λ c' d' rival. above_all g (by_place p.c) (by_number p.d) (by_place p.pairs) sound square fits tight covers c' d' rival
             (λ i below. let chain = chains i below in below_at c' d' rival chain.0 i below chain.1);
       };
     }

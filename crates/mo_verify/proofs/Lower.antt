@@ -7,7 +7,7 @@ use Rattle.mo_incidence.specs.Signature.{Signature, equations, row_len, unknown_
 use Rattle.mo_incidence.specs.Offsets.{Fits, IsTight, IsAdmissible, by_place, by_number}
 use Rattle.mo_incidence.specs.steps.Needing.{AreOwners}
 use Rattle.mo_incidence.specs.Reasons.{IsCandidate}
-use Rattle.mo_certify.proofs.Leastness.{reached, assigns-permute}
+use Rattle.mo_certify.proofs.Leastness.{reached, assigns_permute}
 use Rattle.mo_verify.specs.declared.verdict.Verdict.{Verdict}
 use Rattle.mo_verify.specs.Printed.{Printed}
 use Rattle.mo_verify.specs.Faults.{IsChained}
@@ -120,7 +120,7 @@ module _ (g : Signature) (p : Printed) (sizes : HaveSizes g p) (right : HasNoFau
     (no : (i : ℕ) → i < equations g → get_or marks i false ≡ false → IsChained g p i → ⊥) where
   all_owned : (j : ℕ) → 0 < j → j ≤ g.unknowns → get_or owner j 0 ≢ 0
   all_owned j some within none =
-      let permutes = assigns-permute g (by_place p.c) (by_number p.d) (by_place p.pairs) sound square (tight g p sizes right) (covers g p sizes right) in
+      let permutes = assigns_permute g (by_place p.c) (by_number p.d) (by_place p.pairs) sound square (tight g p sizes right) (covers g p sizes right) in
       let paired = reached (by_place p.pairs) (equations g) permutes j some (omega (arith, square, within)) in
       let owned : get_or owner j 0 ≡ suc paired.0 = rw paired.2 at (owners.owned paired.0 paired.1) in
       omega (arith, owned, none)

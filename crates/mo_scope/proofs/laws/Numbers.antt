@@ -35,15 +35,15 @@ numbers_from n (suc k) = n ∷ numbers_from (n + 1) k
 abbrev pub numbers_in : List Declaration → List ℕ
 numbers_in ds = map (λ entry. entry.row.number) (flat_map entry_in ds)
 
-pub numbers_from-append : (n a b : ℕ) → numbers_from n (a + b) ≡ numbers_from n a ++ numbers_from (n + a) b
-numbers_from-append n zero b = ap (numbers_from n) (omega arith) ∙ ap (λ m. numbers_from m b) (omega arith)
-numbers_from-append n (suc a) b =
+pub numbers_from_append : (n a b : ℕ) → numbers_from n (a + b) ≡ numbers_from n a ++ numbers_from (n + a) b
+numbers_from_append n zero b = ap (numbers_from n) (omega arith) ∙ ap (λ m. numbers_from m b) (omega arith)
+numbers_from_append n (suc a) b =
     let more : suc a + b ≡ suc (a + b) = omega arith in
     let on : (n + 1) + a ≡ n + suc a = omega arith in
-    ap (numbers_from n) more ∙ ap (λ l. n ∷ l) (numbers_from-append (n + 1) a b ∙ ap (λ m. numbers_from (n + 1) a ++ numbers_from m b) on)
+    ap (numbers_from n) more ∙ ap (λ l. n ∷ l) (numbers_from_append (n + 1) a b ∙ ap (λ m. numbers_from (n + 1) a ++ numbers_from m b) on)
 
-numbers_in-append : (xs ys : List Declaration) → numbers_in (xs ++ ys) ≡ numbers_in xs ++ numbers_in ys
-numbers_in-append xs ys =
+numbers_in_append : (xs ys : List Declaration) → numbers_in (xs ++ ys) ≡ numbers_in xs ++ numbers_in ys
+numbers_in_append xs ys =
     ap (map (λ entry. entry.row.number)) (flat_map-append entry_in xs ys)
     ∙ map-append (λ entry. entry.row.number) (flat_map entry_in xs) (flat_map entry_in ys)
 
@@ -56,10 +56,10 @@ counts_nothing home n = refl
 
 counts_both : (a b : Outline) → Counts a → Counts b → Counts (both a b)
 counts_both a b ca cb home n =
-    numbers_in-append (a.declared home n) (b.declared home (n + a.classes))
+    numbers_in_append (a.declared home n) (b.declared home (n + a.classes))
     ∙ ap (λ l. l ++ numbers_in (b.declared home (n + a.classes))) (ca home n)
     ∙ ap (λ l. numbers_from n a.classes ++ l) (cb home (n + a.classes))
-    ∙ sym (numbers_from-append n a.classes b.classes)
+    ∙ sym (numbers_from_append n a.classes b.classes)
 
 counts_apart : (a : Outline) → Counts a → Counts (apart a)
 counts_apart a c home n = c Apart n

@@ -5,14 +5,14 @@ use Rattle.mo_alias.specs.steps.Findings.{AreFindings}
 use Rattle.mo_alias.specs.steps.Forests.{AreWithin, IsForest}
 use Rattle.mo_alias.specs.steps.Leasts.{AreGoneBelow, AreRoots}
 use Rattle.mo_alias.specs.Recognized.{aliases_in}
-use Rattle.mo_alias.proofs.Bounding.{aliases-within}
-use Rattle.mo_alias.proofs.Firsts.{gone-all}
+use Rattle.mo_alias.proofs.Bounding.{aliases_within}
+use Rattle.mo_alias.proofs.Firsts.{gone_all}
 use Rattle.mo_alias.proofs.find.aliases.Goals as goal
 
 pub findings-requires : goal.findings-requires
 findings-requires c = record {
   within = subst (λ (w : List (Option Alias)). AreWithin w (c.in_ok-said.count + 1)) (sym (c.deref.ensures.value ∙ c.in_ok-said.ensures.said))
-      (subst (λ k. AreWithin (aliases_in c.args.m.now) (k + 1)) (sym c.in_ok-said.ensures.count) (aliases-within c.args.m.now));
+      (subst (λ k. AreWithin (aliases_in c.args.m.now) (k + 1)) (sym c.in_ok-said.ensures.count) (aliases_within c.args.m.now));
 }
 
 pub gone-requires-clause-trees : goal.gone-requires-clause-trees
@@ -34,7 +34,7 @@ loops-requires-clause-findings c =
 pub loops-requires-clause-within : goal.loops-requires-clause-within
 loops-requires-clause-within c =
     subst (λ (w : List (Option Alias)). AreWithin w (length c.in_ok-findings.trees.parent.items)) (sym (c.deref-4.ensures.value ∙ c.in_ok-said.ensures.said))
-    (subst (λ k. AreWithin (aliases_in c.args.m.now) k) (sym (c.in_ok-findings.ensures.size ∙ ap (λ k. k + 1) c.in_ok-said.ensures.count)) (aliases-within c.args.m.now))
+    (subst (λ k. AreWithin (aliases_in c.args.m.now) k) (sym (c.in_ok-findings.ensures.size ∙ ap (λ k. k + 1) c.in_ok-said.ensures.count)) (aliases_within c.args.m.now))
 
 pub loops-requires-clause-forest : goal.loops-requires-clause-forest
 loops-requires-clause-forest c =
@@ -42,7 +42,7 @@ loops-requires-clause-forest c =
 
 pub returns-clause-gone : goal.returns-clause-gone
 returns-clause-gone c =
-    gone-all (aliases_in c.args.m.now) c.in_ok-findings.trees
+    gone_all (aliases_in c.args.m.now) c.in_ok-findings.trees
     (subst (λ (w : List (Option Alias)). IsForest w c.in_ok-findings.trees (length w)) (c.deref.ensures.value ∙ c.in_ok-said.ensures.said) c.in_ok-findings.ensures.forest) c.in_ok-gone.gone
     (subst (λ k. (root : ℕ → ℕ) (sign : ℕ → Bool) → AreRoots c.in_ok-findings.trees root sign → AreGoneBelow root sign k c.in_ok-gone.gone) (sym c.in_ok-findings.ensures.size) c.in_ok-gone.ensures)
 

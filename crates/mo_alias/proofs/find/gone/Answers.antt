@@ -1,11 +1,11 @@
 use Rattle.std.proofs.Common.{◌≡◌, ◌+◌, ◌∙◌, arith, subst}
 use Rattle.mo_alias.specs.steps.Leasts.{AreGoneBelow}
-use Rattle.mo_alias.proofs.Firsts.{firsts-none, gone-none}
+use Rattle.mo_alias.proofs.Firsts.{firsts_none, gone_none}
 use Rattle.mo_alias.proofs.find.gone.Goals as goal
 
 pub loop-at-init : goal.loop-at-init
 loop-at-init c =
-    (c.in_ok-firsts.ensures.size, λ root sign roots. (firsts-none root sign c.in_ok-firsts.firsts.items c.in_ok-firsts.ensures.none, gone-none root sign c.new-gone.result c.new-gone.ensures))
+    (c.in_ok-firsts.ensures.size, λ root sign roots. (firsts_none root sign c.in_ok-firsts.firsts.items c.in_ok-firsts.ensures.none, gone_none root sign c.new-gone.result c.new-gone.ensures))
 
 pub loop-at-preserved : goal.loop-at-preserved
 loop-at-preserved c =

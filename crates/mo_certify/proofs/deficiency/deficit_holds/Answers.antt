@@ -1,5 +1,5 @@
-use Rattle.mo_certify.proofs.Marking.{deficiency-singular}
+use Rattle.mo_certify.proofs.Marking.{deficiency_singular}
 use Rattle.mo_certify.proofs.deficiency.deficit_holds.Goals as goal
 
 pub returns-clause-singular : goal.returns-clause-singular
-returns-clause-singular c = λ yes. deficiency-singular _ _ _ (c.holds.ensures.yes yes)
+returns-clause-singular c = λ yes. deficiency_singular _ _ _ (c.holds.ensures.yes yes)

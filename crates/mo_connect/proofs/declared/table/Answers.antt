@@ -1,5 +1,5 @@
 use Rattle.std.proofs.Common.{◌≡◌, length, ap, arith}
-use Rattle.mo_connect.proofs.TableLemmas.{whole-table}
+use Rattle.mo_connect.proofs.TableLemmas.{whole_table}
 use Rattle.mo_connect.proofs.declared.table.Goals as goal
 
 pub tell_all-requires : goal.tell_all-requires
@@ -15,4 +15,4 @@ returns c =
     let size : length c.deref_mut.result.now ≡ c.args.bound = omega arith in
     let told = rw size at c.tell_all.ensures in
     let whole : length c.tell_all.new.table ≡ c.in_ok-made.made.len = omega (arith, told.length_is) in
-    rw (whole-table c.in_ok-made.made.len c.tell_all.new.table _ whole) told
+    rw (whole_table c.in_ok-made.made.len c.tell_all.new.table _ whole) told

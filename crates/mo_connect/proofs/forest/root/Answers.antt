@@ -1,11 +1,11 @@
 use Rattle.std.proofs.Common.{◌≤◌, ◌<◌, length, get_or, refl, arith}
 use Rattle.mo_connect.specs.steps.Forest.{Climbs}
-use Rattle.mo_connect.proofs.ForestLemmas.{shortens-none, shortens-twice, shortens-at, climbs-through, same-higher}
+use Rattle.mo_connect.proofs.ForestLemmas.{shortens_none, shortens_twice, shortens_at, climbs_through, same_higher}
 use Rattle.mo_connect.proofs.forest.root.Goals as goal
 
 pub climb-init : goal.climb-init
 climb-init c = record {
-  shortens = shortens-none _ c.requires.forest;
+  shortens = shortens_none _ c.requires.forest;
   climbs = Climbs.here;
   same = λ f constant. refl;
   known = omega arith;
@@ -19,8 +19,8 @@ climb-preserved c =
     let known : get_or c.climb.parent c.climb.at 0 < length c.climb.parent = omega arith in
     let next : get_or c.climb.parent (get_or c.climb.parent c.climb.at 0) 0 ≤ get_or c.climb.parent c.climb.at 0 = before.shortens.forest _ known in
     record {
-      shortens = shortens-twice _ _ _ before.shortens (shortens-at _ _ before.shortens.forest within);
-      climbs = Climbs.chain before.climbs (climbs-through _ _ before.shortens.size before.shortens.climbs (Climbs.chain (Climbs.up within) (Climbs.up known)));
-      same = same-higher _ _ _ before.shortens.forest within before.same;
+      shortens = shortens_twice _ _ _ before.shortens (shortens_at _ _ before.shortens.forest within);
+      climbs = Climbs.chain before.climbs (climbs_through _ _ before.shortens.size before.shortens.climbs (Climbs.chain (Climbs.up within) (Climbs.up known)));
+      same = same_higher _ _ _ before.shortens.forest within before.same;
       known = omega arith;
     }

@@ -1,5 +1,5 @@
 use Rattle.std.proofs.Common.{[], length, get_or, refl, ap, ◌∙◌, arith, length-append}
-use Rattle.mo_connect.proofs.TableLemmas.{empty-more}
+use Rattle.mo_connect.proofs.TableLemmas.{empty_more}
 use Rattle.mo_connect.proofs.gather.empty_lists.Goals as goal
 
 pub loop-i-init : goal.loop-i-init
@@ -10,4 +10,4 @@ loop-i-preserved c =
     let items = c.in_ok-push.ensures.items in
     let empty = c.new.ensures in
     let size = c.loop-i.invariant.0 in
-    (ap length items ∙ length-append c.loop-i.made.items _ ∙ omega arith, λ r. ap (λ l. get_or l r []) items ∙ rw empty (empty-more _ c.loop-i.invariant.1 r))
+    (ap length items ∙ length-append c.loop-i.made.items _ ∙ omega arith, λ r. ap (λ l. get_or l r []) items ∙ rw empty (empty_more _ c.loop-i.invariant.1 r))

@@ -1,5 +1,5 @@
 use Rattle.std.proofs.Common.{◌≡◌, ◌*◌, length, ap, arith}
-use Rattle.mo_connect.proofs.LabelLemmas.{whole-front}
+use Rattle.mo_connect.proofs.LabelLemmas.{whole_front}
 use Rattle.mo_connect.proofs.labels.labels.Goals as goal
 
 pub label_all-requires : goal.label_all-requires
@@ -16,4 +16,4 @@ returns c =
     let size : length c.deref_mut.result.now ≡ 2 * c.args.bound = omega arith in
     let labels = rw size at c.label_all.ensures in
     let whole : length c.label_all.new.parent ≡ c.in_ok-parent.parent.len = omega (arith, labels.length_is) in
-    rw (whole-front c.in_ok-parent.parent.len c.label_all.new.parent _ whole) labels
+    rw (whole_front c.in_ok-parent.parent.len c.label_all.new.parent _ whole) labels

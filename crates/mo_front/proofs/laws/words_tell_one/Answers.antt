@@ -1,5 +1,5 @@
-use Rattle.mo_front.proofs.OneAsked.{one-of-words}
+use Rattle.mo_front.proofs.OneAsked.{one_of_words}
 use Rattle.mo_front.proofs.laws.words_tell_one.Goals as goal
 
 pub returns : goal.returns
-returns c = λ words contents status other text more. one-of-words words contents status other text more
+returns c = λ words contents status other text more. one_of_words words contents status other text more

@@ -1,11 +1,11 @@
 -- What was written of what is told.
-use Rattle.mo_front.proofs.Writing.{writes-told, writes-front}
+use Rattle.mo_front.proofs.Writing.{writes_told, writes_front}
 use Rattle.mo_front.proofs.program.run_job.Goals as goal
 
 pub returns-in-Ok-put_all-clause-told : goal.returns-in-Ok-put_all-clause-told
 returns-in-Ok-put_all-clause-told g c = λ is_answer.
-    writes-told (g.S.Shelf.told c.args.shelf.now) _ _ _ _ _ c.in-Ok.answer.0 c.in-Ok.answer.1 _ c.in-Ok.ensures.told c.in-Ok-put_all.ensures.ok c.as_slice.ensures
+    writes_told (g.S.Shelf.told c.args.shelf.now) _ _ _ _ _ c.in-Ok.answer.0 c.in-Ok.answer.1 _ c.in-Ok.ensures.told c.in-Ok-put_all.ensures.ok c.as_slice.ensures
 
 pub returns-clause-front : goal.returns-clause-front
 returns-clause-front g c = λ fault.
-    writes-front (g.S.Shelf.told c.args.shelf.now) _ _ _ _ _ c.in-Ok.answer.0 c.in-Ok.answer.1 _ c.in-Ok.ensures.told c.in-Err-put_all.ensures.fault_front c.as_slice.ensures
+    writes_front (g.S.Shelf.told c.args.shelf.now) _ _ _ _ _ c.in-Ok.answer.0 c.in-Ok.answer.1 _ c.in-Ok.ensures.told c.in-Err-put_all.ensures.fault_front c.as_slice.ensures

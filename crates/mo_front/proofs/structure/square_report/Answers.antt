@@ -1,9 +1,9 @@
-use Rattle.mo_front.proofs.Structuring.{square-report}
+use Rattle.mo_front.proofs.Structuring.{square_report_holds}
 use Rattle.mo_front.proofs.structure.square_report.Goals as goal
 
 pub returns-clause-on : goal.returns-clause-on
 returns-clause-on c =
-    square-report _ _ c.in_ok-report.report _ c.in_ok-report-2.field-0 _ _ _ _ _ c.in_ok-report.ensures
+    square_report_holds _ _ c.in_ok-report.report _ c.in_ok-report-2.field-0 _ _ _ _ _ c.in_ok-report.ensures
     c.requires.square c.requires.least c.in_ok-report-2.ensures (record {
       reasons = c.requires.reasons;
       blocks = c.in_ok-report-3.ensures;

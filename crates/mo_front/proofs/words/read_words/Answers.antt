@@ -1,7 +1,7 @@
 -- Words that `clap` reads, and words that it refuses.
 use Rattle.std.proofs.Common.{rules}
 use Rattle.std.proofs.lemmas.Result.{IfOk-weaker}
-use Rattle.mo_front.proofs.Asking.{at-fault, named, not-named}
+use Rattle.mo_front.proofs.Asking.{at_fault, named, not_named}
 use Rattle.mo_front.proofs.words.read_words.Goals as goal
 
 pub returns-in-Ok-clause-names : goal.returns-in-Ok-clause-names
@@ -12,8 +12,8 @@ returns-in-Ok-clause-names c =
 
 pub returns-in-Ok-clause-usage : goal.returns-in-Ok-clause-usage
 returns-in-Ok-clause-usage c = λ same asked.
-    not-named _ _ _ asked c.in_ok-command.ensures c.in-Ok.ensures.matches (c.asked.ensures.usage same asked)
+    not_named _ _ _ asked c.in_ok-command.ensures c.in-Ok.ensures.matches (c.asked.ensures.usage same asked)
 
 pub returns-in-Err-clause-usage : goal.returns-in-Err-clause-usage
 returns-in-Err-clause-usage c = λ same asked.
-    at-fault _ _ _ asked c.in_ok-command.ensures c.in-Err.ensures.kinds (c.fault.ensures.usage (search rules))
+    at_fault _ _ _ asked c.in_ok-command.ensures c.in-Err.ensures.kinds (c.fault.ensures.usage (search rules))

@@ -1,5 +1,5 @@
 use Rattle.std.proofs.Common.{◌≡◌, length, arith, sym}
-use Rattle.mo_graph.proofs.Gathers.{row-room, row-take, row-head, row-taken, cursor-next, gather-next, seen-all}
+use Rattle.mo_graph.proofs.Gathers.{row_room, row_take, row_head, row_taken, cursor_next, gather_next, seen_all}
 use Rattle.mo_graph.proofs.gather.gather_row.Goals as goal
 
 pub bounds-queue-tail : goal.bounds-queue-tail
@@ -8,7 +8,7 @@ bounds-queue-tail c =
     let w = c.loop-cursor.invariant in
     let finished = rw same at c.requires.finished in
     let graph = rw same at c.requires.graph in
-    omega (arith, w.gathered.queue_all, row-room _ _ _ _ _ _ _ _ _ _ _ _ _ _ _ graph c.requires.threads finished w.gathered (omega arith) w.head (omega arith) w.cursor (w.key (omega arith)) c.if-class-source-ne0.false)
+    omega (arith, w.gathered.queue_all, row_room _ _ _ _ _ _ _ _ _ _ _ _ _ _ _ graph c.requires.threads finished w.gathered (omega arith) w.head (omega arith) w.cursor (w.key (omega arith)) c.if-class-source-ne0.false)
 
 pub loop-cursor-preserved : goal.loop-cursor-preserved
 loop-cursor-preserved c =
@@ -16,14 +16,14 @@ loop-cursor-preserved c =
     let w = c.loop-cursor.invariant in
     let finished = rw same at c.requires.finished in
     let graph = rw same at c.requires.graph in
-    let next = cursor-next _ _ _ _ _ _ _ _ _ _ _ _ _ _ _ graph c.requires.threads finished w.gathered (omega arith) w.head (omega arith) w.cursor (w.key (omega arith)) in
+    let next = cursor_next _ _ _ _ _ _ _ _ _ _ _ _ _ _ _ graph c.requires.threads finished w.gathered (omega arith) w.head (omega arith) w.cursor (w.key (omega arith)) in
     record {
-      gathered = row-take _ _ _ _ _ _ _ _ _ _ _ _ _ _ _ graph c.requires.threads finished w.gathered (omega arith) w.head (omega arith) w.cursor (w.key (omega arith)) c.if-class-source-ne0.false;
-      head = row-head _ _ _ _ _ _ _ _ _ _ _ _ _ _ _ graph c.requires.threads finished w.gathered (omega arith) w.head (omega arith) w.cursor (w.key (omega arith)) c.if-class-source-ne0.false;
+      gathered = row_take _ _ _ _ _ _ _ _ _ _ _ _ _ _ _ graph c.requires.threads finished w.gathered (omega arith) w.head (omega arith) w.cursor (w.key (omega arith)) c.if-class-source-ne0.false;
+      head = row_head _ _ _ _ _ _ _ _ _ _ _ _ _ _ _ graph c.requires.threads finished w.gathered (omega arith) w.head (omega arith) w.cursor (w.key (omega arith)) c.if-class-source-ne0.false;
       more = omega arith;
       cursor = next.0;
       key = next.1;
-      seen = row-taken _ _ _ _ _ _ _ _ _ _ _ _ _ _ _ graph c.requires.threads finished w.gathered (omega arith) w.head (omega arith) w.cursor (w.key (omega arith)) w.seen c.if-class-source-ne0.false;
+      seen = row_taken _ _ _ _ _ _ _ _ _ _ _ _ _ _ _ graph c.requires.threads finished w.gathered (omega arith) w.head (omega arith) w.cursor (w.key (omega arith)) w.seen c.if-class-source-ne0.false;
     }
 
 pub returns-clause-gathered : goal.returns-clause-gathered
@@ -33,4 +33,4 @@ returns-clause-gathered c =
     let finished = rw same at c.requires.finished in
     let zero_here : c.loop-cursor.cursor ≡ 0 = omega arith in
     let seen = rw zero_here at w.seen in
-    gather-next _ _ _ _ _ finished _ _ _ _ _ _ _ w.gathered (omega arith) (λ u there. seen-all c.args.sources.now c.args._targets.now _ _ u c.requires.graph.same seen (rw w.head at there))
+    gather_next _ _ _ _ _ finished _ _ _ _ _ _ _ w.gathered (omega arith) (λ u there. seen_all c.args.sources.now c.args._targets.now _ _ u c.requires.graph.same seen (rw w.head at there))

@@ -7,7 +7,7 @@ use Rattle.mo_scope.specs.Rows.{replacing_in}
 use Rattle.mo_scope.specs.Worlds.{table_in}
 use Rattle.mo_mods.specs.Left.{element_says, elements_say}
 use Rattle.mo_mods.specs.Sights.{left_in, said_held}
-use Rattle.mo_scope.proofs.Sayings.{gathered_more, gathered_all, flat_map-flat_map}
+use Rattle.mo_scope.proofs.Sayings.{gathered_more, gathered_all, flat_map_flat_map}
 use Rattle.mo_mods.proofs.groups.put_elements.Goals as goal
 
 pub loop-item-preserved : goal.loop-item-preserved
@@ -23,4 +23,4 @@ returns c = λ frames other.
     (said_held frames c.args.groups.now other) (said_held frames c.loop-item.groups other)
     c.args.items.now c.loop-item.item-index c.loop-item-test.false (c.loop-item.invariant frames other)
     ∙ ap (λ xs. said_held frames c.args.groups.now other ++ xs)
-    (sym (flat_map-flat_map (λ (element : Element). element_says other (left_in frames c.args.left.now) (declared_in (table_in c.args.scopes.now) element)) replacing_in c.args.items.now))
+    (sym (flat_map_flat_map (λ (element : Element). element_says other (left_in frames c.args.left.now) (declared_in (table_in c.args.scopes.now) element)) replacing_in c.args.items.now))

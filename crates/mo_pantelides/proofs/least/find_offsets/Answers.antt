@@ -1,15 +1,15 @@
 use Rattle.std.proofs.Common.{◌∙◌, arith}
-use Rattle.mo_match.proofs.Deficit.{matching-none, tree-none}
-use Rattle.mo_pantelides.proofs.Starting.{start-rising, start-gap, start-cost, cost-on, settled-next, least-at-end, start-open}
+use Rattle.mo_match.proofs.Deficit.{matching_none, tree_none}
+use Rattle.mo_pantelides.proofs.Starting.{start_rising, start_gap, start_cost, cost_on, settled_next, least_at_end, start_open}
 use Rattle.mo_pantelides.proofs.least.find_offsets.Goals as goal
 
 pub loop-root-init : goal.loop-root-init
 loop-root-init g c = record {
-  rising = start-rising _ _ _ c.clear.ensures c.greatest_orders.ensures.bounds c.greatest_orders.ensures.least;
-  matching = matching-none _ _ _ _ _ (c.clear-2.auto.list ∙ c.requires.room.0) (c.clear-3.auto.list ∙ c.requires.room.1) c.clear-2.ensures c.clear-3.ensures;
-  tree = tree-none _ _ _ _ _ _ c.requires.room_search.0 c.requires.room_search.1 (c.clear-4.auto.list ∙ c.requires.room_search.2) c.clear-4.ensures;
+  rising = start_rising _ _ _ c.clear.ensures c.greatest_orders.ensures.bounds c.greatest_orders.ensures.least;
+  matching = matching_none _ _ _ _ _ (c.clear-2.auto.list ∙ c.requires.room.0) (c.clear-3.auto.list ∙ c.requires.room.1) c.clear-2.ensures c.clear-3.ensures;
+  tree = tree_none _ _ _ _ _ _ c.requires.room_search.0 c.requires.room_search.1 (c.clear-4.auto.list ∙ c.requires.room_search.2) c.clear-4.ensures;
   settled = λ i l. absurd (omega arith);
-  cost = λ h bound. start-cost _ _ _ _ _ c.greatest_orders.ensures.cost (start-gap _ _ _ c.clear.ensures c.greatest_orders.ensures.bounds c.greatest_orders.ensures.least h bound);
+  cost = λ h bound. start_cost _ _ _ _ _ c.greatest_orders.ensures.cost (start_gap _ _ _ c.clear.ensures c.greatest_orders.ensures.bounds c.greatest_orders.ensures.least h bound);
 }
 
 pub loop-root-preserved : goal.loop-root-preserved
@@ -20,14 +20,14 @@ loop-root-preserved g c =
       rising = step.rising;
       matching = step.matching;
       tree = step.tree;
-      settled = settled-next _ _ c.loop-root.root before.settled step.kept step.gained;
-      cost = λ h bound. cost-on _ _ _ _ _ _ c.loop-root.root _ (before.cost h bound) step.cost;
+      settled = settled_next _ _ c.loop-root.root before.settled step.kept step.gained;
+      cost = λ h bound. cost_on _ _ _ _ _ _ c.loop-root.root _ (before.cost h bound) step.cost;
     }
 
 pub returns-clause-least : goal.returns-clause-least
 returns-clause-least g c =
-    least-at-end _ _ _ c.loop-root.pairs c.loop-root.owner c.loop-root.invariant.rising c.loop-root.invariant.matching
+    least_at_end _ _ _ c.loop-root.pairs c.loop-root.owner c.loop-root.invariant.rising c.loop-root.invariant.matching
     (λ i l. c.loop-root.invariant.settled i (omega (arith, c.equations-equations.ensures.count)))
 
 pub returns-clause-open : goal.returns-clause-open
-returns-clause-open g c = start-open _ _ _ c.equations-equations.ensures.sound c.loop-root.invariant.rising.small
+returns-clause-open g c = start_open _ _ _ c.equations-equations.ensures.sound c.loop-root.invariant.rising.small

@@ -1,62 +1,62 @@
 use Rattle.std.proofs.Common.{rules, ◌∙◌, arith}
-use Rattle.mo_match.proofs.Trees.{unused-back, entry-back, entry-free}
-use Rattle.mo_pantelides.proofs.Looking.{row-few}
-use Rattle.mo_pantelides.proofs.Seeking.{x-in, tree-looked, seek-unused, seek-own, seek-free, seek-reached, holder-in, holder-room, reached-looked, entry-looked}
+use Rattle.mo_match.proofs.Trees.{unused_back, entry_back, entry_free}
+use Rattle.mo_pantelides.proofs.Looking.{row_few}
+use Rattle.mo_pantelides.proofs.Seeking.{x_in, tree_looked, seek_unused, seek_own, seek_free, seek-reached, holder-in, holder-room, reached-looked, entry_looked}
 use Rattle.mo_pantelides.proofs.seek.look.Goals as goal
 
 pub overflow_add-mark : goal.overflow_add-mark
 overflow_add-mark g c =
-    let inside = x-in _ _ _ _ _ _ _ _ _ _ _ _ _ _ c.equations-equations.ensures.sound c.requires.open c.requires.root c.requires.seeking _ c.requires.place in
-    let few = row-few _ _ c.equations-equations.ensures.sound inside in
+    let inside = x_in _ _ _ _ _ _ _ _ _ _ _ _ _ _ c.equations-equations.ensures.sound c.requires.open c.requires.root c.requires.seeking _ c.requires.place in
+    let few = row_few _ _ c.equations-equations.ensures.sound inside in
     let entry = c.requires.entry in
     search (rules, arith)
 
 pub returns-in-None-clause-on : goal.returns-in-None-clause-on
 returns-in-None-clause-on g c =
-    seek-unused _ _ _ _ _ _ _ _ _ _ _ _ _ _ c.equations-equations.ensures.sound c.requires.open c.requires.root c.requires.seeking _ c.requires.place _ c.requires.k c.requires.entry
-    (unused-back _ _ _ (rw c.of_tight-graph.ensures at c.in-None.ensures.none))
+    seek_unused _ _ _ _ _ _ _ _ _ _ _ _ _ _ c.equations-equations.ensures.sound c.requires.open c.requires.root c.requires.seeking _ c.requires.place _ c.requires.k c.requires.entry
+    (unused_back _ _ _ (rw c.of_tight-graph.ensures at c.in-None.ensures.none))
 
 pub returns-in-None-clause-looked : goal.returns-in-None-clause-looked
 returns-in-None-clause-looked g c =
-    entry-looked _ _ _ _ _ _ _ _ _ _ _ _ _ _ c.equations-equations.ensures.sound c.requires.open c.requires.root c.requires.seeking _ c.requires.place _ c.requires.k c.requires.entry
+    entry_looked _ _ _ _ _ _ _ _ _ _ _ _ _ _ c.equations-equations.ensures.sound c.requires.open c.requires.root c.requires.seeking _ c.requires.place _ c.requires.k c.requires.entry
 
 pub returns-then-holder-eq0-clause-found : goal.returns-then-holder-eq0-clause-found
 returns-then-holder-eq0-clause-found g c =
     let some = rw c.of_tight-graph.ensures at c.in-Some.ensures.some in
     let known = rw c.of_tight-graph.ensures at c.in-Some.ensures.known in
-    seek-free _ _ _ _ _ _ _ _ _ _ _ _ _ _ c.equations-equations.ensures.sound c.requires.open c.requires.root c.requires.seeking _ c.requires.place _ c.requires.k c.requires.entry _
-    (entry-free _ _ _ _ _ c.requires.entry some known c.if-holder-eq0.true) (entry-back _ _ _ _ some).0
+    seek_free _ _ _ _ _ _ _ _ _ _ _ _ _ _ c.equations-equations.ensures.sound c.requires.open c.requires.root c.requires.seeking _ c.requires.place _ c.requires.k c.requires.entry _
+    (entry_free _ _ _ _ _ c.requires.entry some known c.if-holder-eq0.true) (entry_back _ _ _ _ some).0
 
 pub returns-then-holder-eq0-clause-looked : goal.returns-then-holder-eq0-clause-looked
 returns-then-holder-eq0-clause-looked g c =
-    entry-looked _ _ _ _ _ _ _ _ _ _ _ _ _ _ c.equations-equations.ensures.sound c.requires.open c.requires.root c.requires.seeking _ c.requires.place _ c.requires.k c.requires.entry
+    entry_looked _ _ _ _ _ _ _ _ _ _ _ _ _ _ c.equations-equations.ensures.sound c.requires.open c.requires.root c.requires.seeking _ c.requires.place _ c.requires.k c.requires.entry
 
 pub returns-then-holder-equation-clause-on : goal.returns-then-holder-equation-clause-on
 returns-then-holder-equation-clause-on g c =
     let some = rw c.of_tight-graph.ensures at c.in-Some.ensures.some in
     let known = rw c.of_tight-graph.ensures at c.in-Some.ensures.known in
-    seek-own _ _ _ _ _ _ _ _ _ _ _ _ _ _ c.equations-equations.ensures.sound c.requires.open c.requires.root c.requires.seeking _ c.requires.place _ c.requires.k c.requires.entry _
-    (entry-back _ _ _ _ some).0 known (omega (arith, c.if-holder-equation.true))
+    seek_own _ _ _ _ _ _ _ _ _ _ _ _ _ _ c.equations-equations.ensures.sound c.requires.open c.requires.root c.requires.seeking _ c.requires.place _ c.requires.k c.requires.entry _
+    (entry_back _ _ _ _ some).0 known (omega (arith, c.if-holder-equation.true))
 
 pub returns-then-holder-equation-clause-looked : goal.returns-then-holder-equation-clause-looked
 returns-then-holder-equation-clause-looked g c =
-    entry-looked _ _ _ _ _ _ _ _ _ _ _ _ _ _ c.equations-equations.ensures.sound c.requires.open c.requires.root c.requires.seeking _ c.requires.place _ c.requires.k c.requires.entry
+    entry_looked _ _ _ _ _ _ _ _ _ _ _ _ _ _ c.equations-equations.ensures.sound c.requires.open c.requires.root c.requires.seeking _ c.requires.place _ c.requires.k c.requires.entry
 
 pub meet-next-requires-clause-x : goal.meet-next-requires-clause-x
 meet-next-requires-clause-x g c =
     let some = rw c.of_tight-graph.ensures at c.in-Some.ensures.some in
     let known = rw c.of_tight-graph.ensures at c.in-Some.ensures.known in
-    let entry = entry-back _ _ _ _ some in
+    let entry = entry_back _ _ _ _ some in
     let inside = holder-in _ _ _ _ _ _ _ _ _ _ _ _ _ _ c.equations-equations.ensures.sound c.requires.open c.requires.root c.requires.seeking _ c.requires.place _ c.requires.k c.requires.entry
     _ entry.0 known entry.1 c.if-holder-eq0.false in
-    let tree = tree-looked _ _ _ _ _ _ _ _ _ _ _ _ _ _ c.equations-equations.ensures.sound c.requires.open c.requires.root c.requires.seeking _ c.requires.place _ c.requires.k c.requires.entry in
+    let tree = tree_looked _ _ _ _ _ _ _ _ _ _ _ _ _ _ c.equations-equations.ensures.sound c.requires.open c.requires.root c.requires.seeking _ c.requires.place _ c.requires.k c.requires.entry in
     omega (arith, inside, tree.mark_all)
 
 pub meet-next-requires-clause-room : goal.meet-next-requires-clause-room
 meet-next-requires-clause-room g c = λ unmarked.
     let some = rw c.of_tight-graph.ensures at c.in-Some.ensures.some in
     let known = rw c.of_tight-graph.ensures at c.in-Some.ensures.known in
-    let entry = entry-back _ _ _ _ some in
+    let entry = entry_back _ _ _ _ some in
     let room = holder-room _ _ _ _ _ _ _ _ _ _ _ _ _ _ c.equations-equations.ensures.sound c.requires.open c.requires.root c.requires.seeking _ c.requires.place _ c.requires.k c.requires.entry
     _ entry.0 known entry.1 c.if-holder-eq0.false unmarked in
     (omega (arith, room, c.requires.seeking.tree.queue_all), omega (arith, room, c.requires.seeking.tree.parent_all))
@@ -65,7 +65,7 @@ pub returns-clause-on : goal.returns-clause-on
 returns-clause-on g c =
     let some = rw c.of_tight-graph.ensures at c.in-Some.ensures.some in
     let known = rw c.of_tight-graph.ensures at c.in-Some.ensures.known in
-    let entry = entry-back _ _ _ _ some in
+    let entry = entry_back _ _ _ _ some in
     let met = c.meet-next.ensures in
     rw met.head (seek-reached _ _ _ _ _ _ _ _ _ _ _ _ _ _ c.equations-equations.ensures.sound c.requires.open c.requires.root c.requires.seeking _ c.requires.place _ c.requires.k c.requires.entry
     _ entry.0 known entry.1 c.if-holder-eq0.false _ _ _ _ _ met.reaches met.loose met.row)
@@ -74,8 +74,8 @@ pub returns-clause-looked : goal.returns-clause-looked
 returns-clause-looked g c =
     let some = rw c.of_tight-graph.ensures at c.in-Some.ensures.some in
     let known = rw c.of_tight-graph.ensures at c.in-Some.ensures.known in
-    let entry = entry-back _ _ _ _ some in
+    let entry = entry_back _ _ _ _ some in
     let met = c.meet-next.ensures in
     reached-looked _ _ _ _ _ _ _ _ _ _ _ _ _ _ c.equations-equations.ensures.sound c.requires.open c.requires.root c.requires.seeking _ c.requires.place _ c.requires.k c.requires.entry
     _ entry.0 known entry.1 c.if-holder-eq0.false _ _ _ _ met.reaches
-    ∙ entry-looked _ _ _ _ _ _ _ _ _ _ _ _ _ _ c.equations-equations.ensures.sound c.requires.open c.requires.root c.requires.seeking _ c.requires.place _ c.requires.k c.requires.entry
+    ∙ entry_looked _ _ _ _ _ _ _ _ _ _ _ _ _ _ c.equations-equations.ensures.sound c.requires.open c.requires.root c.requires.seeking _ c.requires.place _ c.requires.k c.requires.entry

@@ -1,12 +1,12 @@
 use Rattle.std.proofs.Common.{◌≡◌, ◌<◌, ◌∙◌, arith}
 use Rattle.mo_incidence.specs.Signature.{equations}
-use Rattle.mo_pantelides.proofs.Fixing.{fixed-start, fixed-skip, fixed-tight, fixed-covers, fixed-least, tree-as, cost-next, cost-skip}
+use Rattle.mo_pantelides.proofs.Fixing.{fixed_start, fixed_skip, fixed_tight, fixed_covers, fixed_least, tree_as, cost_next, cost_skip}
 use Rattle.mo_pantelides.proofs.transversal.fix_all.Goals as goal
 
 pub loop-root-init : goal.loop-root-init
 loop-root-init g c = record {
-  fixed = fixed-start _ _ _ _ _ _ _ c.copy_from_slice.ensures.after c.requires.sizes.1 (c.clear.auto.list ∙ c.requires.sizes.3) c.clear.ensures c.requires.matching c.requires.all;
-  tree = tree-as c.requires.tree;
+  fixed = fixed_start _ _ _ _ _ _ _ c.copy_from_slice.ensures.after c.requires.sizes.1 (c.clear.auto.list ∙ c.requires.sizes.3) c.clear.ensures c.requires.matching c.requires.all;
+  tree = tree_as c.requires.tree;
   cost = omega arith;
 }
 
@@ -14,29 +14,29 @@ pub loop-root-preserved-then-fixed-root-ne0 : goal.loop-root-preserved-then-fixe
 loop-root-preserved-then-fixed-root-ne0 g c =
     let at : c.loop-root.root < equations c.args.inc.now = omega (arith, c.equations-equations.ensures.count) in
     record {
-      fixed = fixed-skip _ _ _ _ _ _ _ _ _ c.equations-equations.ensures.sound c.requires.open c.loop-root.invariant.fixed at c.if-fixed-root-ne0.true;
+      fixed = fixed_skip _ _ _ _ _ _ _ _ _ c.equations-equations.ensures.sound c.requires.open c.loop-root.invariant.fixed at c.if-fixed-root-ne0.true;
       tree = c.loop-root.invariant.tree;
-      cost = cost-skip _ _ _ _ c.loop-root.invariant.cost;
+      cost = cost_skip _ _ _ _ c.loop-root.invariant.cost;
     }
 
 pub loop-root-preserved : goal.loop-root-preserved
 loop-root-preserved g c = record {
   fixed = c.fix.ensures.fixed;
   tree = c.fix.ensures.tree;
-  cost = cost-next _ _ _ _ _ c.loop-root.invariant.cost c.fix.ensures.cost;
+  cost = cost_next _ _ _ _ _ c.loop-root.invariant.cost c.fix.ensures.cost;
 }
 
 pub returns-clause-tight : goal.returns-clause-tight
 returns-clause-tight g c =
     let at : c.loop-root.root ≡ equations c.args.inc.now = omega (arith, c.equations-equations.ensures.count) in
-    fixed-tight _ _ _ _ _ _ _ _ (rw at at c.loop-root.invariant.fixed)
+    fixed_tight _ _ _ _ _ _ _ _ (rw at at c.loop-root.invariant.fixed)
 
 pub returns-clause-all : goal.returns-clause-all
 returns-clause-all g c =
     let at : c.loop-root.root ≡ equations c.args.inc.now = omega (arith, c.equations-equations.ensures.count) in
-    fixed-covers _ _ _ _ _ _ _ _ (rw at at c.loop-root.invariant.fixed)
+    fixed_covers _ _ _ _ _ _ _ _ (rw at at c.loop-root.invariant.fixed)
 
 pub returns-clause-least : goal.returns-clause-least
 returns-clause-least g c =
     let at : c.loop-root.root ≡ equations c.args.inc.now = omega (arith, c.equations-equations.ensures.count) in
-    fixed-least _ _ _ _ _ _ _ _ (rw at at c.loop-root.invariant.fixed)
+    fixed_least _ _ _ _ _ _ _ _ (rw at at c.loop-root.invariant.fixed)

@@ -8,7 +8,7 @@ use Rattle.mo_scope.specs.Rows.{replacing_in}
 use Rattle.mo_scope.specs.Sights.{source_seen}
 use Rattle.mo_scope.specs.Spoken.{spoken_element}
 use Rattle.mo_scope.specs.Worlds.{frames_of, source_in, table_in}
-use Rattle.mo_scope.proofs.Sayings.{gathered_more, gathered_all, flat_map-flat_map}
+use Rattle.mo_scope.proofs.Sayings.{gathered_more, gathered_all, flat_map_flat_map}
 use Rattle.mo_redeclare.specs.steps.Sights.{IsNamed, named_seen}
 use Rattle.mo_redeclare.specs.steps.Comparing.{redeclares_in}
 use Rattle.mo_redeclare.proofs.Speaking.{put_more, put_exist}
@@ -31,6 +31,6 @@ returns c =
     let says = λ (element : Element). redeclares_in (spoken_element (table_in c.args.s.now) (source_in F (source_seen c.args.source.now)) (declared_in (table_in c.args.s.now) element)) in
     record {
       are = gathered_all (λ (item : Item). flat_map says (replacing_in item)) (map (named_seen F) c.args.made.now) (map (named_seen F) c.loop-item.made) c.args.items.now c.loop-item.item-index c.loop-item-test.false c.loop-item.invariant.are
-          ∙ ap (λ zs. map (named_seen F) c.args.made.now ++ zs) (sym (flat_map-flat_map says replacing_in c.args.items.now));
+          ∙ ap (λ zs. map (named_seen F) c.args.made.now ++ zs) (sym (flat_map_flat_map says replacing_in c.args.items.now));
       exist = c.loop-item.invariant.exist;
     }

@@ -6,7 +6,7 @@ use Rattle.mo_scope.specs.Frames.{Source}
 use Rattle.mo_scope.specs.Sights.{source_seen}
 use Rattle.mo_scope.specs.Spoken.{spoken_of}
 use Rattle.mo_scope.specs.Worlds.{SourceEntry, frames_of, source_in, sources_in, table_in}
-use Rattle.mo_scope.proofs.Sayings.{gathered_more, gathered_all, flat_map-flat_map}
+use Rattle.mo_scope.proofs.Sayings.{gathered_more, gathered_all, flat_map_flat_map}
 use Rattle.mo_redeclare.specs.steps.Sights.{named_seen}
 use Rattle.mo_redeclare.specs.steps.Comparing.{redeclares_in, redeclares_of}
 use Rattle.mo_redeclare.proofs.Speaking.{source_exists}
@@ -33,5 +33,5 @@ returns-clause-are c =
     gathered_all (λ (source : SourceAt). says (source_in F (source_seen source))) [] (map (named_seen F) c.loop-source.made) c.as_slice-sources.result.now c.loop-source.source-index c.loop-source-test.false c.loop-source.invariant.are
     ∙ ap (λ (xs : List SourceAt). flat_map (λ (source : SourceAt). says (source_in F (source_seen source))) xs) c.as_slice-sources.ensures
     ∙ sym (flat_map-map says (source_in F) (map source_seen c.sources.result.now) ∙ flat_map-map (λ (source : SourceEntry). says (source_in F source)) source_seen c.sources.result.now)
-    ∙ sym (flat_map-flat_map redeclares_of (spoken_of (table_in c.args.s.now)) (sources_in F (map source_seen c.sources.result.now)))
+    ∙ sym (flat_map_flat_map redeclares_of (spoken_of (table_in c.args.s.now)) (sources_in F (map source_seen c.sources.result.now)))
     ∙ ap (λ (xs : List Source). redeclares_in (flat_map (spoken_of (table_in c.args.s.now)) xs)) c.sources.ensures.is

@@ -14,7 +14,7 @@ use Rattle.mo_scope.specs.Rows.{number_of_element, replacing_in}
 use Rattle.mo_scope.specs.Sights.{given_seen, modifiers_seen, picked_in}
 use Rattle.mo_scope.proofs.PathPicking.{anew, brings, brings_same, by_given, found_here, found_nowhere, is_none, kept_less, kept_set, listed, modifies, passed_here, said_argued, said_left, said_list}
 use Rattle.mo_scope.specs.Worlds.{scope_in}
-use Rattle.mo_scope.proofs.Sayings.{flat_map-flat_map}
+use Rattle.mo_scope.proofs.Sayings.{flat_map_flat_map}
 use Rattle.mo_scope.proofs.pick_path.+pick.Goals as goal
 
 pub pick_in_list-returns-in-Some-clause-is : goal.pick_in_list-returns-in-Some-clause-is
@@ -115,7 +115,7 @@ pick_in_items-returns-in-Some-clause-is t c = λ frames table source more seen.
     (λ others. ap (λ (r : Option PickedAt). or_else (option_map (picked_in frames) r) (picked_said table (drop c.args.at c.pick_by_item.new.wins) others rest)) (sym c.in-Some.is)
     ∙ c.pick_by_item.ensures.is frames table source others seen)
     (c.loop-item.invariant.is frames table source more seen)
-    ∙ ap (λ (s : List Saying). picked_said table (drop c.args.at c.args.wins.now) (s ++ more) rest) (sym (flat_map-flat_map says replacing_in c.args.items.now))
+    ∙ ap (λ (s : List Saying). picked_said table (drop c.args.at c.args.wins.now) (s ++ more) rest) (sym (flat_map_flat_map says replacing_in c.args.items.now))
 
 pub pick_in_items-loop-item-preserved : goal.pick_in_items-loop-item-preserved
 pick_in_items-loop-item-preserved t c = record {
@@ -139,4 +139,4 @@ pick_in_items-returns-clause-is t c = λ frames table source more seen.
     let says = λ (element : Element). said_by_element table source name [] (declared_in table element) in
     found_nowhere (λ (item : Item). flat_map says (replacing_in item)) table c.args.items.now rest
     c.loop-item.item-index c.loop-item-test.false (drop c.args.at c.loop-item.wins) more _ (c.loop-item.invariant.is frames table source more seen)
-    ∙ ap (λ (s : List Saying). picked_said table (drop c.args.at c.args.wins.now) (s ++ more) rest) (sym (flat_map-flat_map says replacing_in c.args.items.now))
+    ∙ ap (λ (s : List Saying). picked_said table (drop c.args.at c.args.wins.now) (s ++ more) rest) (sym (flat_map_flat_map says replacing_in c.args.items.now))

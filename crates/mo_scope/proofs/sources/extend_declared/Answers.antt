@@ -4,7 +4,7 @@ use Rattle.std.proofs.lemmas.Result.{on_ok_weaker}
 use Rattle.std.specs.Option.{option_to_list}
 use Rattle.mo_scope.specs.Sights.{constraint_seen, member_seen, source_seen}
 use Rattle.mo_scope.specs.Worlds.{member_in, sources_in}
-use Rattle.mo_scope.proofs.Sayings.{both_more, seen_append, declared_is, is_some-map}
+use Rattle.mo_scope.proofs.Sayings.{both_more, seen_append, declared_is, is_some_map}
 use Rattle.mo_scope.proofs.sources.extend_declared.Goals as goal
 
 pub returns : goal.returns
@@ -17,5 +17,5 @@ returns c =
     (seen_append frames c.args.made.now (option_to_list c.in_ok-own.own) c.put.new.made c.in_ok-put.ensures)
     (seen_append frames c.put.new.made (option_to_list c.in_ok-constraint.constraint) c.put-2.new.made is)
     (c.in_ok-own.ensures frames) (c.in_ok-constraint.ensures frames)
-    (declared_is (member_in frames (member_seen c.args.member.now)) c.args.index.now wins c.args.replaced _ has (is_some-map constraint_seen c.args.member.now.declares.limit)))
+    (declared_is (member_in frames (member_seen c.args.member.now)) c.args.index.now wins c.args.replaced _ has (is_some_map constraint_seen c.args.member.now.declares.limit)))
     c.put-2.ensures

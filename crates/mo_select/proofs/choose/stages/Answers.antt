@@ -3,32 +3,32 @@ use Rattle.std.proofs.lemmas.Bool.Decides.{nat_tests}
 use Rattle.mo_incidence.specs.Signature.{equations}
 use Rattle.mo_incidence.specs.Offsets.{by_place, by_number}
 use Rattle.mo_incidence.specs.Dummies.{greatest}
-use Rattle.mo_blocks.proofs.Dummying.{at-diff, keep-next, stage-low, falls-below}
-use Rattle.mo_select.proofs.Stages.{diff-few, made-none, made-next, made-whole}
+use Rattle.mo_blocks.proofs.Dummying.{at_diff, keep_next, stage_low, falls_below}
+use Rattle.mo_select.proofs.Stages.{diff_few, made_none, made_next, made_whole}
 use Rattle.mo_select.proofs.choose.stages.Goals as goal
 
 pub keep-requires : goal.keep-requires
 keep-requires c = λ k l.
-    let known = at-diff (by_place c.args.c.now) 0 _ _ (c.deref.ensures.value ∙ c.in_ok-all.ensures (by_place c.args.c.now)) k l in
+    let known = at_diff (by_place c.args.c.now) 0 _ _ (c.deref.ensures.value ∙ c.in_ok-all.ensures (by_place c.args.c.now)) k l in
     omega (arith, known.0, c.equations.ensures.count)
 
 pub on-init : goal.on-init
 on-init c = record {
-  made = made-none c.args.inc.now (by_place c.args.c.now) (by_number c.args.d.now) (by_number c.args.level.now) (by_place c.args._pairs.now) _ _ _
+  made = made_none c.args.inc.now (by_place c.args.c.now) (by_number c.args.d.now) (by_number c.args.level.now) (by_place c.args._pairs.now) _ _ _
       c.equations-equations.ensures.sound c.requires.tight c.requires.all c.new-stages.ensures (rw c.unknowns.ensures at c.in_ok-candidates.ensures)
-      (keep-next (by_place c.args.c.now) 0 _ _ _ (c.deref.ensures.value ∙ rw c.equations.ensures.count at (c.in_ok-all.ensures (by_place c.args.c.now))) c.in_ok-active.ensures);
+      (keep_next (by_place c.args.c.now) 0 _ _ _ (c.deref.ensures.value ∙ rw c.equations.ensures.count at (c.in_ok-all.ensures (by_place c.args.c.now))) c.in_ok-active.ensures);
   size = c.requires.sizes.2;
   clear = c.requires.clear;
 }
 
 pub stage-requires-clause-active : goal.stage-requires-clause-active
 stage-requires-clause-active c = λ k l.
-    let known = at-diff (by_place c.args.c.now) _ _ _ (c.deref-in-on.ensures.value ∙ c.on.invariant.made.active_is) k l in
+    let known = at_diff (by_place c.args.c.now) _ _ _ (c.deref-in-on.ensures.value ∙ c.on.invariant.made.active_is) k l in
     known.0
 
 pub stage-requires-clause-few : goal.stage-requires-clause-few
 stage-requires-clause-few c =
-    let few = diff-few (by_place c.args.c.now) (c.on.done + 1) (equations c.args.inc.now) in
+    let few = diff_few (by_place c.args.c.now) (c.on.done + 1) (equations c.args.inc.now) in
     omega (arith, ap length (c.deref-in-on.ensures.value ∙ c.on.invariant.made.active_is), c.equations-equations.ensures.sound.few_equations)
 
 pub stage-requires-clause-unknowns : goal.stage-requires-clause-unknowns
@@ -40,21 +40,21 @@ stage-requires-clause-can c = rw (c.deref-in-on.ensures.value, c.deref-in-on-2.e
 pub overflow_add-done : goal.overflow_add-done
 overflow_add-done c =
     let some : 0 < vec_len c.on.active = grind (arith, nat_tests, c.on-test.ensures) in
-    let known = at-diff (by_place c.args.c.now) _ _ _ c.on.invariant.made.active_is 0 (omega arith) in
+    let known = at_diff (by_place c.args.c.now) _ _ _ c.on.invariant.made.active_is 0 (omega arith) in
     let fits = c.type_inv.c (slice_index_or c.on.active.items 0 0) in
     let high = known.1 in
     search (rules, arith)
 
 pub keep-requires-in-on : goal.keep-requires-in-on
 keep-requires-in-on c = λ k l.
-    let known = at-diff (by_place c.args.c.now) _ _ _ (c.deref-in-on-3.ensures.value ∙ c.on.invariant.made.active_is) k l in
+    let known = at_diff (by_place c.args.c.now) _ _ _ (c.deref-in-on-3.ensures.value ∙ c.on.invariant.made.active_is) k l in
     omega (arith, known.0)
 
 pub on-preserved : goal.on-preserved
 on-preserved c =
     let some : 0 < vec_len c.on.active = grind (arith, nat_tests, c.on-test.ensures) in
     record {
-      made = made-next c.args.inc.now (by_place c.args.c.now) (by_number c.args.d.now) (by_number c.args.level.now) c.on.stages c.on.candidates.items c.on.active.items c.on.done
+      made = made_next c.args.inc.now (by_place c.args.c.now) (by_number c.args.d.now) (by_number c.args.level.now) c.on.stages c.on.candidates.items c.on.active.items c.on.done
           c.requires.low c.on.invariant.made (omega arith) c.in_ok-made.made (rw (c.deref-in-on.ensures.value, c.deref-in-on-2.ensures.value) at c.in_ok-made.ensures.stage)
           _ _ _ c.in_ok-push.ensures.ok (rw c.as_slice.ensures at c.in_ok-candidates-2.ensures) (rw c.deref-in-on-3.ensures.value at c.in_ok-active-2.ensures);
       size = omega (arith, c.on.invariant.size);
@@ -64,13 +64,13 @@ on-preserved c =
 pub on-smaller : goal.on-smaller
 on-smaller c =
     let some : 0 < vec_len c.on.active = grind (arith, nat_tests, c.on-test.ensures) in
-    let low = stage-low (by_place c.args.c.now) (c.on.done + 1) (equations c.args.inc.now) (omega (arith, ap length c.on.invariant.made.active_is)) in
-    falls-below (greatest (by_place c.args.c.now) (equations c.args.inc.now)) c.on.done low
+    let low = stage_low (by_place c.args.c.now) (c.on.done + 1) (equations c.args.inc.now) (omega (arith, ap length c.on.invariant.made.active_is)) in
+    falls_below (greatest (by_place c.args.c.now) (equations c.args.inc.now)) c.on.done low
 
 pub returns : goal.returns
 returns c =
     let none : vec_len c.on.active ≡ 0 = grind (arith, nat_tests, c.on-test.ensures) in
-    made-whole _ _ _ _ _ _ _ _ c.on.invariant.made (omega arith)
+    made_whole _ _ _ _ _ _ _ _ c.on.invariant.made (omega arith)
 
 pub stage-requires-clause-sizes : goal.stage-requires-clause-sizes
 stage-requires-clause-sizes c = (c.requires.sizes.0, c.requires.sizes.1, c.on.invariant.size)

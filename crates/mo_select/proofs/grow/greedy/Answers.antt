@@ -1,6 +1,6 @@
 use Rattle.std.proofs.Common.{◌≡◌, length, ◌∙◌, arith}
-use Rattle.mo_graph.proofs.Lists.{written-whole}
-use Rattle.mo_select.proofs.Growing.{grown-greedy}
+use Rattle.mo_graph.proofs.Lists.{written_whole}
+use Rattle.mo_select.proofs.Growing.{grown_greedy}
 use Rattle.mo_select.proofs.grow.greedy.Goals as goal
 
 pub grow_all-requires-clause-sound : goal.grow_all-requires-clause-sound
@@ -20,4 +20,4 @@ grow_all-requires-clause-room_search c = rw (c.of_entries-graph.ensures.signatur
 pub returns-clause-greedy : goal.returns-clause-greedy
 returns-clause-greedy c =
     let full : c.in_ok-pairs.pairs.len ≡ length c.grow_all.new.pairs = omega (arith, c.deref_mut.ensures.len, c.grow_all.auto.pairs) in
-    rw (written-whole _ _ _ full) (grown-greedy c.args.rows.now c.of_entries-graph.result _ _ _ _ _ _ (c.of_entries-graph.ensures.signature ∙ c.new-counted.ensures) c.of_entries-graph.ensures.tight c.grow_all.ensures)
+    rw (written_whole _ _ _ full) (grown_greedy c.args.rows.now c.of_entries-graph.result _ _ _ _ _ _ (c.of_entries-graph.ensures.signature ∙ c.new-counted.ensures) c.of_entries-graph.ensures.tight c.grow_all.ensures)

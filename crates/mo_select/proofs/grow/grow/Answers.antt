@@ -1,20 +1,20 @@
 use Rattle.std.proofs.Common.{◌∙◌, arith}
-use Rattle.mo_match.proofs.Extending.{marked-after, tree-after, closed-after}
+use Rattle.mo_match.proofs.Extending.{marked_after, tree_after, closed_after}
 use Rattle.mo_select.proofs.grow.grow.Goals as goal
 
 pub returns-in-Some-clause-closed : goal.returns-in-Some-clause-closed
 returns-in-Some-clause-closed c =
     let found = c.search-outcome.ensures in
-    closed-after _ c.args.pairs.now c.args.owner.now c.hand_on.new.pairs c.hand_on.new.owner c.args.queue.now c.args.parent.now c.args.mark.now _ _ _
+    closed_after _ c.args.pairs.now c.args.owner.now c.hand_on.new.pairs c.hand_on.new.owner c.args.queue.now c.args.parent.now c.args.mark.now _ _ _
     c.requires.sound c.requires.matching c.hand_on.ensures.matching c.requires.tree found.grows.before c.hand_on.ensures.dead
-    (marked-after _ _ _ _ _ _ _ _ found.tree (omega (arith, found.first.0)) _ c.unmark.auto.mark c.unmark.ensures.cleared c.unmark.ensures.less c.unmark.ensures.others)
+    (marked_after _ _ _ _ _ _ _ _ found.tree (omega (arith, found.first.0)) _ c.unmark.auto.mark c.unmark.ensures.cleared c.unmark.ensures.less c.unmark.ensures.others)
     c.requires.closed
 
 pub returns-in-Some-clause-gained : goal.returns-in-Some-clause-gained
 returns-in-Some-clause-gained c = λ _.
     let found = c.search-outcome.ensures in (
       rw found.first.1 at c.hand_on.ensures.root,
-      tree-after _ _ _ _ _ _ _ _ found.tree (omega (arith, found.first.0)) _ c.unmark.auto.mark c.unmark.ensures.cleared c.unmark.ensures.less c.unmark.ensures.others _ c.hand_on.ensures.dead,
+      tree_after _ _ _ _ _ _ _ _ found.tree (omega (arith, found.first.0)) _ c.unmark.auto.mark c.unmark.ensures.cleared c.unmark.ensures.less c.unmark.ensures.others _ c.hand_on.ensures.dead,
     )
 
 pub returns-in-Some-clause-marked : goal.returns-in-Some-clause-marked
@@ -22,7 +22,7 @@ returns-in-Some-clause-marked c = λ x xm some.
     let found = c.search-outcome.ensures in
     let there = c.requires.tree.listed x xm some in
     let place = found.grows.before there.0 there.1 ∙ there.2 in
-    let kept = marked-after _ _ _ _ _ _ _ _ found.tree (omega (arith, found.first.0)) _ c.unmark.auto.mark c.unmark.ensures.cleared c.unmark.ensures.less c.unmark.ensures.others there.0 there.1 in
+    let kept = marked_after _ _ _ _ _ _ _ _ found.tree (omega (arith, found.first.0)) _ c.unmark.auto.mark c.unmark.ensures.cleared c.unmark.ensures.less c.unmark.ensures.others there.0 there.1 in
     rw place at kept
 
 pub returns-in-Some-clause-bare : goal.returns-in-Some-clause-bare

@@ -1,5 +1,5 @@
-use Rattle.mo_select.proofs.Unique.{one-selection}
+use Rattle.mo_select.proofs.Unique.{one_selection_holds}
 use Rattle.mo_select.proofs.laws.one_selection.Goals as goal
 
 pub returns : goal.returns
-returns c = one-selection
+returns c = one_selection_holds

@@ -1,10 +1,10 @@
 use Rattle.std.proofs.Common.{◌∙◌, ap, length, arith}
-use Rattle.mo_select.proofs.Ranks.{ranks-low}
+use Rattle.mo_select.proofs.Ranks.{ranks_low}
 use Rattle.mo_select.proofs.stage.ranked_stage.Goals as goal
 
 pub chosen_among-requires-clause-ranks : goal.chosen_among-requires-clause-ranks
 chosen_among-requires-clause-ranks c = λ j.
-    let low = ranks-low c.args.order.now c.args.rank.now c.requires.ranks j in
+    let low = ranks_low c.args.order.now c.args.rank.now c.requires.ranks j in
     omega (arith, c.in_ok-pairs.ensures.size, ap length c.deref.ensures.value)
 
 pub chosen_among-requires-clause-numbers : goal.chosen_among-requires-clause-numbers

@@ -1,19 +1,19 @@
 use Rattle.std.proofs.Common.{◌≡◌, ◌∙◌, length, arith}
-use Rattle.mo_graph.proofs.Lists.{written-whole}
-use Rattle.mo_select.proofs.Leaving.{listed-low, listed-states}
+use Rattle.mo_graph.proofs.Lists.{written_whole}
+use Rattle.mo_select.proofs.Leaving.{listed_low, listed_states}
 use Rattle.mo_select.proofs.states.states.Goals as goal
 
 pub list_states-requires-clause-low : goal.list_states-requires-clause-low
 list_states-requires-clause-low c =
     let full : c.in_ok-depth.depth.len ≡ length c.note_stages.new.depth = omega (arith, c.deref_mut.ensures.len, c.note_stages.auto.depth) in
     let size : length c.deref_mut.result.now ≡ length c.args.d.now = omega (arith, c.deref_mut.ensures.len, c.in_ok-depth.ensures.len) in
-    rw (c.deref.ensures.value ∙ written-whole _ _ _ full) (listed-low c.args.d.now c.note_stages.new.depth c.args.stages.now (rw size at c.note_stages.ensures) c.requires.known)
+    rw (c.deref.ensures.value ∙ written_whole _ _ _ full) (listed_low c.args.d.now c.note_stages.new.depth c.args.stages.now (rw size at c.note_stages.ensures) c.requires.known)
 
 pub returns-clause-states : goal.returns-clause-states
 returns-clause-states c =
     let full : c.in_ok-depth.depth.len ≡ length c.note_stages.new.depth = omega (arith, c.deref_mut.ensures.len, c.note_stages.auto.depth) in
     let size : length c.deref_mut.result.now ≡ length c.args.d.now = omega (arith, c.deref_mut.ensures.len, c.in_ok-depth.ensures.len) in
-    listed-states c.args.d.now c.note_stages.new.depth c.args.stages.now (rw size at c.note_stages.ensures) c.requires.known _ (rw (c.deref.ensures.value ∙ written-whole _ _ _ full) at c.in_ok-states.ensures)
+    listed_states c.args.d.now c.note_stages.new.depth c.args.stages.now (rw size at c.note_stages.ensures) c.requires.known _ (rw (c.deref.ensures.value ∙ written_whole _ _ _ full) at c.in_ok-states.ensures)
 
 pub returns-clause-depths : goal.returns-clause-depths
 returns-clause-depths c =

@@ -1,13 +1,13 @@
 use Rattle.std.proofs.Common.{◌≡◌, ◌+◌, ◌-◌, slice_index, arith}
 use Rattle.mo_incidence.specs.Signature.{row_len}
-use Rattle.mo_match.proofs.Trees.{grows-on, scan-next}
+use Rattle.mo_match.proofs.Trees.{grows_on, scan_next}
 use Rattle.mo_match.proofs.graph.Graph.scan_row.Goals as goal
 
 pub loop-k-preserved : goal.loop-k-preserved
 loop-k-preserved g c = record {
   tree = c.visit-grown.ensures.tree;
-  grows = grows-on c.loop-k.invariant.grows c.visit-grown.ensures.grows;
-  searched = scan-next _ c.loop-k.invariant.grows c.requires.head.1 c.loop-k.invariant.searched c.visit-grown.ensures.grows.kept c.in-None.is c.visit-grown.ensures.passed;
+  grows = grows_on c.loop-k.invariant.grows c.visit-grown.ensures.grows;
+  searched = scan_next _ c.loop-k.invariant.grows c.requires.head.1 c.loop-k.invariant.searched c.visit-grown.ensures.grows.kept c.in-None.is c.visit-grown.ensures.passed;
   cost = omega (arith, c.visit-grown.ensures.cost);
 }
 

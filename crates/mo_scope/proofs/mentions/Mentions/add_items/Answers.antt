@@ -4,7 +4,7 @@ use Rattle.mo_syntax.specs.declared.class.Element.{Element}
 use Rattle.mo_syntax.specs.declared.class.Item.{Item}
 use Rattle.mo_scope.specs.Mentions.{By_element, if_of, mention_by, mentions_held}
 use Rattle.mo_scope.specs.Rows.{replacing_in}
-use Rattle.mo_scope.proofs.Sayings.{gathered_more, gathered_all, flat_map-flat_map}
+use Rattle.mo_scope.proofs.Sayings.{gathered_more, gathered_all, flat_map_flat_map}
 use Rattle.mo_scope.proofs.mentions.Mentions.add_items.Goals as goal
 
 pub loop-item-preserved : goal.loop-item-preserved
@@ -20,4 +20,4 @@ returns c = λ other.
     (mentions_held c.args.self.now other) (mentions_held c.loop-item.self other)
     c.args.items.now c.loop-item.item-index c.loop-item-test.false (c.loop-item.invariant other)
     ∙ ap (λ xs. mentions_held c.args.self.now other ++ xs)
-    (sym (flat_map-flat_map (λ (element : Element). if_of other (mention_by c.args.source (By_element element))) replacing_in c.args.items.now))
+    (sym (flat_map_flat_map (λ (element : Element). if_of other (mention_by c.args.source (By_element element))) replacing_in c.args.items.now))
