@@ -9,8 +9,8 @@ use Rattle.std.proofs.Common.{ap}
 use Rattle.mo_syntax.specs.declared.rules.TheConstants.{WRONG_TYPE}
 use Rattle.mo_eval.proofs.+resolving.Goals as goal
 
-pub read_end_returns_clause_exact : goal.alone::read_end_returns_clause_exact
-read_end_returns_clause_exact t c =
+pub read_end-returns-clause-exact : goal.alone::read_end-returns-clause-exact
+read_end-returns-clause-exact t c =
     let mid = c.alone.new.s in
     let left = c.args.site.now.left in
     let asked = resolved_seen (frames_of mid) c.in_ok-resolved.resolved in
@@ -18,8 +18,8 @@ read_end_returns_clause_exact t c =
     let same = same_elements c.args.s.now mid left c.alone.ensures.grows in
     rw (rw c.read_in.ensures at c.in_ok-resolved.ensures.exact) (gives_as c.end_of.result (end_in (elements_in mid left) place asked) (end_in (elements_in c.args.s.now left) place asked) (ap (λ read. end_in read place asked) same) c.end_of.ensures.exact)
 
-pub read_size_returns_clause_exact : goal.alone::read_size_returns_clause_exact
-read_size_returns_clause_exact t c =
+pub read_size-returns-clause-exact : goal.alone::read_size-returns-clause-exact
+read_size-returns-clause-exact t c =
     let mid = c.alone.new.s in
     let left = c.args.site.now.left in
     let asked = resolved_seen (frames_of mid) c.in_ok-resolved.resolved in
@@ -29,8 +29,8 @@ read_size_returns_clause_exact t c =
     (c.with_place.ensures (whole_of (elements_in c.args.s.now left) place asked)
     (gives_as c.whole_of.result (whole_of (elements_in mid left) place asked) (whole_of (elements_in c.args.s.now left) place asked) (ap (λ read. whole_of read place asked) same) c.whole_of.ensures.exact))
 
-pub read_condition_returns_clause_exact : goal.alone::read_condition_returns_clause_exact
-read_condition_returns_clause_exact t c =
+pub read_condition-returns-clause-exact : goal.alone::read_condition-returns-clause-exact
+read_condition-returns-clause-exact t c =
     let mid = c.alone.new.s in
     let left = c.args.site.now.left in
     let asked = resolved_seen (frames_of mid) c.in_ok-resolved.resolved in

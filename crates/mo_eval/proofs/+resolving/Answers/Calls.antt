@@ -19,8 +19,8 @@ use Rattle.std.proofs.Common.{Err, None, Ok, Some, [], add-one, ap, arith, drop,
 use Rattle.std.proofs.lemmas.List.{append-nil, drop_all}
 use Rattle.mo_eval.proofs.+resolving.Goals as goal
 
-pub arguments_returns_in_err_one_clause_exact : goal.calls::arguments_returns_in_err_one_clause_exact
-arguments_returns_in_err_one_clause_exact t c = λ parts all.
+pub arguments-returns-in_err-one-clause-exact : goal.calls::arguments-returns-in_err-one-clause-exact
+arguments-returns-in_err-one-clause-exact t c = λ parts all.
     let e = c.in-Value.e in
     let i = c.loop-arg.arg-index in
     let context = c.args.site.now.context in
@@ -33,8 +33,8 @@ arguments_returns_in_err_one_clause_exact t c = λ parts all.
     (ap (λ xs. and_then (make_arguments context xs before) (behind_made_of_growing c.loop-arg.made)) (sym first) ∙ c.loop-arg.invariant.2 parts all)
     (each_halt _ c.in_err-one.field-0.0 _ (λ argument. argument.1 (operand context)) c.loop-arg.made (f e) (drop (suc i) parts) before (same_made _ _ _ context _ _ _ same c.in_err-one.ensures.exact)))
 
-pub arguments_loop_arg_preserved : goal.calls::arguments_loop_arg_preserved
-arguments_loop_arg_preserved t c =
+pub arguments-loop-arg-preserved : goal.calls::arguments-loop-arg-preserved
+arguments-loop-arg-preserved t c =
     let e = c.in-Value.e in
     let i = c.loop-arg.arg-index in
     let context = c.args.site.now.context in
@@ -54,8 +54,8 @@ arguments_loop_arg_preserved t c =
       c.operand.ensures.kept,
     )
 
-pub arguments_returns_clause_exact : goal.calls::arguments_returns_clause_exact
-arguments_returns_clause_exact t c = λ parts all.
+pub arguments-returns-clause-exact : goal.calls::arguments-returns-clause-exact
+arguments-returns-clause-exact t c = λ parts all.
     let i = c.loop-arg.arg-index in
     let before = virtuals_seen (frames_of c.loop-arg.s) c.loop-arg.virtuals in
     let counted = plain_length (table_in c.args.s.now) (ask_of c.args.s.now c.args.site.now) (scope_of c.args.s.now c.args.site.now) c.args.args.now parts all in
@@ -63,8 +63,8 @@ arguments_returns_clause_exact t c = λ parts all.
     let ending = ap (λ xs. and_then (make_arguments c.args.site.now.context xs before) (behind_made_of_growing c.loop-arg.made)) (sym none) ∙ c.loop-arg.invariant.2 parts all in
     record { is = sym ending ∙ ap (λ xs. Ok (xs, before)) (append-nil c.loop-arg.made) }
 
-pub sizes_returns_in_err_one_clause_exact : goal.calls::sizes_returns_in_err_one_clause_exact
-sizes_returns_in_err_one_clause_exact t c = λ parts all.
+pub sizes-returns-in_err-one-clause-exact : goal.calls::sizes-returns-in_err-one-clause-exact
+sizes-returns-in_err-one-clause-exact t c = λ parts all.
     let e = c.in-Value.e in
     let i = c.loop-arg.arg-index in
     let context = c.args.site.now.context in
@@ -80,8 +80,8 @@ sizes_returns_in_err_one_clause_exact t c = λ parts all.
     (gives_halt stop (read_size read context (f e)) (λ v. and_then (read_sizes read context (drop (suc i) parts)) (λ vs. Ok (v ∷ vs)))
     (gives_as (Err stop) _ _ same c.in_err-one.ensures.exact))))
 
-pub sizes_loop_arg_preserved : goal.calls::sizes_loop_arg_preserved
-sizes_loop_arg_preserved t c =
+pub sizes-loop-arg-preserved : goal.calls::sizes-loop-arg-preserved
+sizes-loop-arg-preserved t c =
     let e = c.in-Value.e in
     let i = c.loop-arg.arg-index in
     let context = c.args.site.now.context in
@@ -98,8 +98,8 @@ sizes_loop_arg_preserved t c =
       c.read_size.ensures.kept,
     )
 
-pub sizes_returns_clause_exact : goal.calls::sizes_returns_clause_exact
-sizes_returns_clause_exact t c = λ parts all.
+pub sizes-returns-clause-exact : goal.calls::sizes-returns-clause-exact
+sizes-returns-clause-exact t c = λ parts all.
     let i = c.loop-arg.arg-index in
     let counted = plain_length (table_in c.args.s.now) (ask_of c.args.s.now c.args.site.now) (scope_of c.args.s.now c.args.site.now) c.args.args.now parts all in
     let none : drop i parts ≡ [] = drop_all i parts (omega arith) in
@@ -107,26 +107,26 @@ sizes_returns_clause_exact t c = λ parts all.
     let ending = ap (λ xs. and_then (read_sizes read c.args.site.now.context xs) (λ more. Ok (c.loop-arg.made ++ more))) (sym none) ∙ c.loop-arg.invariant.1 parts all in
     sym ending ∙ ap Ok (append-nil c.loop-arg.made)
 
-pub number_returns_in_default_clause_exact : goal.calls::number_returns_in_default_clause_exact
-number_returns_in_default_clause_exact t c = λ parts all.
+pub number-returns-in_default-clause-exact : goal.calls::number-returns-in_default-clause-exact
+number-returns-in_default-clause-exact t c = λ parts all.
     let none : parts ≡ [] = c.in_default.ensures (table_in c.args.s.now) (ask_of c.args.s.now c.args.site.now) (scope_of c.args.s.now c.args.site.now) parts all in
     rw none (record { is = refl })
 
-pub number_returns_in_err_n_clause_there : goal.calls::number_returns_in_err_n_clause_there
-number_returns_in_err_n_clause_there t c = there_still _ _ c.read_size.ensures.grows _ c.requires.there
+pub number-returns-in_err-n-clause-there : goal.calls::number-returns-in_err-n-clause-there
+number-returns-in_err-n-clause-there t c = there_still _ _ c.read_size.ensures.grows _ c.requires.there
 
-pub number_returns_in_err_n_clause_exact : goal.calls::number_returns_in_err_n_clause_exact
-number_returns_in_err_n_clause_exact t c = λ parts all.
+pub number-returns-in_err-n-clause-exact : goal.calls::number-returns-in_err-n-clause-exact
+number-returns-in_err-n-clause-exact t c = λ parts all.
     let first = c.in-Some.ensures (table_in c.args.s.now) (ask_of c.args.s.now c.args.site.now) (scope_of c.args.s.now c.args.site.now) parts all in
     let p : c.from_residual.result ≡ Err c.in_err-n.field-0.0 = search rules in
     rw (p, first.is) (number_halts _ c.in_err-n.field-0.0 _ (elements_in c.args.s.now c.args.site.now.left) c.args.site.now.context c.args.place (part_in c.args.s.now c.args.site.now c.in-Some.e.now) first.others
     (virtuals_seen (frames_of c.args.s.now) c.args.virtuals.now) c.in_err-n.ensures.exact)
 
-pub number_returns_in_None_clause_there : goal.calls::number_returns_in_None_clause_there
-number_returns_in_None_clause_there t c = there_still _ _ c.read_size.ensures.grows _ c.requires.there
+pub number-returns-in-None-clause-there : goal.calls::number-returns-in-None-clause-there
+number-returns-in-None-clause-there t c = there_still _ _ c.read_size.ensures.grows _ c.requires.there
 
-pub number_returns_in_None_clause_exact : goal.calls::number_returns_in_None_clause_exact
-number_returns_in_None_clause_exact t c = λ parts all.
+pub number-returns-in-None-clause-exact : goal.calls::number-returns-in-None-clause-exact
+number-returns-in-None-clause-exact t c = λ parts all.
     let table = table_in c.args.s.now in
     let ask = ask_of c.args.s.now c.args.site.now in
     let scope = scope_of c.args.s.now c.args.site.now in
@@ -142,8 +142,8 @@ number_returns_in_None_clause_exact t c = λ parts all.
           ∙ ap (λ seen. Ok (Some c.in_ok-n.n, seen)) (sym same));
     }
 
-pub number_arguments_requires : goal.calls::number_arguments_requires
-number_arguments_requires t c = (
+pub number-arguments-requires : goal.calls::number-arguments-requires
+number-arguments-requires t c = (
   search rules,
   (
     frame_stays _ _ _ c.read_size.ensures.grows c.requires.frame,
@@ -151,8 +151,8 @@ number_arguments_requires t c = (
   ),
 )
 
-pub number_returns_in_err_arguments_in_Some_split_clause_exact : goal.calls::number_returns_in_err_arguments_in_Some_split_clause_exact
-number_returns_in_err_arguments_in_Some_split_clause_exact t c = λ parts all.
+pub number-returns-in_err-arguments-in-Some-split-clause-exact : goal.calls::number-returns-in_err-arguments-in-Some-split-clause-exact
+number-returns-in_err-arguments-in-Some-split-clause-exact t c = λ parts all.
     let table = table_in c.args.s.now in
     let ask = ask_of c.args.s.now c.args.site.now in
     let scope = scope_of c.args.s.now c.args.site.now in
@@ -171,8 +171,8 @@ number_returns_in_err_arguments_in_Some_split_clause_exact t c = λ parts all.
     (number_more_halts _ stop _ read context c.args.place part first.others before c.in_ok-n.n second.is c.in_ok-n.ensures.exact
     (made_as _ _ _ _ _ same (c.in_err-arguments-in-Some-split.ensures.exact first.others rest)))
 
-pub number_returns_in_ok_arguments_in_Some_split_clause_exact : goal.calls::number_returns_in_ok_arguments_in_Some_split_clause_exact
-number_returns_in_ok_arguments_in_Some_split_clause_exact t c = λ parts all.
+pub number-returns-in_ok-arguments-in-Some-split-clause-exact : goal.calls::number-returns-in_ok-arguments-in-Some-split-clause-exact
+number-returns-in_ok-arguments-in-Some-split-clause-exact t c = λ parts all.
     let table = table_in c.args.s.now in
     let ask = ask_of c.args.s.now c.args.site.now in
     let scope = scope_of c.args.s.now c.args.site.now in
@@ -189,16 +189,16 @@ number_returns_in_ok_arguments_in_Some_split_clause_exact t c = λ parts all.
     rw (c.broken.ensures, first.is)
     (record { is = number_more read context c.args.place part first.others before _ c.in_ok-n.n _ second.is c.in_ok-n.ensures.exact made })
 
-pub size_returns_in_default_clause_exact : goal.calls::size_returns_in_default_clause_exact
-size_returns_in_default_clause_exact t c = λ parts all.
+pub size-returns-in_default-clause-exact : goal.calls::size-returns-in_default-clause-exact
+size-returns-in_default-clause-exact t c = λ parts all.
     let table = table_in c.args.s.now in
     let ask = ask_of c.args.s.now c.args.site.now in
     let scope = scope_of c.args.s.now c.args.site.now in
     let none : parts ≡ [] = c.in_default.ensures table ask scope parts all in
     rw (none, c.broken.ensures) (record { is = refl })
 
-pub size_returns_in_err_inner_clause_exact : goal.calls::size_returns_in_err_inner_clause_exact
-size_returns_in_err_inner_clause_exact t c = λ parts all.
+pub size-returns-in_err-inner-clause-exact : goal.calls::size-returns-in_err-inner-clause-exact
+size-returns-in_err-inner-clause-exact t c = λ parts all.
     let table = table_in c.args.s.now in
     let ask = ask_of c.args.s.now c.args.site.now in
     let scope = scope_of c.args.s.now c.args.site.now in
@@ -211,8 +211,8 @@ size_returns_in_err_inner_clause_exact t c = λ parts all.
     rw (p, first.is) (made_as _ _ _ _ _ (sym (size_by read context c.args.place part first.others before))
     (halts_through _ c.in_err-inner.field-0.0 _ (part.1 (argument_of_size context) before) _ c.in_err-inner.ensures.exact))
 
-pub size_returns_in_err_at_clause_exact : goal.calls::size_returns_in_err_at_clause_exact
-size_returns_in_err_at_clause_exact t c = λ parts all.
+pub size-returns-in_err-at-clause-exact : goal.calls::size-returns-in_err-at-clause-exact
+size-returns-in_err-at-clause-exact t c = λ parts all.
     let table = table_in c.args.s.now in
     let ask = ask_of c.args.s.now c.args.site.now in
     let scope = scope_of c.args.s.now c.args.site.now in
@@ -230,8 +230,8 @@ size_returns_in_err_at_clause_exact t c = λ parts all.
     rw (p, first.is) (made_as _ _ _ _ _ (sym opening)
     (halts_through _ c.in_err-at.field-0.0 _ (number_of_size read context c.args.place first.others after) _ (made_as _ _ _ _ _ same (c.in_err-at.ensures.exact first.others rest))))
 
-pub size_returns_clause_exact : goal.calls::size_returns_clause_exact
-size_returns_clause_exact t c = λ parts all.
+pub size-returns-clause-exact : goal.calls::size-returns-clause-exact
+size-returns-clause-exact t c = λ parts all.
     let table = table_in c.args.s.now in
     let ask = ask_of c.args.s.now c.args.site.now in
     let scope = scope_of c.args.s.now c.args.site.now in
@@ -248,13 +248,13 @@ size_returns_clause_exact t c = λ parts all.
     let at = (made_as _ _ _ _ _ same (c.in_ok-at.ensures.exact first.others rest)).is in
     rw first.is (record { is = opening ∙ ap (λ o. and_then o (λ n. Ok (Size c.in_ok-inner.inner n.0, n.1))) at })
 
-pub ndims_returns_clause_exact : goal.calls::ndims_returns_clause_exact
-ndims_returns_clause_exact t c = λ parts all.
+pub ndims-returns-clause-exact : goal.calls::ndims-returns-clause-exact
+ndims-returns-clause-exact t c = λ parts all.
     let one = c.in-Some.ensures (table_in c.args.s.now) (ask_of c.args.s.now c.args.site.now) (scope_of c.args.s.now c.args.site.now) parts all in
     rw one (c.ndims_of.ensures _ _ _ c.array.ensures.exact)
 
-pub ndims_returns_in_err_arguments_clause_exact : goal.calls::ndims_returns_in_err_arguments_clause_exact
-ndims_returns_in_err_arguments_clause_exact t c = λ parts all.
+pub ndims-returns-in_err-arguments-clause-exact : goal.calls::ndims-returns-in_err-arguments-clause-exact
+ndims-returns-in_err-arguments-clause-exact t c = λ parts all.
     let none = c.in_default.ensures (table_in c.args.s.now) (ask_of c.args.s.now c.args.site.now) (scope_of c.args.s.now c.args.site.now) parts all in
     let stop = c.in_err-arguments.field-0.0 in
     let p : c.from_residual.result ≡ Err stop = search rules in
@@ -262,19 +262,19 @@ ndims_returns_in_err_arguments_clause_exact t c = λ parts all.
     rw (p, no_lone c.args.site.now.context c.args.place parts before none)
     (halts_through _ stop _ (make_arguments c.args.site.now.context parts before) _ (c.in_err-arguments.ensures.exact parts all))
 
-pub ndims_returns_in_default_clause_exact : goal.calls::ndims_returns_in_default_clause_exact
-ndims_returns_in_default_clause_exact t c = λ parts all.
+pub ndims-returns-in_default-clause-exact : goal.calls::ndims-returns-in_default-clause-exact
+ndims-returns-in_default-clause-exact t c = λ parts all.
     let none = c.in_default.ensures (table_in c.args.s.now) (ask_of c.args.s.now c.args.site.now) (scope_of c.args.s.now c.args.site.now) parts all in
     let before = virtuals_seen (frames_of c.args.s.now) c.args.virtuals.now in
     rw (c.broken.ensures, no_lone c.args.site.now.context c.args.place parts before none, (c.in_ok-arguments.ensures.exact parts all).is) (record { is = refl })
 
-pub fill_returns_in_default_clause_exact : goal.calls::fill_returns_in_default_clause_exact
-fill_returns_in_default_clause_exact t c = λ parts all.
+pub fill-returns-in_default-clause-exact : goal.calls::fill-returns-in_default-clause-exact
+fill-returns-in_default-clause-exact t c = λ parts all.
     let none : parts ≡ [] = c.in_default.ensures (table_in c.args.s.now) (ask_of c.args.s.now c.args.site.now) (scope_of c.args.s.now c.args.site.now) parts all in
     rw (none, c.broken.ensures) (record { is = refl })
 
-pub fill_returns_in_err_filling_clause_exact : goal.calls::fill_returns_in_err_filling_clause_exact
-fill_returns_in_err_filling_clause_exact t c = λ parts all.
+pub fill-returns-in_err-filling-clause-exact : goal.calls::fill-returns-in_err-filling-clause-exact
+fill-returns-in_err-filling-clause-exact t c = λ parts all.
     let first = c.in-Some.ensures (table_in c.args.s.now) (ask_of c.args.s.now c.args.site.now) (scope_of c.args.s.now c.args.site.now) parts all in
     let read = elements_in c.args.s.now c.args.site.now.left in
     let context = c.args.site.now.context in
@@ -284,11 +284,11 @@ fill_returns_in_err_filling_clause_exact t c = λ parts all.
     rw (p, first.is) (made_as _ _ _ _ _ (sym (fill_by read context c.args.place part first.others before))
     (halts_through _ c.in_err-filling.field-0.0 _ (part.1 (operand context) before) _ c.in_err-filling.ensures.exact))
 
-pub fill_returns_in_err_numbers_clause_there : goal.calls::fill_returns_in_err_numbers_clause_there
-fill_returns_in_err_numbers_clause_there t c = there_still _ _ c.sizes.ensures.grows _ c.operand.ensures.there
+pub fill-returns-in_err-numbers-clause-there : goal.calls::fill-returns-in_err-numbers-clause-there
+fill-returns-in_err-numbers-clause-there t c = there_still _ _ c.sizes.ensures.grows _ c.operand.ensures.there
 
-pub fill_returns_in_err_numbers_clause_exact : goal.calls::fill_returns_in_err_numbers_clause_exact
-fill_returns_in_err_numbers_clause_exact t c = λ parts all.
+pub fill-returns-in_err-numbers-clause-exact : goal.calls::fill-returns-in_err-numbers-clause-exact
+fill-returns-in_err-numbers-clause-exact t c = λ parts all.
     let first = c.in-Some.ensures (table_in c.args.s.now) (ask_of c.args.s.now c.args.site.now) (scope_of c.args.s.now c.args.site.now) parts all in
     let read = elements_in c.args.s.now c.args.site.now.left in
     let context = c.args.site.now.context in
@@ -303,11 +303,11 @@ fill_returns_in_err_numbers_clause_exact t c = λ parts all.
     let opening = fill_by read context c.args.place part first.others before ∙ ap (λ o. and_then o (λ made. and_then (read_sizes read context first.others) (λ numbers. and_then (filled_with c.args.place made.0 numbers) (λ node. Ok (node, made.1))))) c.in_ok-filling.ensures.exact.is in
     rw (p, first.is) (made_as _ _ _ _ _ (sym opening) (read_halts _ stop _ (read_sizes read context first.others) _ told))
 
-pub fill_returns_clause_there : goal.calls::fill_returns_clause_there
-fill_returns_clause_there t c = there_still _ _ c.sizes.ensures.grows _ c.operand.ensures.there
+pub fill-returns-clause-there : goal.calls::fill-returns-clause-there
+fill-returns-clause-there t c = there_still _ _ c.sizes.ensures.grows _ c.operand.ensures.there
 
-pub fill_returns_clause_exact : goal.calls::fill_returns_clause_exact
-fill_returns_clause_exact t c = λ parts all.
+pub fill-returns-clause-exact : goal.calls::fill-returns-clause-exact
+fill-returns-clause-exact t c = λ parts all.
     let first = c.in-Some.ensures (table_in c.args.s.now) (ask_of c.args.s.now c.args.site.now) (scope_of c.args.s.now c.args.site.now) parts all in
     let read = elements_in c.args.s.now c.args.site.now.left in
     let context = c.args.site.now.context in
@@ -324,63 +324,63 @@ fill_returns_clause_exact t c = λ parts all.
     ∙ ap (λ v. and_then (filled_with c.args.place c.in_ok-filling.filling c.in_ok-numbers.numbers) (λ node. Ok (node, v))) (sym seen))) in
     rw first.is (made_as _ _ _ _ _ (sym opening) (given_made _ c.answer.result _ (filled_with c.args.place c.in_ok-filling.filling c.in_ok-numbers.numbers) (rw c.filled_with.ensures at c.answer.ensures)))
 
-pub sized_returns_in_err_numbers_clause_there : goal.calls::sized_returns_in_err_numbers_clause_there
-sized_returns_in_err_numbers_clause_there t c = there_still _ _ c.sizes.ensures.grows _ c.requires.there
+pub sized-returns-in_err-numbers-clause-there : goal.calls::sized-returns-in_err-numbers-clause-there
+sized-returns-in_err-numbers-clause-there t c = there_still _ _ c.sizes.ensures.grows _ c.requires.there
 
-pub sized_returns_in_err_numbers_clause_exact : goal.calls::sized_returns_in_err_numbers_clause_exact
-sized_returns_in_err_numbers_clause_exact t c = λ parts all.
+pub sized-returns-in_err-numbers-clause-exact : goal.calls::sized-returns-in_err-numbers-clause-exact
+sized-returns-in_err-numbers-clause-exact t c = λ parts all.
     let p : c.from_residual.result ≡ Err c.in_err-numbers.field-0.0 = search rules in
     rw p (from_halts _ c.in_err-numbers.field-0.0 _ (read_sizes (elements_in c.args.s.now c.args.site.now.left) c.args.site.now.context parts) (virtuals_seen (frames_of c.args.s.now) c.args.virtuals.now) _ (c.in_err-numbers.ensures.exact parts all))
 
-pub sized_returns_then_not_takes_clause_there : goal.calls::sized_returns_then_not_takes_clause_there
-sized_returns_then_not_takes_clause_there t c = there_still _ _ c.sizes.ensures.grows _ c.requires.there
+pub sized-returns-then-not-takes-clause-there : goal.calls::sized-returns-then-not-takes-clause-there
+sized-returns-then-not-takes-clause-there t c = there_still _ _ c.sizes.ensures.grows _ c.requires.there
 
-pub sized_returns_then_not_takes_clause_exact : goal.calls::sized_returns_then_not_takes_clause_exact
-sized_returns_then_not_takes_clause_exact t c = λ parts all.
+pub sized-returns-then-not-takes-clause-exact : goal.calls::sized-returns-then-not-takes-clause-exact
+sized-returns-then-not-takes-clause-exact t c = λ parts all.
     let n = c.in_ok-numbers.ensures.exact parts all in
     let not : c.takes.result ≡ false = search rules in
     let t : takes c.args.called.function (length c.in_ok-numbers.numbers) ≡ false = search rules in
     rw c.broken.ensures (record { is = rw (n, t) refl })
 
-pub sized_returns_clause_there : goal.calls::sized_returns_clause_there
-sized_returns_clause_there t c = there_still _ _ c.sizes.ensures.grows _ c.requires.there
+pub sized-returns-clause-there : goal.calls::sized-returns-clause-there
+sized-returns-clause-there t c = there_still _ _ c.sizes.ensures.grows _ c.requires.there
 
-pub sized_returns_clause_exact : goal.calls::sized_returns_clause_exact
-sized_returns_clause_exact t c = λ parts all.
+pub sized-returns-clause-exact : goal.calls::sized-returns-clause-exact
+sized-returns-clause-exact t c = λ parts all.
     let n = c.in_ok-numbers.ensures.exact parts all in
     let same = same_virtuals c.args.s.now c.sizes.new.s c.sizes.ensures.grows c.args.virtuals.now c.requires.there in
     let t : takes c.args.called.function (length c.in_ok-numbers.numbers) ≡ true = search rules in
     record { is = rw (n, t) (ap (λ v. Ok (Sized c.args.called.function None c.in_ok-numbers.numbers, v)) (sym same)) }
 
-pub derivative_returns_in_err_operands_clause_exact : goal.calls::derivative_returns_in_err_operands_clause_exact
-derivative_returns_in_err_operands_clause_exact t c = λ parts all.
+pub derivative-returns-in_err-operands-clause-exact : goal.calls::derivative-returns-in_err-operands-clause-exact
+derivative-returns-in_err-operands-clause-exact t c = λ parts all.
     let p : c.from_residual.result ≡ Err c.in_err-operands.field-0.0 = search rules in
     rw p (halts_through _ c.in_err-operands.field-0.0 _ (make_arguments c.args.site.now.context parts (virtuals_seen (frames_of c.args.s.now) c.args.virtuals.now)) _ (c.in_err-operands.ensures.exact parts all))
 
-pub derivative_returns_clause_exact : goal.calls::derivative_returns_clause_exact
-derivative_returns_clause_exact t c = λ parts all.
+pub derivative-returns-clause-exact : goal.calls::derivative-returns-clause-exact
+derivative-returns-clause-exact t c = λ parts all.
     rw (c.in_ok-operands.ensures.exact parts all).is
     (given_made _ c.answer.result _ (derivative_of c.args.place c.in_ok-operands.operands) (rw c.derivative_of.ensures at c.answer.ensures))
 
-pub call_returns_in_err_function_code_in_Named_clause_there : goal.calls::call_returns_in_err_function_code_in_Named_clause_there
-call_returns_in_err_function_code_in_Named_clause_there t c = there_still _ _ c.function_named.ensures.grows _ c.requires.there
+pub call-returns-in_err-function_code-in-Named-clause-there : goal.calls::call-returns-in_err-function_code-in-Named-clause-there
+call-returns-in_err-function_code-in-Named-clause-there t c = there_still _ _ c.function_named.ensures.grows _ c.requires.there
 
-pub call_returns_in_err_function_code_in_Named_clause_exact : goal.calls::call_returns_in_err_function_code_in_Named_clause_exact
-call_returns_in_err_function_code_in_Named_clause_exact t c =
+pub call-returns-in_err-function_code-in-Named-clause-exact : goal.calls::call-returns-in_err-function_code-in-Named-clause-exact
+call-returns-in_err-function_code-in-Named-clause-exact t c =
     let stop = c.in_err-function_code-in-Named.field-0.0 in
     let reference = as_reference (part_in c.args.s.now c.args.site.now) c.in-Named.reference in
     let p : c.from_residual.result ≡ Err stop = search rules in
     rw (p, c.in-Named.is)
     (from_halts _ stop _ (function_named (table_in c.args.s.now) (scope_of c.args.s.now c.args.site.now) c.args.place reference) (virtuals_seen (frames_of c.args.s.now) c.args.virtuals.now) _ c.in_err-function_code-in-Named.ensures.exact)
 
-pub call_returns_in_err_function_code_in_Named_clause_kept : goal.calls::call_returns_in_err_function_code_in_Named_clause_kept
-call_returns_in_err_function_code_in_Named_clause_kept t c = kept_still _ _ c.function_named.ensures.grows _ c.requires.kept
+pub call-returns-in_err-function_code-in-Named-clause-kept : goal.calls::call-returns-in_err-function_code-in-Named-clause-kept
+call-returns-in_err-function_code-in-Named-clause-kept t c = kept_still _ _ c.function_named.ensures.grows _ c.requires.kept
 
-pub call_returns_then_not_are_plain_clause_there : goal.calls::call_returns_then_not_are_plain_clause_there
-call_returns_then_not_are_plain_clause_there t c = there_still _ _ c.function_named.ensures.grows _ c.requires.there
+pub call-returns-then-not-are_plain-clause-there : goal.calls::call-returns-then-not-are_plain-clause-there
+call-returns-then-not-are_plain-clause-there t c = there_still _ _ c.function_named.ensures.grows _ c.requires.there
 
-pub call_returns_then_not_are_plain_clause_exact : goal.calls::call_returns_then_not_are_plain_clause_exact
-call_returns_then_not_are_plain_clause_exact t c =
+pub call-returns-then-not-are_plain-clause-exact : goal.calls::call-returns-then-not-are_plain-clause-exact
+call-returns-then-not-are_plain-clause-exact t c =
     let table = table_in c.args.s.now in
     let ask = ask_of c.args.s.now c.args.site.now in
     let scope = scope_of c.args.s.now c.args.site.now in
@@ -392,11 +392,11 @@ call_returns_then_not_are_plain_clause_exact t c =
           c.in_ok-function_code-in-Named.ensures.exact (sym (none_by _ (sym (c.are_plain.ensures table ask scope) ∙ no)));
     })
 
-pub call_returns_then_not_are_plain_clause_kept : goal.calls::call_returns_then_not_are_plain_clause_kept
-call_returns_then_not_are_plain_clause_kept t c = kept_still _ _ c.function_named.ensures.grows _ c.requires.kept
+pub call-returns-then-not-are_plain-clause-kept : goal.calls::call-returns-then-not-are_plain-clause-kept
+call-returns-then-not-are_plain-clause-kept t c = kept_still _ _ c.function_named.ensures.grows _ c.requires.kept
 
-pub call_function_requires : goal.calls::call_function_requires
-call_function_requires t c = (
+pub call-function-requires : goal.calls::call-function-requires
+call-function-requires t c = (
   search rules,
   (
     frame_stays _ _ _ c.function_named.ensures.grows c.requires.frame,
@@ -404,8 +404,8 @@ call_function_requires t c = (
   ),
 )
 
-pub call_returns_else_not_are_plain_clause_exact : goal.calls::call_returns_else_not_are_plain_clause_exact
-call_returns_else_not_are_plain_clause_exact t c =
+pub call-returns-else-not-are_plain-clause-exact : goal.calls::call-returns-else-not-are_plain-clause-exact
+call-returns-else-not-are_plain-clause-exact t c =
     let table = table_in c.args.s.now in
     let ask = ask_of c.args.s.now c.args.site.now in
     let scope = scope_of c.args.s.now c.args.site.now in
@@ -424,8 +424,8 @@ call_returns_else_not_are_plain_clause_exact t c =
     (made_as _ _ _ _ _ (read ∙ (seen ∙ sym (called_plain table scope (elements_in c.args.s.now left) context c.args.place reference code (made_arguments table ask scope c.args.args.now) plain.parts before c.in_ok-function_code-in-Named.ensures.exact plain.made)))
     ((rw c.as_slice.ensures at c.function.ensures.exact) plain.parts rest))
 
-pub call_returns_then_not_are_plain_2_clause_exact : goal.calls::call_returns_then_not_are_plain_2_clause_exact
-call_returns_then_not_are_plain_2_clause_exact t c =
+pub call-returns-then-not-are_plain-2-clause-exact : goal.calls::call-returns-then-not-are_plain-2-clause-exact
+call-returns-then-not-are_plain-2-clause-exact t c =
     let table = table_in c.args.s.now in
     let ask = ask_of c.args.s.now c.args.site.now in
     let scope = scope_of c.args.s.now c.args.site.now in
@@ -436,8 +436,8 @@ call_returns_then_not_are_plain_2_clause_exact t c =
           (sym (none_by _ (sym (c.are_plain-in-Der.ensures table ask scope) ∙ no)));
     })
 
-pub call_returns_else_not_are_plain_2_clause_exact : goal.calls::call_returns_else_not_are_plain_2_clause_exact
-call_returns_else_not_are_plain_2_clause_exact t c =
+pub call-returns-else-not-are_plain-2-clause-exact : goal.calls::call-returns-else-not-are_plain-2-clause-exact
+call-returns-else-not-are_plain-2-clause-exact t c =
     let table = table_in c.args.s.now in
     let ask = ask_of c.args.s.now c.args.site.now in
     let scope = scope_of c.args.s.now c.args.site.now in

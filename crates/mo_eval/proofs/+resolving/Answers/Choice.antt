@@ -18,8 +18,8 @@ use Rattle.std.proofs.lemmas.List.{drop_all}
 use Rattle.std.specs.Option.{option_map}
 use Rattle.mo_eval.proofs.+resolving.Goals as goal
 
-pub range_returns_in_err_b_clause_exact : goal.choice::range_returns_in_err_b_clause_exact
-range_returns_in_err_b_clause_exact t c =
+pub range-returns-in_err-b-clause-exact : goal.choice::range-returns-in_err-b-clause-exact
+range-returns-in_err-b-clause-exact t c =
     let context = c.args.site.now.context in
     let read = elements_in c.args.s.now c.args.site.now.left in
     let part = part_in c.args.s.now c.args.site.now in
@@ -30,8 +30,8 @@ range_returns_in_err_b_clause_exact t c =
     (gives_halt {A = Known} stop (read_step read context (option_map part c.args.step.now)) (λ step. and_then (read_end read context (part c.args.last.now)) (λ last. range_of c.args.place c.in_ok-a.a step last))
     (gives_as {A = Known} (Err stop) _ _ same c.in_err-b.ensures.exact))
 
-pub range_returns_in_err_c_clause_exact : goal.choice::range_returns_in_err_c_clause_exact
-range_returns_in_err_c_clause_exact t c =
+pub range-returns-in_err-c-clause-exact : goal.choice::range-returns-in_err-c-clause-exact
+range-returns-in_err-c-clause-exact t c =
     let context = c.args.site.now.context in
     let read = elements_in c.args.s.now c.args.site.now.left in
     let part = part_in c.args.s.now c.args.site.now in
@@ -44,19 +44,19 @@ range_returns_in_err_c_clause_exact t c =
     (gives_halt {A = Known} stop (read_end read context (part c.args.last.now)) (λ last. range_of c.args.place c.in_ok-a.a c.in_ok-b.b last)
     (gives_as {A = Known} (Err stop) _ _ third c.in_err-c.ensures.exact))
 
-pub range_returns_clause_exact : goal.choice::range_returns_clause_exact
-range_returns_clause_exact t c =
+pub range-returns-clause-exact : goal.choice::range-returns-clause-exact
+range-returns-clause-exact t c =
     let context = c.args.site.now.context in
     let grown = grows_on _ _ _ c.read_end.ensures.grows c.read_step.ensures.grows in
     let second = same_asked (λ read part. read_step read context (option_map part c.args.step.now)) c.args.s.now c.read_end.new.s c.args.site.now c.read_end.ensures.grows c.requires.frame in
     let third = same_asked (λ read part. read_end read context (part c.args.last.now)) c.args.s.now c.read_step.new.s c.args.site.now grown c.requires.frame in
     rw (c.in_ok-a.ensures.exact, sym second ∙ c.in_ok-b.ensures.exact, sym third ∙ c.in_ok-c.ensures.exact) (rw c.range_of.ensures at c.answer.ensures)
 
-pub made_branch_returns_in_err_known_clause_there : goal.choice::made_branch_returns_in_err_known_clause_there
-made_branch_returns_in_err_known_clause_there t c = there_still _ _ c.read_condition.ensures.grows _ c.requires.there
+pub made_branch-returns-in_err-known-clause-there : goal.choice::made_branch-returns-in_err-known-clause-there
+made_branch-returns-in_err-known-clause-there t c = there_still _ _ c.read_condition.ensures.grows _ c.requires.there
 
-pub made_branch_operand_requires : goal.choice::made_branch_operand_requires
-made_branch_operand_requires t c = (
+pub made_branch-operand-requires : goal.choice::made_branch-operand-requires
+made_branch-operand-requires t c = (
   search rules,
   (
     frame_stays _ _ _ c.read_condition.ensures.grows c.requires.frame,
@@ -64,8 +64,8 @@ made_branch_operand_requires t c = (
   ),
 )
 
-pub made_branch_two_requires : goal.choice::made_branch_two_requires
-made_branch_two_requires t c = (
+pub made_branch-two-requires : goal.choice::made_branch-two-requires
+made_branch-two-requires t c = (
   search rules,
   (
     frame_stays _ _ _ c.read_condition.ensures.grows c.requires.frame,
@@ -73,8 +73,8 @@ made_branch_two_requires t c = (
   ),
 )
 
-pub made_branch_returns_in_Some_true_clause_exact : goal.choice::made_branch_returns_in_Some_true_clause_exact
-made_branch_returns_in_Some_true_clause_exact t c =
+pub made_branch-returns-in-Some-true-clause-exact : goal.choice::made_branch-returns-in-Some-true-clause-exact
+made_branch-returns-in-Some-true-clause-exact t c =
     let context = c.args.site.now.context in
     let read = elements_in c.args.s.now c.args.site.now.left in
     let part = part_in c.args.s.now c.args.site.now in
@@ -85,11 +85,11 @@ made_branch_returns_in_Some_true_clause_exact t c =
     made_as _ _ _ _ _ (sym (branch_ok read context (part c.args.branch.now.value) (as_branch part c.args.branch.now) before c.in_ok-known.known (Some true) c.in_ok-known.ensures.exact decided))
     (c.last.ensures _ _ _ (made_as _ _ _ _ _ same c.operand.ensures.exact))
 
-pub made_branch_returns_in_Some_false_clause_there : goal.choice::made_branch_returns_in_Some_false_clause_there
-made_branch_returns_in_Some_false_clause_there t c = there_still _ _ c.read_condition.ensures.grows _ c.requires.there
+pub made_branch-returns-in-Some-false-clause-there : goal.choice::made_branch-returns-in-Some-false-clause-there
+made_branch-returns-in-Some-false-clause-there t c = there_still _ _ c.read_condition.ensures.grows _ c.requires.there
 
-pub made_branch_returns_in_Some_false_clause_exact : goal.choice::made_branch_returns_in_Some_false_clause_exact
-made_branch_returns_in_Some_false_clause_exact t c =
+pub made_branch-returns-in-Some-false-clause-exact : goal.choice::made_branch-returns-in-Some-false-clause-exact
+made_branch-returns-in-Some-false-clause-exact t c =
     let context = c.args.site.now.context in
     let read = elements_in c.args.s.now c.args.site.now.left in
     let part = part_in c.args.s.now c.args.site.now in
@@ -102,8 +102,8 @@ made_branch_returns_in_Some_false_clause_exact t c =
           ∙ ap (λ v. Ok (Dropped, v)) (sym same);
     }
 
-pub made_branch_returns_in_None_clause_exact : goal.choice::made_branch_returns_in_None_clause_exact
-made_branch_returns_in_None_clause_exact t c =
+pub made_branch-returns-in-None-clause-exact : goal.choice::made_branch-returns-in-None-clause-exact
+made_branch-returns-in-None-clause-exact t c =
     let context = c.args.site.now.context in
     let read = elements_in c.args.s.now c.args.site.now.left in
     let part = part_in c.args.s.now c.args.site.now in
@@ -114,8 +114,8 @@ made_branch_returns_in_None_clause_exact t c =
     made_as _ _ _ _ _ (sym (branch_ok read context (part c.args.branch.now.value) (as_branch part c.args.branch.now) before c.in_ok-known.known None c.in_ok-known.ensures.exact decided))
     (c.kept.ensures _ _ _ (made_as _ _ _ _ _ same c.two.ensures.exact))
 
-pub choice_returns_in_err_step_clause_exact : goal.choice::choice_returns_in_err_step_clause_exact
-choice_returns_in_err_step_clause_exact t c =
+pub choice-returns-in_err-step-clause-exact : goal.choice::choice-returns-in_err-step-clause-exact
+choice-returns-in_err-step-clause-exact t c =
     let x = c.one-item.result in
     let i = c.loop-one.one-index in
     let context = c.args.site.now.context in
@@ -128,8 +128,8 @@ choice_returns_in_err_step_clause_exact t c =
     let p : c.from_residual.result ≡ Err c.in_err-step.field-0.0 = search rules in
     rw p (made_as _ _ _ _ _ opening (one_halts read context (f c.args.other.now) _ c.in_err-step.field-0.0 _ c.loop-one.made (as_branch f x) rest before (made_as _ _ _ _ _ same c.in_err-step.ensures.exact)))
 
-pub choice_returns_in_Some_clause_exact : goal.choice::choice_returns_in_Some_clause_exact
-choice_returns_in_Some_clause_exact t c =
+pub choice-returns-in-Some-clause-exact : goal.choice::choice-returns-in-Some-clause-exact
+choice-returns-in-Some-clause-exact t c =
     let x = c.one-item.result in
     let i = c.loop-one.one-index in
     let context = c.args.site.now.context in
@@ -147,8 +147,8 @@ choice_returns_in_Some_clause_exact t c =
           ∙ ap (λ xs. Ok ((xs, c.in-Some.value), after)) (sym c.in_ok-value.ensures.made));
     }
 
-pub choice_loop_one_preserved : goal.choice::choice_loop_one_preserved
-choice_loop_one_preserved t c =
+pub choice-loop-one-preserved : goal.choice::choice-loop-one-preserved
+choice-loop-one-preserved t c =
     let x = c.one-item.result in
     let i = c.loop-one.one-index in
     let context = c.args.site.now.context in
@@ -168,8 +168,8 @@ choice_loop_one_preserved t c =
       c.made_branch.ensures.kept,
     )
 
-pub choice_returns_in_err_rest_clause_exact : goal.choice::choice_returns_in_err_rest_clause_exact
-choice_returns_in_err_rest_clause_exact t c =
+pub choice-returns-in_err-rest-clause-exact : goal.choice::choice-returns-in_err-rest-clause-exact
+choice-returns-in_err-rest-clause-exact t c =
     let context = c.args.site.now.context in
     let read = elements_in c.args.s.now c.args.site.now.left in
     let f = part_in c.args.s.now c.args.site.now in

@@ -26,8 +26,8 @@ use Rattle.std.proofs.Common.{Err, List, None, Ok, Some, [], ap, arith, drop, ma
 use Rattle.mo_eval.specs.declared.sizes.Sizes.{Sizes as SizesAt}
 use Rattle.mo_eval.proofs.+resolving.Goals as goal
 
-pub written_dim_returns_clause_exact : goal.dimensions::written_dim_returns_clause_exact
-written_dim_returns_clause_exact t c =
+pub written_dim-returns-clause-exact : goal.dimensions::written_dim-returns-clause-exact
+written_dim-returns-clause-exact t c =
     let mid = c.alone.new.s in
     let left = c.args.left in
     let asked = resolved_seen (frames_of mid) c.in_ok-resolved.resolved in
@@ -37,22 +37,22 @@ written_dim_returns_clause_exact t c =
     (c.dimension_of.ensures (whole_of (elements_in c.args.s.now left) place asked)
     (gives_as c.whole_of.result (whole_of (elements_in mid left) place asked) (whole_of (elements_in c.args.s.now left) place asked) (ap (λ read. whole_of read place asked) same) c.whole_of.ensures.exact))
 
-pub dims_in_returns_clause_exact : goal.dimensions::dims_in_returns_clause_exact
-dims_in_returns_clause_exact t c = rw (rw c.for_value.ensures at c.in_ok-resolved.ensures.exact) c.bound_dims.ensures
+pub dims_in-returns-clause-exact : goal.dimensions::dims_in-returns-clause-exact
+dims_in-returns-clause-exact t c = rw (rw c.for_value.ensures at c.in_ok-resolved.ensures.exact) c.bound_dims.ensures
 
-pub binding_dims_returns_in_err_child_clause_exact : goal.dimensions::binding_dims_returns_in_err_child_clause_exact
-binding_dims_returns_in_err_child_clause_exact t c =
+pub binding_dims-returns-in_err-child-clause-exact : goal.dimensions::binding_dims-returns-in_err-child-clause-exact
+binding_dims-returns-in_err-child-clause-exact t c =
     let stop = c.in_err-child.field-0.0 in
     let table = table_in c.args.s.now in
     let of = c.args.of.now in
     let p : c.from_residual.result ≡ Err stop = search rules in
     rw p (binding_halts table (reading table of.left) (member_of (frames_of c.args.s.now) of.member.now) of.count {T = ChildAt} (child_seen (frames_of c.child_of_member.new.s)) stop c.in_err-child.ensures.value)
 
-pub binding_dims_returns_in_err_child_clause_kept : goal.dimensions::binding_dims_returns_in_err_child_clause_kept
-binding_dims_returns_in_err_child_clause_kept t c = kept_still _ _ c.child_of_member.ensures.grows _ c.requires.kept
+pub binding_dims-returns-in_err-child-clause-kept : goal.dimensions::binding_dims-returns-in_err-child-clause-kept
+binding_dims-returns-in_err-child-clause-kept t c = kept_still _ _ c.child_of_member.ensures.grows _ c.requires.kept
 
-pub binding_dims_returns_in_None_clause_exact : goal.dimensions::binding_dims_returns_in_None_clause_exact
-binding_dims_returns_in_None_clause_exact t c =
+pub binding_dims-returns-in-None-clause-exact : goal.dimensions::binding_dims-returns-in-None-clause-exact
+binding_dims-returns-in-None-clause-exact t c =
     let table = table_in c.args.s.now in
     let of = c.args.of.now in
     let mid = c.child_of_member.new.s in
@@ -60,16 +60,16 @@ binding_dims_returns_in_None_clause_exact t c =
     let none : picked_here child.sources ≡ None = sym (rw c.as_slice.ensures at (c.in-None.ensures (frames_of mid))) in
     no_binding table (reading table of.left) (member_of (frames_of c.args.s.now) of.member.now) of.count child c.in_ok-child.ensures.value none ∙ ap Err (sym (search rules))
 
-pub binding_dims_returns_in_None_clause_kept : goal.dimensions::binding_dims_returns_in_None_clause_kept
-binding_dims_returns_in_None_clause_kept t c = kept_still _ _ c.child_of_member.ensures.grows _ c.requires.kept
+pub binding_dims-returns-in-None-clause-kept : goal.dimensions::binding_dims-returns-in-None-clause-kept
+binding_dims-returns-in-None-clause-kept t c = kept_still _ _ c.child_of_member.ensures.grows _ c.requires.kept
 
-pub binding_dims_dims_in_requires : goal.dimensions::binding_dims_dims_in_requires
-binding_dims_dims_in_requires t c =
+pub binding_dims-dims_in-requires : goal.dimensions::binding_dims-dims_in-requires
+binding_dims-dims_in-requires t c =
     let mid = c.child_of_member.new.s in
     (search rules, (picked_exists mid (map source_seen c.in_ok-child.child.sources) c.in-Some.picked c.in_ok-child.ensures.stand.sources (rw c.as_slice.ensures at (c.in-Some.ensures (frames_of mid))), kept_still _ _ c.child_of_member.ensures.grows _ c.requires.kept))
 
-pub binding_dims_returns_clause_exact : goal.dimensions::binding_dims_returns_clause_exact
-binding_dims_returns_clause_exact t c =
+pub binding_dims-returns-clause-exact : goal.dimensions::binding_dims-returns-clause-exact
+binding_dims-returns-clause-exact t c =
     let table = table_in c.args.s.now in
     let of = c.args.of.now in
     let mid = c.child_of_member.new.s in
@@ -81,11 +81,11 @@ binding_dims_returns_clause_exact t c =
     ∙ sym (dims_bound table (reading table of.left) (member_of (frames_of c.args.s.now) of.member.now) of.count child picked c.in_ok-child.ensures.value some))
     c.dims_in.ensures.exact
 
-pub put_dims_loop_sub_init : goal.dimensions::put_dims_loop_sub_init
-put_dims_loop_sub_init t c = record { grows = grows_refl c.args.s.now; is = λ others. refl; kept = c.requires.kept }
+pub put_dims-loop-sub-init : goal.dimensions::put_dims-loop-sub-init
+put_dims-loop-sub-init t c = record { grows = grows_refl c.args.s.now; is = λ others. refl; kept = c.requires.kept }
 
-pub put_dims_returns_in_err_n_clause_exact : goal.dimensions::put_dims_returns_in_err_n_clause_exact
-put_dims_returns_in_err_n_clause_exact t c = λ others.
+pub put_dims-returns-in_err-n-clause-exact : goal.dimensions::put_dims-returns-in_err-n-clause-exact
+put_dims-returns-in_err-n-clause-exact t c = λ others.
     let s = c.args.s.now in
     let of = c.args.of.now in
     let T = table_in s in
@@ -99,8 +99,8 @@ put_dims_returns_in_err_n_clause_exact t c = λ others.
     let p : c.from_residual.result ≡ Err stop = search rules in
     rw p (goes_halt stop _ _ (dim_stops T (reading T of.left) (bound_in_of_measuring s of) scope subs c.loop-sub.made i _ c.loop-sub.invariant.is sub stop c.loop-sub-test.true c.sub-item.is (rw c.len.ensures at (gives_as (Err stop) _ _ same c.in_err-n.ensures.exact)) others))
 
-pub put_dims_loop_sub_preserved : goal.dimensions::put_dims_loop_sub_preserved
-put_dims_loop_sub_preserved t c =
+pub put_dims-loop-sub-preserved : goal.dimensions::put_dims-loop-sub-preserved
+put_dims-loop-sub-preserved t c =
     let s = c.args.s.now in
     let of = c.args.of.now in
     let T = table_in s in
@@ -117,8 +117,8 @@ put_dims_loop_sub_preserved t c =
       kept = c.dim_at.ensures.kept;
     }
 
-pub put_dims_returns_clause_exact : goal.dimensions::put_dims_returns_clause_exact
-put_dims_returns_clause_exact t c = λ others.
+pub put_dims-returns-clause-exact : goal.dimensions::put_dims-returns-clause-exact
+put_dims-returns-clause-exact t c = λ others.
     let s = c.args.s.now in
     let of = c.args.of.now in
     let T = table_in s in
@@ -126,11 +126,11 @@ put_dims_returns_clause_exact t c = λ others.
     let scope = scope_in (frames_of s) at.frame.0 at.iters in
     sym (dims_done T (reading T of.left) (bound_in_of_measuring s of) scope c.args.sizes.now.subscripts.now c.loop-sub.made c.loop-sub.sub-index _ c.loop-sub.invariant.is (omega arith) others)
 
-pub all_dims_loop_one_init : goal.dimensions::all_dims_loop_one_init
-all_dims_loop_one_init t c = record { grows = grows_refl c.args.s.now; is = rw c.new-made.ensures refl; kept = c.requires.kept }
+pub all_dims-loop-one-init : goal.dimensions::all_dims-loop-one-init
+all_dims-loop-one-init t c = record { grows = grows_refl c.args.s.now; is = rw c.new-made.ensures refl; kept = c.requires.kept }
 
-pub all_dims_returns_in_err_put_dims_clause_exact : goal.dimensions::all_dims_returns_in_err_put_dims_clause_exact
-all_dims_returns_in_err_put_dims_clause_exact t c =
+pub all_dims-returns-in_err-put_dims-clause-exact : goal.dimensions::all_dims-returns-in_err-put_dims-clause-exact
+all_dims-returns-in_err-put_dims-clause-exact t c =
     let s = c.args.s.now in
     let now = c.loop-one.s in
     let i = c.loop-one.one-index in
@@ -140,8 +140,8 @@ all_dims_returns_in_err_put_dims_clause_exact t c =
     let p : c.from_residual.result ≡ Err stop = search rules in
     rw p (sizes_stop s now c.loop-one.invariant.grows c.args.of.now c.requires.member sizes c.requires.there c.loop-one.made i c.one-item.result _ c.loop-one-test.true c.one-item.is c.loop-one.invariant.is stop _ (c.in_err-put_dims.ensures.exact others))
 
-pub all_dims_loop_one_preserved : goal.dimensions::all_dims_loop_one_preserved
-all_dims_loop_one_preserved t c =
+pub all_dims-loop-one-preserved : goal.dimensions::all_dims-loop-one-preserved
+all_dims-loop-one-preserved t c =
     let s = c.args.s.now in
     let now = c.loop-one.s in
     let i = c.loop-one.one-index in
@@ -153,15 +153,15 @@ all_dims_loop_one_preserved t c =
       kept = c.put_dims.ensures.kept;
     }
 
-pub all_dims_returns_clause_exact : goal.dimensions::all_dims_returns_clause_exact
-all_dims_returns_clause_exact t c =
+pub all_dims-returns-clause-exact : goal.dimensions::all_dims-returns-clause-exact
+all_dims-returns-clause-exact t c =
     let s = c.args.s.now in
     let T = table_in s in
     let of = c.args.of.now in
     sizes_done T (reading T of.left) (bound_in_of_measuring s of) c.loop-one.made c.args.sizes.now (frames_of s) c.loop-one.one-index _ (omega arith) c.loop-one.invariant.is
 
-pub dims_returns_in_err_sizes_clause_exact : goal.dimensions::dims_returns_in_err_sizes_clause_exact
-dims_returns_in_err_sizes_clause_exact t c =
+pub dims-returns-in_err-sizes-clause-exact : goal.dimensions::dims-returns-in_err-sizes-clause-exact
+dims-returns-in_err-sizes-clause-exact t c =
     let T = table_in c.args.s.now in
     let ask = reading T c.args.left in
     let member = member_of (frames_of c.args.s.now) c.args.member.now in
@@ -171,17 +171,17 @@ dims_returns_in_err_sizes_clause_exact t c =
     (gives_as (Err stop) _ _ (sym (component_by T ask member))
     (seen_halts (sizes_seen (frames_of c.all_sizes.new.s)) stop (all_sizes T member) (λ sizes. dims_more T ask (binding_dims T ask member (count_sizes sizes)) [] (each_dim sizes)) c.in_err-sizes.ensures.exact))
 
-pub dims_returns_in_Some_clause_exact : goal.dimensions::dims_returns_in_Some_clause_exact
-dims_returns_in_Some_clause_exact t c = rw c.in-Some.is at (c.in_ok-known.ensures c.args.s.now c.requires.kept c.requires.member)
+pub dims-returns-in-Some-clause-exact : goal.dimensions::dims-returns-in-Some-clause-exact
+dims-returns-in-Some-clause-exact t c = rw c.in-Some.is at (c.in_ok-known.ensures c.args.s.now c.requires.kept c.requires.member)
 
-pub dims_returns_in_err_sizes_clause_kept : goal.dimensions::dims_returns_in_err_sizes_clause_kept
-dims_returns_in_err_sizes_clause_kept t c = kept_still _ _ c.all_sizes.ensures.grows _ c.requires.kept
+pub dims-returns-in_err-sizes-clause-kept : goal.dimensions::dims-returns-in_err-sizes-clause-kept
+dims-returns-in_err-sizes-clause-kept t c = kept_still _ _ c.all_sizes.ensures.grows _ c.requires.kept
 
-pub dims_returns_in_err_count_clause_kept : goal.dimensions::dims_returns_in_err_count_clause_kept
-dims_returns_in_err_count_clause_kept t c = kept_still _ _ c.all_sizes.ensures.grows _ c.requires.kept
+pub dims-returns-in_err-count-clause-kept : goal.dimensions::dims-returns-in_err-count-clause-kept
+dims-returns-in_err-count-clause-kept t c = kept_still _ _ c.all_sizes.ensures.grows _ c.requires.kept
 
-pub dims_returns_in_err_dims_clause_exact : goal.dimensions::dims_returns_in_err_dims_clause_exact
-dims_returns_in_err_dims_clause_exact t c =
+pub dims-returns-in_err-dims-clause-exact : goal.dimensions::dims-returns-in_err-dims-clause-exact
+dims-returns-in_err-dims-clause-exact t c =
     let stop = c.in_err-dims.field-0.0 in
     let p : c.from_residual-in_err-dims.result ≡ Err stop = search rules in
     let s = c.args.s.now in
@@ -191,8 +191,8 @@ dims_returns_in_err_dims_clause_exact t c =
     let counted : of.count ≡ count_sizes (sizes_seen (frames_of mid) sizes) = rw c.as_slice.ensures at (c.in_ok-count.ensures (frames_of mid)) in
     rw p (gives_as {A = List ℕ} (Err stop) _ _ (dims_as s mid c.in_ok-sizes.ensures.grows of c.requires.member (sizes_seen (frames_of mid) sizes) c.in_ok-sizes.ensures.exact counted) (rw c.as_slice-2.ensures at c.in_err-dims.ensures.exact))
 
-pub dims_returns_in_err_keep_dims_clause_kept : goal.dimensions::dims_returns_in_err_keep_dims_clause_kept
-dims_returns_in_err_keep_dims_clause_kept t c =
+pub dims-returns-in_err-keep_dims-clause-kept : goal.dimensions::dims-returns-in_err-keep_dims-clause-kept
+dims-returns-in_err-keep_dims-clause-kept t c =
     let s = c.args.s.now in
     let mid = c.all_sizes.new.s in
     let sizes = c.in_ok-sizes.sizes in
@@ -205,8 +205,8 @@ dims_returns_in_err_keep_dims_clause_kept t c =
     c.keep_dims.ensures end c.all_dims.ensures.kept (is_member_later s end c.args.member.now grown c.requires.member)
     (rw c.as_slice-3.ensures (dims_still s end grown c.args.left c.args.member.now c.requires.member c.in_ok-dims.dims told))
 
-pub dims_returns_clause_kept : goal.dimensions::dims_returns_clause_kept
-dims_returns_clause_kept t c =
+pub dims-returns-clause-kept : goal.dimensions::dims-returns-clause-kept
+dims-returns-clause-kept t c =
     let s = c.args.s.now in
     let mid = c.all_sizes.new.s in
     let sizes = c.in_ok-sizes.sizes in
@@ -219,8 +219,8 @@ dims_returns_clause_kept t c =
     c.keep_dims.ensures end c.all_dims.ensures.kept (is_member_later s end c.args.member.now grown c.requires.member)
     (rw c.as_slice-3.ensures (dims_still s end grown c.args.left c.args.member.now c.requires.member c.in_ok-dims.dims told))
 
-pub dims_returns_clause_exact : goal.dimensions::dims_returns_clause_exact
-dims_returns_clause_exact t c =
+pub dims-returns-clause-exact : goal.dimensions::dims-returns-clause-exact
+dims-returns-clause-exact t c =
     let s = c.args.s.now in
     let mid = c.all_sizes.new.s in
     let sizes = c.in_ok-sizes.sizes in
@@ -228,8 +228,8 @@ dims_returns_clause_exact t c =
     let counted : of.count ≡ count_sizes (sizes_seen (frames_of mid) sizes) = rw c.as_slice.ensures at (c.in_ok-count.ensures (frames_of mid)) in
     gives_as {A = List ℕ} (Ok c.in_ok-dims.dims) _ _ (dims_as s mid c.in_ok-sizes.ensures.grows of c.requires.member (sizes_seen (frames_of mid) sizes) c.in_ok-sizes.ensures.exact counted) (rw c.as_slice-2.ensures at c.in_ok-dims.ensures.exact)
 
-pub all_dims_put_dims_requires : goal.dimensions::all_dims_put_dims_requires
-all_dims_put_dims_requires t c =
+pub all_dims-put_dims-requires : goal.dimensions::all_dims-put_dims-requires
+all_dims-put_dims-requires t c =
     let s = c.args.s.now in
     let now = c.loop-one.s in
     let one = c.one-item.result in
@@ -240,16 +240,16 @@ all_dims_put_dims_requires t c =
       (is_member_later s now c.args.of.now.member.now grows c.requires.member, (is_frame_later s now one.scope.frame.0 grows frame, c.loop-one.invariant.kept)),
     )
 
-pub dims_all_dims_requires : goal.dimensions::dims_all_dims_requires
-dims_all_dims_requires t c =
+pub dims-all_dims-requires : goal.dimensions::dims-all_dims-requires
+dims-all_dims-requires t c =
     let s = c.args.s.now in
     let mid = c.all_sizes.new.s in (
       search rules,
       (is_member_later s mid c.args.member.now c.in_ok-sizes.ensures.grows c.requires.member, (rw c.as_slice-2.ensures c.in_ok-sizes.ensures.there, kept_still s mid c.in_ok-sizes.ensures.grows c.args.reader.now c.requires.kept)),
     )
 
-pub put_dims_dim_at_requires : goal.dimensions::put_dims_dim_at_requires
-put_dims_dim_at_requires t c =
+pub put_dims-dim_at-requires : goal.dimensions::put_dims-dim_at-requires
+put_dims-dim_at-requires t c =
     let s = c.args.s.now in
     let now = c.loop-sub.s in
     let grows = c.loop-sub.invariant.grows in (

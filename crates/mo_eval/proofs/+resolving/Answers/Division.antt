@@ -16,20 +16,20 @@ use Rattle.mo_scope.specs.Worlds.{frames_of}
 use Rattle.std.proofs.Common.{Err, Ok, [], ap, false, rules, sym, true, ◌∙◌, ◌≡◌}
 use Rattle.mo_eval.proofs.+resolving.Goals as goal
 
-pub value_of_returns_in_default_clause_exact : goal.division::value_of_returns_in_default_clause_exact
-value_of_returns_in_default_clause_exact t c =
+pub value_of-returns-in_default-clause-exact : goal.division::value_of-returns-in_default-clause-exact
+value_of-returns-in_default-clause-exact t c =
     rw c.broken.ensures (none_known (elements_in c.args.s.now c.args.left) c.args.called.place c.args.called.function c.args.operands.now (virtuals_seen (frames_of c.args.s.now) c.args.virtuals.now) c.in_default.ensures)
 
-pub value_of_returns_in_err_m_clause_exact : goal.division::value_of_returns_in_err_m_clause_exact
-value_of_returns_in_err_m_clause_exact t c =
+pub value_of-returns-in_err-m-clause-exact : goal.division::value_of-returns-in_err-m-clause-exact
+value_of-returns-in_err-m-clause-exact t c =
     let known = variables_in c.args.s.now c.args.left c.args.virtuals.now in
     let stop = c.in_err-m.field-0.0 in
     let p : c.from_residual.result ≡ Err stop = search rules in
     rw (p, c.in-Some.ensures)
     (gives_halt {A = Known} stop (known_by known c.in-Some.a.now []) (λ m. and_then (known_by known c.in-Some.b.now []) (λ n. division c.args.called.place c.args.called.function m n)) c.in_err-m.ensures.exact)
 
-pub value_of_returns_in_err_n_clause_exact : goal.division::value_of_returns_in_err_n_clause_exact
-value_of_returns_in_err_n_clause_exact t c =
+pub value_of-returns-in_err-n-clause-exact : goal.division::value_of-returns-in_err-n-clause-exact
+value_of-returns-in_err-n-clause-exact t c =
     let known = variables_in c.args.s.now c.args.left c.args.virtuals.now in
     let stop = c.in_err-n.field-0.0 in
     let p : c.from_residual-in_err-n.result ≡ Err stop = search rules in
@@ -38,23 +38,23 @@ value_of_returns_in_err_n_clause_exact t c =
     (gives_halt {A = Known} stop (known_by known c.in-Some.b.now []) (λ n. division c.args.called.place c.args.called.function c.in_ok-m.m n)
     (gives_as {A = Known} (Err stop) _ _ same c.in_err-n.ensures.exact))
 
-pub value_of_returns_clause_exact : goal.division::value_of_returns_clause_exact
-value_of_returns_clause_exact t c =
+pub value_of-returns-clause-exact : goal.division::value_of-returns-clause-exact
+value_of-returns-clause-exact t c =
     let same = ap (λ known. known_by (numbered known) c.in-Some.b.now []) (same_known c.args.s.now c.known_in.new.s c.args.left c.known_in.ensures.grows c.args.virtuals.now c.requires.there) in
     rw (c.in-Some.ensures, c.in_ok-m.ensures.exact, sym same ∙ c.in_ok-n.ensures.exact) (rw c.division.ensures.exact at c.answer.ensures)
 
-pub value_of_known_in_requires_2 : goal.division::value_of_known_in_requires_2
-value_of_known_in_requires_2 t c = (search rules, (there_still _ _ c.known_in.ensures.grows _ c.requires.there, c.known_in.ensures.kept))
+pub value_of-known_in-requires-2 : goal.division::value_of-known_in-requires-2
+value_of-known_in-requires-2 t c = (search rules, (there_still _ _ c.known_in.ensures.grows _ c.requires.there, c.known_in.ensures.kept))
 
-pub in_flat_returns_in_err_operands_clause_exact : goal.division::in_flat_returns_in_err_operands_clause_exact
-in_flat_returns_in_err_operands_clause_exact t c = λ parts all.
+pub in_flat-returns-in_err-operands-clause-exact : goal.division::in_flat-returns-in_err-operands-clause-exact
+in_flat-returns-in_err-operands-clause-exact t c = λ parts all.
     let stop = c.in_err-operands.field-0.0 in
     let p : c.from_residual.result ≡ Err stop = search rules in
     rw p (operands_halt _ stop _ (elements_in c.args.s.now c.args.site.now.left) c.args.site.now.context c.args.called.place c.args.called.function parts
     (rw (c.read_in.ensures, c.new-virtuals.ensures) at (c.in_err-operands.ensures.exact parts all)))
 
-pub in_flat_returns_in_err_checked_operands_clause_exact : goal.division::in_flat_returns_in_err_checked_operands_clause_exact
-in_flat_returns_in_err_checked_operands_clause_exact t c = λ parts all.
+pub in_flat-returns-in_err-checked_operands-clause-exact : goal.division::in_flat-returns-in_err-checked_operands-clause-exact
+in_flat-returns-in_err-checked_operands-clause-exact t c = λ parts all.
     let stop = c.in_err-checked_operands.field-0.0 in
     let read = elements_in c.args.s.now c.args.site.now.left in
     let place = c.args.called.place in
@@ -66,8 +66,8 @@ in_flat_returns_in_err_checked_operands_clause_exact t c = λ parts all.
     rw (p, operands_made read c.args.site.now.context place function parts operands seen made)
     (gives_halt {A = Unit {0}} stop (checked_operands place operands) (λ _. and_then (known_of_operands read place function operands seen) (known_number place)) (rw c.as_slice.ensures at c.in_err-checked_operands.ensures))
 
-pub in_flat_returns_in_err_known_clause_exact : goal.division::in_flat_returns_in_err_known_clause_exact
-in_flat_returns_in_err_known_clause_exact t c = λ parts all.
+pub in_flat-returns-in_err-known-clause-exact : goal.division::in_flat-returns-in_err-known-clause-exact
+in_flat-returns-in_err-known-clause-exact t c = λ parts all.
     let stop = c.in_err-known.field-0.0 in
     let mid = c.arguments.new.s in
     let left = c.args.site.now.left in
@@ -84,8 +84,8 @@ in_flat_returns_in_err_known_clause_exact t c = λ parts all.
     (gives_halt {A = Known} stop (known_of_operands read place function operands seen) (known_number place)
     (gives_as {A = Known} (Err stop) _ _ same (rw (c.as_slice-2.ensures, c.as_slice-3.ensures) at c.in_err-known.ensures.exact)))
 
-pub in_flat_returns_clause_exact : goal.division::in_flat_returns_clause_exact
-in_flat_returns_clause_exact t c = λ parts all.
+pub in_flat-returns-clause-exact : goal.division::in_flat-returns-clause-exact
+in_flat-returns-clause-exact t c = λ parts all.
     let mid = c.arguments.new.s in
     let left = c.args.site.now.left in
     let read = elements_in c.args.s.now left in
@@ -99,11 +99,11 @@ in_flat_returns_clause_exact t c = λ parts all.
     let known : known_of_operands read place function operands seen ≡ Ok c.in_ok-known.known = sym same ∙ (rw (c.as_slice-2.ensures, c.as_slice-3.ensures) at c.in_ok-known.ensures.exact) in
     rw (operands_made read c.args.site.now.context place function parts operands seen made, checked, known) (rw c.known_number.ensures at c.answer.ensures)
 
-pub division_returns_then_site_clause_there : goal.division::division_returns_then_site_clause_there
-division_returns_then_site_clause_there t c = there_still _ _ c.in_flat.ensures.grows _ c.requires.there
+pub division-returns-then-site-clause-there : goal.division::division-returns-then-site-clause-there
+division-returns-then-site-clause-there t c = there_still _ _ c.in_flat.ensures.grows _ c.requires.there
 
-pub division_returns_then_site_clause_exact : goal.division::division_returns_then_site_clause_exact
-division_returns_then_site_clause_exact t c = λ parts all.
+pub division-returns-then-site-clause-exact : goal.division::division-returns-then-site-clause-exact
+division-returns-then-site-clause-exact t c = λ parts all.
     let read = elements_in c.args.s.now c.args.site.now.left in
     let context = c.args.site.now.context in
     let before = virtuals_seen (frames_of c.args.s.now) c.args.virtuals.now in
@@ -113,8 +113,8 @@ division_returns_then_site_clause_exact t c = λ parts all.
     made_as _ _ _ _ _ (ap (λ seen. and_then told (λ node. Ok (node, seen))) same ∙ sym (flat_is read context c.args.called.place c.args.called.function parts before flat))
     (given_made _ c.in_flat.result _ told (c.in_flat.ensures.exact parts all))
 
-pub division_returns_in_err_operands_clause_exact : goal.division::division_returns_in_err_operands_clause_exact
-division_returns_in_err_operands_clause_exact t c = λ parts all.
+pub division-returns-in_err-operands-clause-exact : goal.division::division-returns-in_err-operands-clause-exact
+division-returns-in_err-operands-clause-exact t c = λ parts all.
     let read = elements_in c.args.s.now c.args.site.now.left in
     let context = c.args.site.now.context in
     let before = virtuals_seen (frames_of c.args.s.now) c.args.virtuals.now in
@@ -124,8 +124,8 @@ division_returns_in_err_operands_clause_exact t c = λ parts all.
     rw (p, kept_is read context c.args.called.place c.args.called.function parts before not)
     (halts_through _ stop _ (make_arguments (read_in context) parts before) _ (rw c.read_in.ensures at (c.in_err-operands.ensures.exact parts all)))
 
-pub division_returns_in_err_checked_operands_clause_exact : goal.division::division_returns_in_err_checked_operands_clause_exact
-division_returns_in_err_checked_operands_clause_exact t c = λ parts all.
+pub division-returns-in_err-checked_operands-clause-exact : goal.division::division-returns-in_err-checked_operands-clause-exact
+division-returns-in_err-checked_operands-clause-exact t c = λ parts all.
     let read = elements_in c.args.s.now c.args.site.now.left in
     let context = c.args.site.now.context in
     let before = virtuals_seen (frames_of c.args.s.now) c.args.virtuals.now in
@@ -138,11 +138,11 @@ division_returns_in_err_checked_operands_clause_exact t c = λ parts all.
     rw (p, kept_is read context c.args.called.place c.args.called.function parts before not, made)
     (from_halts _ stop _ (checked_operands c.args.called.place operands) after _ (rw c.as_slice.ensures at c.in_err-checked_operands.ensures))
 
-pub division_returns_clause_there : goal.division::division_returns_clause_there
-division_returns_clause_there t c = c.put.ensures.there c.arguments.new.s c.arguments.ensures.there
+pub division-returns-clause-there : goal.division::division-returns-clause-there
+division-returns-clause-there t c = c.put.ensures.there c.arguments.new.s c.arguments.ensures.there
 
-pub division_returns_clause_exact : goal.division::division_returns_clause_exact
-division_returns_clause_exact t c = λ parts all.
+pub division-returns-clause-exact : goal.division::division-returns-clause-exact
+division-returns-clause-exact t c = λ parts all.
     let read = elements_in c.args.s.now c.args.site.now.left in
     let context = c.args.site.now.context in
     let before = virtuals_seen (frames_of c.args.s.now) c.args.virtuals.now in

@@ -17,18 +17,18 @@ use Rattle.std.proofs.lemmas.Grind.{common_steps}
 use Rattle.mo_eval.proofs.+resolving.Goals.{references::elements_selected-then-is_inside+in_ok-below, references::elements_selected-else-is_inside}
 use Rattle.mo_eval.proofs.+resolving.Goals as goal
 
-pub components_returns_then_site_eq0_clause_exact : goal.references::components_returns_then_site_eq0_clause_exact
-components_returns_then_site_eq0_clause_exact t c =
+pub components-returns-then-site-eq0-clause-exact : goal.references::components-returns-then-site-eq0-clause-exact
+components-returns-then-site-eq0-clause-exact t c =
     let w = c.args.s.now in
     let names = c.args.names.now in
     let some : 0 < length names = grind (arith, common_steps, c.is_empty.ensures, c.if-is_empty.false) in
     rw c.broken-then-site-eq0.ensures (record { is = none_left_of w c.args.site.now c.args.place names (virtuals_seen (frames_of w) c.args.virtuals.now) some c.if-site-eq0.true })
 
-pub components_returns_in_err_chosen_clause_there : goal.references::components_returns_in_err_chosen_clause_there
-components_returns_in_err_chosen_clause_there t c = there_still _ _ c.selections.ensures.grows _ c.requires.there
+pub components-returns-in_err-chosen-clause-there : goal.references::components-returns-in_err-chosen-clause-there
+components-returns-in_err-chosen-clause-there t c = there_still _ _ c.selections.ensures.grows _ c.requires.there
 
-pub components_returns_in_err_chosen_clause_exact : goal.references::components_returns_in_err_chosen_clause_exact
-components_returns_in_err_chosen_clause_exact t c =
+pub components-returns-in_err-chosen-clause-exact : goal.references::components-returns-in_err-chosen-clause-exact
+components-returns-in_err-chosen-clause-exact t c =
     let w = c.args.s.now in
     let names = c.args.names.now in
     let first = get_or names 0 c.index-names-0.result in
@@ -42,11 +42,11 @@ components_returns_in_err_chosen_clause_exact t c =
     (no_choice w c.args.site.now c.args.place names first (virtuals_seen (frames_of w) c.args.virtuals.now) some front (c.args.site.now.left - 1) more stop
     (seen_halt selections_seen stop _ (told_broken selections_seen c.selections.result (Err stop) _ c.in_err-chosen.ensures (c.selections.ensures.exact Breaks)))))
 
-pub components_returns_in_err_elements_clause_there : goal.references::components_returns_in_err_elements_clause_there
-components_returns_in_err_elements_clause_there t c = there_still _ _ (grows_trans _ _ _ c.selections.ensures.grows c.elements_selected.ensures.grows) _ c.requires.there
+pub components-returns-in_err-elements-clause-there : goal.references::components-returns-in_err-elements-clause-there
+components-returns-in_err-elements-clause-there t c = there_still _ _ (grows_trans _ _ _ c.selections.ensures.grows c.elements_selected.ensures.grows) _ c.requires.there
 
-pub components_returns_in_err_elements_clause_exact : goal.references::components_returns_in_err_elements_clause_exact
-components_returns_in_err_elements_clause_exact t c =
+pub components-returns-in_err-elements-clause-exact : goal.references::components-returns-in_err-elements-clause-exact
+components-returns-in_err-elements-clause-exact t c =
     let w = c.args.s.now in
     let u = c.selections.new.s in
     let names = c.args.names.now in
@@ -65,18 +65,18 @@ components_returns_in_err_elements_clause_exact t c =
     (no_elements w c.args.site.now c.args.place names first (virtuals_seen (frames_of w) c.args.virtuals.now) some front deeper more chosen (told_broken selections_seen c.selections.result (Ok c.in_ok-chosen.chosen) _ c.in_ok-chosen.ensures (c.selections.ensures.exact Breaks)) stop
     (rw (elements_earlier w u c.selections.ensures.grows first.member is deeper c.args.place chosen) at (rw c.as_slice.ensures at told))))
 
-pub components_returns_in_err_kind_clause_grows : goal.references::components_returns_in_err_kind_clause_grows
-components_returns_in_err_kind_clause_grows t c = grows_trans _ _ _ c.selections.ensures.grows (grows_trans _ _ _ c.elements_selected.ensures.grows c.in_err-kind.ensures.grows)
+pub components-returns-in_err-kind-clause-grows : goal.references::components-returns-in_err-kind-clause-grows
+components-returns-in_err-kind-clause-grows t c = grows_trans _ _ _ c.selections.ensures.grows (grows_trans _ _ _ c.elements_selected.ensures.grows c.in_err-kind.ensures.grows)
 
-pub components_returns_in_err_kind_clause_kept : goal.references::components_returns_in_err_kind_clause_kept
-components_returns_in_err_kind_clause_kept t c = kept_still _ _ c.kind_of_elements.ensures.grows _ c.elements_selected.ensures.kept
+pub components-returns-in_err-kind-clause-kept : goal.references::components-returns-in_err-kind-clause-kept
+components-returns-in_err-kind-clause-kept t c = kept_still _ _ c.kind_of_elements.ensures.grows _ c.elements_selected.ensures.kept
 
-pub components_returns_in_err_kind_clause_there : goal.references::components_returns_in_err_kind_clause_there
-components_returns_in_err_kind_clause_there t c =
+pub components-returns-in_err-kind-clause-there : goal.references::components-returns-in_err-kind-clause-there
+components-returns-in_err-kind-clause-there t c =
     there_still _ _ (grows_trans _ _ _ c.selections.ensures.grows (grows_trans _ _ _ c.elements_selected.ensures.grows c.in_err-kind.ensures.grows)) _ c.requires.there
 
-pub components_returns_in_err_kind_clause_exact : goal.references::components_returns_in_err_kind_clause_exact
-components_returns_in_err_kind_clause_exact t c =
+pub components-returns-in_err-kind-clause-exact : goal.references::components-returns-in_err-kind-clause-exact
+components-returns-in_err-kind-clause-exact t c =
     let w = c.args.s.now in
     let u = c.selections.new.s in
     let v = c.elements_selected.new.s in
@@ -102,40 +102,40 @@ components_returns_in_err_kind_clause_exact t c =
     (no_kind w c.args.site.now c.args.place names first (virtuals_seen (frames_of w) c.args.virtuals.now) some front deeper more chosen (told_broken selections_seen c.selections.result (Ok c.in_ok-chosen.chosen) _ c.in_ok-chosen.ensures (c.selections.ensures.exact Breaks)) elements all last back stop
     (rw (kind_earlier w v grown last.member ends c.args.site.now.context c.args.place elements) at told)))
 
-pub components_returns_in_err_dims_clause_grows : goal.references::components_returns_in_err_dims_clause_grows
-components_returns_in_err_dims_clause_grows t c = grows_trans _ _ _ c.selections.ensures.grows (grows_trans _ _ _ c.elements_selected.ensures.grows c.in_ok-kind.ensures.grows)
+pub components-returns-in_err-dims-clause-grows : goal.references::components-returns-in_err-dims-clause-grows
+components-returns-in_err-dims-clause-grows t c = grows_trans _ _ _ c.selections.ensures.grows (grows_trans _ _ _ c.elements_selected.ensures.grows c.in_ok-kind.ensures.grows)
 
-pub components_returns_in_err_dims_clause_there : goal.references::components_returns_in_err_dims_clause_there
-components_returns_in_err_dims_clause_there t c =
+pub components-returns-in_err-dims-clause-there : goal.references::components-returns-in_err-dims-clause-there
+components-returns-in_err-dims-clause-there t c =
     there_still _ _ (grows_trans _ _ _ c.selections.ensures.grows (grows_trans _ _ _ c.elements_selected.ensures.grows c.in_ok-kind.ensures.grows)) _ c.requires.there
 
-pub components_returns_in_err_dims_clause_kept : goal.references::components_returns_in_err_dims_clause_kept
-components_returns_in_err_dims_clause_kept t c = kept_still _ _ c.kind_of_elements.ensures.grows _ c.elements_selected.ensures.kept
+pub components-returns-in_err-dims-clause-kept : goal.references::components-returns-in_err-dims-clause-kept
+components-returns-in_err-dims-clause-kept t c = kept_still _ _ c.kind_of_elements.ensures.grows _ c.elements_selected.ensures.kept
 
-pub components_returns_in_err_vars_clause_grows : goal.references::components_returns_in_err_vars_clause_grows
-components_returns_in_err_vars_clause_grows t c = grows_trans _ _ _ c.selections.ensures.grows (grows_trans _ _ _ c.elements_selected.ensures.grows c.in_ok-kind.ensures.grows)
+pub components-returns-in_err-vars-clause-grows : goal.references::components-returns-in_err-vars-clause-grows
+components-returns-in_err-vars-clause-grows t c = grows_trans _ _ _ c.selections.ensures.grows (grows_trans _ _ _ c.elements_selected.ensures.grows c.in_ok-kind.ensures.grows)
 
-pub components_returns_in_err_vars_clause_there : goal.references::components_returns_in_err_vars_clause_there
-components_returns_in_err_vars_clause_there t c =
+pub components-returns-in_err-vars-clause-there : goal.references::components-returns-in_err-vars-clause-there
+components-returns-in_err-vars-clause-there t c =
     let grown = grows_trans _ _ _ c.selections.ensures.grows (grows_trans _ _ _ c.elements_selected.ensures.grows c.in_ok-kind.ensures.grows) in
     c.in_err-vars.ensures.there _ (there_still _ _ grown _ c.requires.there) (rw c.as_slice-3.ensures (are_elements_later _ _ c.in_ok-kind.ensures.grows _ (if_told c.elements_selected.result c.in_ok-elements.elements _ c.in_ok-elements.ensures c.elements_selected.ensures.there)))
 
-pub components_returns_in_err_vars_clause_kept : goal.references::components_returns_in_err_vars_clause_kept
-components_returns_in_err_vars_clause_kept t c = kept_still _ _ c.kind_of_elements.ensures.grows _ c.elements_selected.ensures.kept
+pub components-returns-in_err-vars-clause-kept : goal.references::components-returns-in_err-vars-clause-kept
+components-returns-in_err-vars-clause-kept t c = kept_still _ _ c.kind_of_elements.ensures.grows _ c.elements_selected.ensures.kept
 
-pub components_returns_clause_grows : goal.references::components_returns_clause_grows
-components_returns_clause_grows t c = grows_trans _ _ _ c.selections.ensures.grows (grows_trans _ _ _ c.elements_selected.ensures.grows c.in_ok-kind.ensures.grows)
+pub components-returns-clause-grows : goal.references::components-returns-clause-grows
+components-returns-clause-grows t c = grows_trans _ _ _ c.selections.ensures.grows (grows_trans _ _ _ c.elements_selected.ensures.grows c.in_ok-kind.ensures.grows)
 
-pub components_returns_clause_there : goal.references::components_returns_clause_there
-components_returns_clause_there t c =
+pub components-returns-clause-there : goal.references::components-returns-clause-there
+components-returns-clause-there t c =
     let grown = grows_trans _ _ _ c.selections.ensures.grows (grows_trans _ _ _ c.elements_selected.ensures.grows c.in_ok-kind.ensures.grows) in
     c.in_ok-vars.ensures.there _ (there_still _ _ grown _ c.requires.there) (rw c.as_slice-3.ensures (are_elements_later _ _ c.in_ok-kind.ensures.grows _ (if_told c.elements_selected.result c.in_ok-elements.elements _ c.in_ok-elements.ensures c.elements_selected.ensures.there)))
 
-pub components_returns_clause_kept : goal.references::components_returns_clause_kept
-components_returns_clause_kept t c = kept_still _ _ c.kind_of_elements.ensures.grows _ c.elements_selected.ensures.kept
+pub components-returns-clause-kept : goal.references::components-returns-clause-kept
+components-returns-clause-kept t c = kept_still _ _ c.kind_of_elements.ensures.grows _ c.elements_selected.ensures.kept
 
-pub components_returns_clause_exact : goal.references::components_returns_clause_exact
-components_returns_clause_exact t c =
+pub components-returns-clause-exact : goal.references::components-returns-clause-exact
+components-returns-clause-exact t c =
     let w = c.args.s.now in
     let u = c.selections.new.s in
     let v = c.elements_selected.new.s in
@@ -169,14 +169,14 @@ components_returns_clause_exact t c =
           put.1;
     }
 
-pub name_returns_in_err_names_clause_there : goal.references::name_returns_in_err_names_clause_there
-name_returns_in_err_names_clause_there t c = there_still _ _ c.in_err-names.ensures.grows _ c.requires.there
+pub name-returns-in_err-names-clause-there : goal.references::name-returns-in_err-names-clause-there
+name-returns-in_err-names-clause-there t c = there_still _ _ c.in_err-names.ensures.grows _ c.requires.there
 
-pub name_returns_in_err_names_clause_kept : goal.references::name_returns_in_err_names_clause_kept
-name_returns_in_err_names_clause_kept t c = kept_still _ _ c.in_err-names.ensures.grows _ c.requires.kept
+pub name-returns-in_err-names-clause-kept : goal.references::name-returns-in_err-names-clause-kept
+name-returns-in_err-names-clause-kept t c = kept_still _ _ c.in_err-names.ensures.grows _ c.requires.kept
 
-pub name_components_requires : goal.references::name_components_requires
-name_components_requires t c = (
+pub name-components-requires : goal.references::name-components-requires
+name-components-requires t c = (
   search rules,
   (
     frame_stays _ _ _ c.in_ok-names.ensures.grows c.requires.frame,
@@ -187,26 +187,26 @@ name_components_requires t c = (
   ),
 )
 
-pub name_returns_in_Components_clause_exact : goal.references::name_returns_in_Components_clause_exact
-name_returns_in_Components_clause_exact t c =
+pub name-returns-in-Components-clause-exact : goal.references::name-returns-in-Components-clause-exact
+name-returns-in-Components-clause-exact t c =
     made_as _ _ _ _ _
     (named_components c.args.s.now c.named.new.s c.in_ok-names.ensures.grows c.args.site.now c.requires.frame c.args.place c.args.reference.now c.in-Components.names c.args.virtuals.now c.requires.there
     (rw c.in-Components.is at c.in_ok-names.ensures.exact))
     (rw c.as_slice.ensures at c.components.ensures.exact)
 
-pub name_returns_in_Other_clause_there : goal.references::name_returns_in_Other_clause_there
-name_returns_in_Other_clause_there t c = there_still _ _ c.in_ok-names.ensures.grows _ c.requires.there
+pub name-returns-in-Other-clause-there : goal.references::name-returns-in-Other-clause-there
+name-returns-in-Other-clause-there t c = there_still _ _ c.in_ok-names.ensures.grows _ c.requires.there
 
-pub name_returns_in_Other_clause_kept : goal.references::name_returns_in_Other_clause_kept
-name_returns_in_Other_clause_kept t c = kept_still _ _ c.in_ok-names.ensures.grows _ c.requires.kept
+pub name-returns-in-Other-clause-kept : goal.references::name-returns-in-Other-clause-kept
+name-returns-in-Other-clause-kept t c = kept_still _ _ c.in_ok-names.ensures.grows _ c.requires.kept
 
-pub name_returns_in_Other_clause_exact : goal.references::name_returns_in_Other_clause_exact
-name_returns_in_Other_clause_exact t c =
+pub name-returns-in-Other-clause-exact : goal.references::name-returns-in-Other-clause-exact
+name-returns-in-Other-clause-exact t c =
     named_other c.args.s.now c.named.new.s c.in_ok-names.ensures.grows c.args.site.now c.args.place c.args.reference.now c.in-Other.found c.in-Other.at _ c.args.virtuals.now c.requires.there
     (rw c.in-Other.is at c.in_ok-names.ensures.exact) c.other.ensures
 
-pub components_elements_selected_requires : goal.references::components_elements_selected_requires
-components_elements_selected_requires t c =
+pub components-elements_selected-requires : goal.references::components-elements_selected-requires
+components-elements_selected-requires t c =
     let w = c.args.s.now in
     let names = c.args.names.now in
     let first = get_or names 0 c.index-names-0.result in
@@ -215,8 +215,8 @@ components_elements_selected_requires t c =
     let is = named_member w names 0 first some front c.requires.names in
     (search rules, (is_member_later w c.selections.new.s first.member c.selections.ensures.grows is, c.selections.ensures.kept))
 
-pub components_kind_of_elements_requires_clause_member : goal.references::components_kind_of_elements_requires_clause_member
-components_kind_of_elements_requires_clause_member t c =
+pub components-kind_of_elements-requires-clause-member : goal.references::components-kind_of_elements-requires-clause-member
+components-kind_of_elements-requires-clause-member t c =
     let w = c.args.s.now in
     let names = c.args.names.now in
     let last = get_or names (length names - 1) c.index-names-names.result in
@@ -225,15 +225,15 @@ components_kind_of_elements_requires_clause_member t c =
     let ends = named_member w names (length names - 1) last (omega (arith, some)) back c.requires.names in
     is_member_later w c.elements_selected.new.s last.member (grows_trans w c.selections.new.s c.elements_selected.new.s c.selections.ensures.grows c.elements_selected.ensures.grows) ends
 
-pub elements_selected_returns_clause_there : goal.references::elements_selected_returns_clause_there
-elements_selected_returns_clause_there t c =
+pub elements_selected-returns-clause-there : goal.references::elements_selected-returns-clause-there
+elements_selected-returns-clause-there t c =
     elim c.if-is_inside.branch [
       | references::elements_selected-then-is_inside+in_ok-below w ↦ rw (w.s-is, w.made-is) w.in_ok-below.ensures.there
       | references::elements_selected-else-is_inside w ↦ rw (w.s-is, w.made-is, c.new-made.ensures) tt
     ]
 
-pub elements_selected_returns_clause_exact : goal.references::elements_selected_returns_clause_exact
-elements_selected_returns_clause_exact t c = λ asking.
+pub elements_selected-returns-clause-exact : goal.references::elements_selected-returns-clause-exact
+elements_selected-returns-clause-exact t c = λ asking.
     elim c.if-is_inside.branch [
       | references::elements_selected-then-is_inside+in_ok-below w ↦
           rw (w.s-is, w.made-is, sym c.is_inside.ensures ∙ w.if-is_inside.true) (sym (more_of_none _) ∙ (rw c.new-made.ensures at (w.in_ok-below.ensures.exact asking)))

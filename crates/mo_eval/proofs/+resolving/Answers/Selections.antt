@@ -23,24 +23,24 @@ use Rattle.std.specs.Option.{option_map}
 use Rattle.std.specs.Prelude.{option_map as mapped, option_map as option_map_of_prelude}
 use Rattle.mo_eval.proofs.+resolving.Goals as goal
 
-pub there_returns_in_err_there_clause_exact : goal.selections::there_returns_in_err_there_clause_exact
-there_returns_in_err_there_clause_exact t c = λ asking.
+pub there-returns-in_err-there-clause-exact : goal.selections::there-returns-in_err-there-clause-exact
+there-returns-in_err-there-clause-exact t c = λ asking.
     let stop = c.in_err-there.field-0.0 in
     let p : c.from_residual.result ≡ Err (Stopped stop) = search rules in
     rw p (there_stops asking (reading_at c.args.s.now c.args.deeper) c.args.place (member_of (frames_of c.args.s.now) c.args.member.now) stop c.in_err-there.ensures.exact)
 
-pub there_returns_then_not_there_clause_exact : goal.selections::there_returns_then_not_there_clause_exact
-there_returns_then_not_there_clause_exact t c = λ asking.
+pub there-returns-then-not-there-clause-exact : goal.selections::there-returns-then-not-there-clause-exact
+there-returns-then-not-there-clause-exact t c = λ asking.
     let no : c.in_ok-there.there ≡ false = search rules in
     removed_for asking (reading_at c.args.s.now c.args.deeper) c.args.place (member_of (frames_of c.args.s.now) c.args.member.now) (rw no at c.in_ok-there.ensures.exact)
 
-pub there_returns_clause_exact : goal.selections::there_returns_clause_exact
-there_returns_clause_exact t c = λ asking.
+pub there-returns-clause-exact : goal.selections::there-returns-clause-exact
+there-returns-clause-exact t c = λ asking.
     let yes : c.in_ok-there.there ≡ true = search rules in
     is_there_for asking (reading_at c.args.s.now c.args.deeper) c.args.place (member_of (frames_of c.args.s.now) c.args.member.now) (rw yes at c.in_ok-there.ensures.exact)
 
-pub dims_there_returns_in_err_there_clause_exact : goal.selections::dims_there_returns_in_err_there_clause_exact
-dims_there_returns_in_err_there_clause_exact t c = λ asking.
+pub dims_there-returns-in_err-there-clause-exact : goal.selections::dims_there-returns-in_err-there-clause-exact
+dims_there-returns-in_err-there-clause-exact t c = λ asking.
     let absent = c.in_err-there.field-0.0 in
     let stop = stop_for asking absent in
     let member = member_of (frames_of c.args.s.now) c.args.member.now in
@@ -48,8 +48,8 @@ dims_there_returns_in_err_there_clause_exact t c = λ asking.
     let p : c.from_residual.result ≡ Err absent = search rules in
     rw p (gives_halt stop (there reading c.args.place member) (λ _. reading.dims member) (c.in_err-there.ensures.exact asking))
 
-pub dims_there_returns_in_err_dims_clause_exact : goal.selections::dims_there_returns_in_err_dims_clause_exact
-dims_there_returns_in_err_dims_clause_exact t c = λ asking.
+pub dims_there-returns-in_err-dims-clause-exact : goal.selections::dims_there-returns-in_err-dims-clause-exact
+dims_there-returns-in_err-dims-clause-exact t c = λ asking.
     let stop = c.in_err-dims.field-0.0 in
     let p : c.from_residual-in_err-dims.result ≡ Err (Stopped stop) = search rules in
     let member = member_of (frames_of c.args.s.now) c.args.member.now in
@@ -58,35 +58,35 @@ dims_there_returns_in_err_dims_clause_exact t c = λ asking.
     (of_member (λ table member. component_dims table c.args.deeper member) c.args.s.now c.there.new.s c.in_ok-there.ensures.grows c.args.member.now c.requires.member ∙ sym (dims_for asking (reading_at c.args.s.now c.args.deeper) member))
     c.in_err-dims.ensures.exact)
 
-pub dims_there_returns_clause_exact : goal.selections::dims_there_returns_clause_exact
-dims_there_returns_clause_exact t c = λ asking.
+pub dims_there-returns-clause-exact : goal.selections::dims_there-returns-clause-exact
+dims_there-returns-clause-exact t c = λ asking.
     let member = member_of (frames_of c.args.s.now) c.args.member.now in
     rw (c.in_ok-there.ensures.exact asking)
     (gives_as {A = List ℕ} (Ok c.in_ok-dims.field-0) _ _
     (of_member (λ table member. component_dims table c.args.deeper member) c.args.s.now c.there.new.s c.in_ok-there.ensures.grows c.args.member.now c.requires.member ∙ sym (dims_for asking (reading_at c.args.s.now c.args.deeper) member))
     c.in_ok-dims.ensures.exact)
 
-pub dims_at_returns_in_Some_clause_exact : goal.selections::dims_at_returns_in_Some_clause_exact
-dims_at_returns_in_Some_clause_exact t c = λ asking f. rw c.in-Some.is (c.dims_there.ensures.exact asking)
+pub dims_at-returns-in-Some-clause-exact : goal.selections::dims_at-returns-in-Some-clause-exact
+dims_at-returns-in-Some-clause-exact t c = λ asking f. rw c.in-Some.is (c.dims_there.ensures.exact asking)
 
-pub dims_at_returns_in_err_n_in_None_clause_kept : goal.selections::dims_at_returns_in_err_n_in_None_clause_kept
-dims_at_returns_in_err_n_in_None_clause_kept t c = kept_still _ _ c.count_of_dims.ensures.grows _ c.requires.kept
+pub dims_at-returns-in_err-n-in-None-clause-kept : goal.selections::dims_at-returns-in_err-n-in-None-clause-kept
+dims_at-returns-in_err-n-in-None-clause-kept t c = kept_still _ _ c.count_of_dims.ensures.grows _ c.requires.kept
 
-pub dims_at_returns_in_err_nothings_in_None_clause_kept : goal.selections::dims_at_returns_in_err_nothings_in_None_clause_kept
-dims_at_returns_in_err_nothings_in_None_clause_kept t c = kept_still _ _ c.count_of_dims.ensures.grows _ c.requires.kept
+pub dims_at-returns-in_err-nothings-in-None-clause-kept : goal.selections::dims_at-returns-in_err-nothings-in-None-clause-kept
+dims_at-returns-in_err-nothings-in-None-clause-kept t c = kept_still _ _ c.count_of_dims.ensures.grows _ c.requires.kept
 
-pub dims_at_returns_in_ok_nothings_in_None_clause_kept : goal.selections::dims_at_returns_in_ok_nothings_in_None_clause_kept
-dims_at_returns_in_ok_nothings_in_None_clause_kept t c = kept_still _ _ c.count_of_dims.ensures.grows _ c.requires.kept
+pub dims_at-returns-in_ok-nothings-in-None-clause-kept : goal.selections::dims_at-returns-in_ok-nothings-in-None-clause-kept
+dims_at-returns-in_ok-nothings-in-None-clause-kept t c = kept_still _ _ c.count_of_dims.ensures.grows _ c.requires.kept
 
-pub selection_at_returns_in_err_dims_clause_exact : goal.selections::selection_at_returns_in_err_dims_clause_exact
-selection_at_returns_in_err_dims_clause_exact t c = λ asking.
+pub selection_at-returns-in_err-dims-clause-exact : goal.selections::selection_at-returns-in_err-dims-clause-exact
+selection_at-returns-in_err-dims-clause-exact t c = λ asking.
     let absent = c.in_err-dims.field-0.0 in
     let part = part_in c.args.s.now c.args.site.now in
     let p : c.from_residual.result ≡ Err absent = search rules in
     rw p (halts_seen selection_seen (stop_for asking absent) (dims_at (table_in c.args.s.now) (reading_in asking c.args.s.now c.args.deeper) (mapped (member_of (frames_of c.args.s.now)) c.args.member.now) (name_seen part (frames_of c.args.s.now) c.args.name.now)) _ (c.in_err-dims.ensures.exact asking part))
 
-pub selection_at_returns_in_err_subs_clause_exact : goal.selections::selection_at_returns_in_err_subs_clause_exact
-selection_at_returns_in_err_subs_clause_exact t c = λ asking.
+pub selection_at-returns-in_err-subs-clause-exact : goal.selections::selection_at-returns-in_err-subs-clause-exact
+selection_at-returns-in_err-subs-clause-exact t c = λ asking.
     let stop = c.in_err-subs.field-0.0 in
     let part = part_in c.args.s.now c.args.site.now in
     let subs = c.args.name.now.part.now.subs in
@@ -97,8 +97,8 @@ selection_at_returns_in_err_subs_clause_exact t c = λ asking.
     (halts_seen selection_seen stop (read_subscripts (elements_in c.args.s.now c.args.site.now.left) dims (map (option_map part) subs)) _
     (gives_as {A = List Subscript} (Err stop) _ _ same (rw (c.as_slice.ensures, c.as_slice-2.ensures) at c.in_err-subs.ensures.exact)))
 
-pub selection_at_returns_clause_exact : goal.selections::selection_at_returns_clause_exact
-selection_at_returns_clause_exact t c = λ asking.
+pub selection_at-returns-clause-exact : goal.selections::selection_at-returns-clause-exact
+selection_at-returns-clause-exact t c = λ asking.
     let part = part_in c.args.s.now c.args.site.now in
     let subs = c.args.name.now.part.now.subs in
     let dims = c.in_ok-dims.dims in
@@ -107,11 +107,11 @@ selection_at_returns_clause_exact t c = λ asking.
     gives_as {A = List Subscript} (Ok c.in_ok-subs.subs) _ _ same (rw (c.as_slice.ensures, c.as_slice-2.ensures) at c.in_ok-subs.ensures.exact) in
     rw (c.in_ok-dims.ensures.exact asking part, told) refl
 
-pub selections_loop_i_init : goal.selections::selections_loop_i_init
-selections_loop_i_init t c = record { grows = grows_refl c.args.s.now; member = c.requires.first; is = λ asking. rw c.new-made.ensures (behind_nothing _); kept = c.requires.kept }
+pub selections-loop-i-init : goal.selections::selections-loop-i-init
+selections-loop-i-init t c = record { grows = grows_refl c.args.s.now; member = c.requires.first; is = λ asking. rw c.new-made.ensures (behind_nothing _); kept = c.requires.kept }
 
-pub selections_returns_in_err_selection_clause_exact : goal.selections::selections_returns_in_err_selection_clause_exact
-selections_returns_in_err_selection_clause_exact t c = λ asking.
+pub selections-returns-in_err-selection-clause-exact : goal.selections::selections-returns-in_err-selection-clause-exact
+selections-returns-in_err-selection-clause-exact t c = λ asking.
     let s = c.args.s.now in
     let absent = c.in_err-selection.field-0.0 in
     let stop = stop_for asking absent in
@@ -121,8 +121,8 @@ selections_returns_in_err_selection_clause_exact t c = λ asking.
     (selecting_halts s c.loop-i.s c.selection_at.new.s c.loop-i.invariant.grows c.in_err-selection.ensures.grows c.args.site.now c.requires.frame asking c.args.deeper c.args.names.now c.requires.names c.loop-i.i c.index-names-i.result c.loop-i-test.true c.index-names-i.is
     c.loop-i.member c.loop-i.invariant.member c.loop-i.made _ (c.loop-i.invariant.is asking) selection_seen stop (c.in_err-selection.ensures.exact asking)))
 
-pub selections_returns_in_err_member_clause_exact : goal.selections::selections_returns_in_err_member_clause_exact
-selections_returns_in_err_member_clause_exact t c = λ asking.
+pub selections-returns-in_err-member-clause-exact : goal.selections::selections-returns-in_err-member-clause-exact
+selections-returns-in_err-member-clause-exact t c = λ asking.
     let s = c.args.s.now in
     let stop = c.in_err-member.field-0.0 in
     let view = option_map_of_prelude (member_of (frames_of c.member_behind.new.s)) in
@@ -133,14 +133,14 @@ selections_returns_in_err_member_clause_exact t c = λ asking.
     (going_halts s c.loop-i.s c.selection_at.new.s c.loop-i.invariant.grows c.in_ok-selection.ensures.grows c.args.site.now c.requires.frame asking c.args.deeper c.args.names.now c.requires.names c.loop-i.i c.index-names-i.result c.loop-i-test.true c.index-names-i.is
     c.loop-i.member c.loop-i.invariant.member c.loop-i.made _ (c.loop-i.invariant.is asking) (selection_seen c.in_ok-selection.selection) (c.in_ok-selection.ensures.exact asking) view stop told))
 
-pub selections_returns_in_err_member_clause_kept : goal.selections::selections_returns_in_err_member_clause_kept
-selections_returns_in_err_member_clause_kept t c = kept_still _ _ c.member_behind.ensures.grows _ c.selection_at.ensures.kept
+pub selections-returns-in_err-member-clause-kept : goal.selections::selections-returns-in_err-member-clause-kept
+selections-returns-in_err-member-clause-kept t c = kept_still _ _ c.member_behind.ensures.grows _ c.selection_at.ensures.kept
 
-pub selections_returns_in_err_push_clause_kept : goal.selections::selections_returns_in_err_push_clause_kept
-selections_returns_in_err_push_clause_kept t c = kept_still _ _ c.member_behind.ensures.grows _ c.selection_at.ensures.kept
+pub selections-returns-in_err-push-clause-kept : goal.selections::selections-returns-in_err-push-clause-kept
+selections-returns-in_err-push-clause-kept t c = kept_still _ _ c.member_behind.ensures.grows _ c.selection_at.ensures.kept
 
-pub selections_loop_i_preserved : goal.selections::selections_loop_i_preserved
-selections_loop_i_preserved t c =
+pub selections-loop-i-preserved : goal.selections::selections-loop-i-preserved
+selections-loop-i-preserved t c =
     let s = c.args.s.now in
     let mid = c.selection_at.new.s in
     let end = c.member_behind.new.s in
@@ -158,12 +158,12 @@ selections_loop_i_preserved t c =
       kept = kept_still _ _ c.member_behind.ensures.grows _ c.selection_at.ensures.kept;
     }
 
-pub selections_returns_clause_exact : goal.selections::selections_returns_clause_exact
-selections_returns_clause_exact t c = λ asking.
+pub selections-returns-clause-exact : goal.selections::selections-returns-clause-exact
+selections-returns-clause-exact t c = λ asking.
     all_selected c.args.s.now c.args.site.now asking c.args.deeper _ c.args.names.now c.loop-i.i c.loop-i.made _ (omega arith) (c.loop-i.invariant.is asking)
 
-pub selections_selection_at_requires : goal.selections::selections_selection_at_requires
-selections_selection_at_requires t c =
+pub selections-selection_at-requires : goal.selections::selections-selection_at-requires
+selections-selection_at-requires t c =
     let s = c.args.s.now in
     let now = c.loop-i.s in
     let name = c.index-names-i.result in
