@@ -1,8 +1,8 @@
 //! Where what is told of named files stands: the place of each broken rule is a byte of one of them, and so are the places in the flat
+//! model. Only that no class has the asked path is told on the command line.
 //!
 //! Begin with `src/stated.rt` (the laws); the definition to read first is `specs/Laws.antt`. What this crate may not know ends its
 //! paragraph in docs/ARCHITECTURE.md.
-//! model. Only that no class has the asked path is told on the command line.
 //!
 //! A tree of a file has places of tokens alone (`proofs/laws/Trees.antt`, by induction over all productions of the grammar), tokens begin at
 //! bytes of their text, and what names, values, instances and equations answer stands in the trees (mo_places).

@@ -1,8 +1,8 @@
 //! Connections: which faces of connectors are joined, and the equations of each connection set (Modelica Language
+//! Specification 3.5, section 9.2).
 //!
 //! Begin with `src/joined.rt`; the definition to read first is `specs/Sets.antt`. What this crate may not know ends its paragraph in
 //! docs/ARCHITECTURE.md.
-//! Specification 3.5, section 9.2).
 //!
 //! - `check`: the first rule that connects break.
 //! - `sets`: the connection sets.

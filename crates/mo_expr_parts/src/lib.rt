@@ -1,8 +1,8 @@
 //! What the readers of expressions make of their parts, and what they choose by: trees, names, literals, and the tokens that
+//! something begins with. Nothing here holds an expression that is yet to be read.
 //!
 //! Begin with `src/trees.rt`; the definition to read first is `crates/mo_grammar/specs/Language.antt`. What this crate may not know ends
 //! its paragraph in docs/ARCHITECTURE.md.
-//! something begins with. Nothing here holds an expression that is yet to be read.
 //!
 //! - [`trees`]: the trees of what was read.
 //! - [`marks`]: the kinds of tokens among which a reader chooses.

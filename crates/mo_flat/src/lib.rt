@@ -1,8 +1,8 @@
 //! The flat model: the types that the meaning of a class ends in and that the structure of a model begins with, and its
+//! printed text.
 //!
 //! Begin with `src/model.rt` (the types) and `src/model_text.rt`; the definition to read first is `specs/Text.antt`. What this crate may
 //! not know ends its paragraph in docs/ARCHITECTURE.md.
-//! printed text.
 //!
 //! - [`FlatModel`]: variables ([`FlatVar`]), equations ([`FlatEquation`]) and asserts ([`FlatAssert`]), with scalar expressions
 //!   ([`FlatExpr`]). [`flat_text`] prints it; [`flat_expr_text`] and [`write_equation_line`] print parts of it.

@@ -1,9 +1,9 @@
 //! The program from words and files to bytes: it reads the files, finds the class in their trees, and writes its flat
+//! text, its reduced model, the report on its structure, the states that stateSelect prefers or its aliases, or the line that names the first broken
+//! rule. Of a printed report behind the files it writes whether it holds. In place of files it makes a ladder, and writes a line with its counts.
 //!
 //! Begin with `src/program.rt`; the definition to read first is `specs/Told.antt`. What this crate may not know ends its paragraph in
 //! docs/ARCHITECTURE.md.
-//! text, its reduced model, the report on its structure, the states that stateSelect prefers or its aliases, or the line that names the first broken
-//! rule. Of a printed report behind the files it writes whether it holds. In place of files it makes a ladder, and writes a line with its counts.
 //!
 //! - `run`: the program over any shelf and sink.
 //! - `files_give_one`, `files_tell_one` and `words_tell_one` are the laws that files give one thing only, and that one text is told of it and of

@@ -1,8 +1,8 @@
 //! Directed graphs: the blocks of vertices that need each other through chains, in an order in which what a block needs stands
+//! before it.
 //!
 //! Begin with `src/order.rt`; the definition to read first is `specs/Order.antt`. What this crate may not know ends its paragraph in
 //! docs/ARCHITECTURE.md.
-//! before it.
 //!
 //! - [`Edges`] are the edges of a graph whose vertices are places, from 0.
 //! - [`in_order`] lists its blocks, each by its vertices' numbers, from 1.

@@ -1,8 +1,8 @@
 //! Pieces of source text: what an expression, an equation, a class is in pieces, which are tokens and layout, and what pieces are as
+//! text, with a blank between tokens that would be read as one.
 //!
 //! Begin with `src/piece.rt` and `src/text.rt`; the definition to read first is `specs/Text.antt`. What this crate may not know ends its
 //! paragraph in docs/ARCHITECTURE.md.
-//! text, with a blank between tokens that would be read as one.
 //!
 //! The definitions stand in `specs/`: `Shown..` says what each tree is in pieces, `Text` what pieces are as text.
 //!

@@ -1,8 +1,8 @@
 //! The readers of modifications, equations and statements: one for each production, and one for each part that stands in a
+//! list.
 //!
 //! Begin with `src/modifications.rt` and `src/equations.rt`; the definition to read first is `crates/mo_grammar/specs/Language.antt`.
 //! What this crate may not know ends its paragraph in docs/ARCHITECTURE.md.
-//! list.
 //!
 //! A reader takes what is left of the nesting limit and the tokens that are left. It gives what its production reads of them
 //! with the tokens behind it, or stops where reading is stuck. Want of memory is the only other answer.

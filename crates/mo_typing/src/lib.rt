@@ -1,8 +1,8 @@
 //! Kinds, dimensions and subscripts of array expressions (Modelica Language Specification 3.5, sections 3.4 to 3.7, 4.8 and
+//! chapter 10).
 //!
 //! Begin with `src/kinds.rt`, `src/dims.rt` and `src/checks.rt`; the definition to read first is `specs/Kinds.antt`. What this crate may
 //! not know ends its paragraph in docs/ARCHITECTURE.md.
-//! chapter 10).
 //!
 //! - [`kind_of`]: the kind of each element of an array expression, or the first rule that its kinds break.
 //! - [`dims_of`]: its dimensions, or the first rule that they break.

@@ -1,8 +1,8 @@
 //! Resolved expressions, whose names are variables: what is asked of them, what is made of them, and their values (Modelica Language
+//! Specification 3.5, sections 3.3 to 3.8, 4.4, 10.3 to 10.6).
 //!
 //! Begin with `src/layers.rt` and `src/walk.rt`; the definitions to read first are `specs/Asked.antt` and `specs/Walk.antt`. What this
 //! crate may not know ends its paragraph in docs/ARCHITECTURE.md.
-//! Specification 3.5, sections 3.3 to 3.8, 4.4, 10.3 to 10.6).
 //!
 //! - [`Context`]: what an expression is resolved for. [`making`]: the nodes that are made of resolved parts.
 //! - [`layers`]: what is asked of the kind, the dimensions and the subscripts of an expression; [`operands`]: of those of `div`, `mod`
