@@ -1,7 +1,7 @@
 -- The ends of connects, by what they name and select.
 use Rattle.std.specs.Prelude.{IfOk}
 use Rattle.std.proofs.Common.{◌≡◌, ℕ, ℤ, List, [], ◌∷◌, map, Option, Some, None, Result, Ok, Err, refl, ap, sym, ◌∙◌}
-use Rattle.mo_syntax.specs.Outcome.{Outcome, and_then}
+use Rattle.mo_syntax.specs.Outcome.{IfBroken, Outcome, and_then}
 use Rattle.mo_syntax.specs.declared.expr.Expr.{Expr}
 use Rattle.mo_syntax.specs.declared.expr.ReferenceOf.{ReferenceOf}
 use Rattle.mo_syntax.specs.declared.meaning.Kind.{Kind}
@@ -76,7 +76,7 @@ subscripts_within place dims subs =
     para-roll-ArrayExpr Checked Checked subscripts_node subscripts_part (record { place = place; node = Vars [] Real dims subs }) ∙ in_vars [] Real dims subs
 
 -- an answer by what it says of a value and of a broken rule
-pub gives_checked : (result : Result (Unit {0}) Stop) (o : Checked) → IfOk result (λ _. o ≡ Ok tt) → told.IfBroken result (λ broken. o ≡ Err broken) → told.Gives result o
+pub gives_checked : (result : Result (Unit {0}) Stop) (o : Checked) → IfOk result (λ _. o ≡ Ok tt) → IfBroken result (λ broken. o ≡ Err broken) → told.Gives result o
 gives_checked (Ok it) o ok refused = ok
 gives_checked (Err (broken_by broken)) o ok refused = refused
 gives_checked (Err no_memory) o ok refused = tt

@@ -1,6 +1,6 @@
 -- What instances give, by their variables, the frames of their classes, and what comes of the sections of these.
 use Rattle.std.proofs.Common.{◌≡◌, ℕ, List, [], ◌∷◌, ◌++◌, flat_map, map, Result, Ok, Err, refl, ap, sym, ◌∙◌, append_assoc}
-use Rattle.mo_syntax.specs.Outcome.{Outcome, and_then}
+use Rattle.mo_syntax.specs.Outcome.{IfBroken, Outcome, and_then}
 use Rattle.mo_syntax.specs.declared.place.Broken.{Broken}
 use Rattle.mo_syntax.specs.declared.place.Stop.{Stop}
 use Rattle.mo_syntax.specs.declared.place.Stop.TheVariants.{Broken as broken_by, NoMemory as no_memory}
@@ -39,14 +39,14 @@ module _ (table : Table) where
   abbrev sections_with : List (List Frame) → Outcome (List (List Placed))
   sections_with lists = Ok (map (flat_map (sections_at table)) lists)
 
-  one_more : (first : Outcome (List Frame)) (more : Outcome (List (List Placed))) (others : Outcome (List (List Frame))) → more ≡ told.and_then others sections_with →
-      told.and_then {A = List Placed} {B = List (List Placed)} (and_then first (λ frames. Ok (flat_map (sections_at table) frames))) (λ value. told.and_then more (λ values. Ok (value ∷ values)))
-      ≡ told.and_then {A = List (List Frame)} {B = List (List Placed)} (told.and_then {A = List Frame} {B = List (List Frame)} first (λ value. told.and_then others (λ values. Ok (value ∷ values)))) sections_with
+  one_more : (first : Outcome (List Frame)) (more : Outcome (List (List Placed))) (others : Outcome (List (List Frame))) → more ≡ and_then others sections_with →
+      and_then {A = List Placed} {B = List (List Placed)} (and_then first (λ frames. Ok (flat_map (sections_at table) frames))) (λ value. and_then more (λ values. Ok (value ∷ values)))
+      ≡ and_then {A = List (List Frame)} {B = List (List Placed)} (and_then {A = List Frame} {B = List (List Frame)} first (λ value. and_then others (λ values. Ok (value ∷ values)))) sections_with
   one_more (Err broken) more others is = refl
   one_more (Ok frames) more (Err broken) is = rw is refl
   one_more (Ok frames) more (Ok lists) is = rw is refl
 
-  pub each_section : (instances : List Instance) → each (sections_of_instance table) instances ≡ told.and_then (each frames_at instances) sections_with
+  pub each_section : (instances : List Instance) → each (sections_of_instance table) instances ≡ and_then (each frames_at instances) sections_with
   each_section [] = refl
   each_section (instance ∷ others) = one_more (frames_at instance) (each (sections_of_instance table) others) (each frames_at others) (each_section others)
 
@@ -56,7 +56,7 @@ module _ (table : Table) where
       ap (λ (ps : List Placed). flat_map (sections_at table) list ++ ps) (flat_lists lists) ∙ sym (flat_mapped (sections_at table) list (flat_map (λ l. l) lists))
 
   joined : (o : Outcome (List (List Frame))) →
-      and_then {A = List (List Placed)} {B = List Placed} (told.and_then {A = List (List Frame)} {B = List (List Placed)} o sections_with) (λ sections. Ok (flat_map (λ placed. placed) sections))
+      and_then {A = List (List Placed)} {B = List Placed} (and_then {A = List (List Frame)} {B = List (List Placed)} o sections_with) (λ sections. Ok (flat_map (λ placed. placed) sections))
       ≡ and_then {A = List Frame} {B = List Placed} (and_then {A = List (List Frame)} {B = List Frame} o (λ lists. Ok (flat_map (λ list. list) lists))) (λ frames. Ok (flat_map (sections_at table) frames))
   joined (Ok lists) = ap (λ (ps : List Placed). Ok ps) (flat_lists lists)
   joined (Err broken) = refl
@@ -80,7 +80,7 @@ parts_by_frames tree frames turns h =
     ap (λ (o : Outcome (List Placed)). and_then {A = List Placed} {B = List Parts × ℕ} o (λ sections. parts_from tree sections turns))
     (sections_by_frames tree ∙ ap (λ (o : Outcome (List Frame)). and_then {A = List Frame} {B = List Placed} o (sections_of_frames tree.classes)) h)
 
-pub parts_halt : (tree : Tree) (desk : Desk) (turns : ℕ) (stop : Stop) → told.IfBroken {T = Unit {0}} (Err stop) (λ broken. frames_of_instances tree.classes tree.instances ≡ Err broken) →
+pub parts_halt : (tree : Tree) (desk : Desk) (turns : ℕ) (stop : Stop) → IfBroken {T = Unit {0}} (Err stop) (λ broken. frames_of_instances tree.classes tree.instances ≡ Err broken) →
     GivesParts (Err stop) desk (parts_of_tree tree turns)
 parts_halt tree desk turns (broken_by broken) h =
     ap (λ (o : Outcome (List Placed)). and_then {A = List Placed} {B = List Parts × ℕ} o (λ sections. parts_from tree sections turns))

@@ -1,7 +1,7 @@
 -- The equations of a section, form by form and one after another.
 use Rattle.std.proofs.Common.{◌≡◌, ℕ, ℤ, ◌+◌, ◌<◌, ◌≤◌, Bool, true, false, cond, List, [], ◌∷◌, ◌++◌, map, take, drop, length, get_or, Option, Some, None, Result, Ok, Err, nat_lt, ltb-true, ltb-false, refl, ap, sym, subst, ◌∙◌, append_assoc, arith}
 use Rattle.std.proofs.lemmas.List.{append-nil, drop_all, drop_more, take_all, take_more}
-use Rattle.mo_syntax.specs.Outcome.{Outcome, and_then, breaks}
+use Rattle.mo_syntax.specs.Outcome.{IfBroken, Outcome, and_then, breach, breaks}
 use Rattle.mo_syntax.specs.declared.equation.EquationKind.{EquationKind}
 use Rattle.mo_syntax.specs.declared.equation.EquationOf.{EquationOf}
 use Rattle.mo_syntax.specs.declared.expr.Args.{Args}
@@ -194,7 +194,7 @@ inner_site frames site at name n f i = rw (f, i) refl
 
 -- one turn too many
 pub turn_stops : (T : Type 0) (asked : Place) (turn : Turning Made) (turns : ℕ) (desk : Desk) (from : Place) (stop : Stop) → from ≡ asked →
-    told.IfBroken {T = T} (Err stop) (λ broken. (most_turns ≤ turns) × (broken ≡ told.breach 41 from)) → GivesMade (Err stop) desk (one_turn asked turn turns)
+    IfBroken {T = T} (Err stop) (λ broken. (most_turns ≤ turns) × (broken ≡ breach 41 from)) → GivesMade (Err stop) desk (one_turn asked turn turns)
 turn_stops T asked turn turns desk from (broken_by broken) same h = turn_refused asked turn turns h.0 ∙ rw (h.1, same) refl
 turn_stops T asked turn turns desk from no_memory same h = tt
 

@@ -1,7 +1,7 @@
 -- The sections of the classes of instances, one after another.
 use Rattle.std.proofs.Common.{◌≡◌, ℕ, ◌+◌, ◌<◌, ◌≤◌, Bool, true, false, List, [], ◌∷◌, ◌++◌, length, map, flat_map, reverse, take, drop, get_or, Option, Some, None, Result, Ok, Err, refl, ap, sym, subst, ◌∙◌, append_assoc, arith}
 use Rattle.std.specs.Prelude.{option_map, slice_get}
-use Rattle.mo_syntax.specs.Outcome.{Outcome, and_then, breaks}
+use Rattle.mo_syntax.specs.Outcome.{IfBroken, Outcome, and_then, breaks}
 use Rattle.mo_syntax.specs.declared.class.ClassDefOf.{ClassDefOf}
 use Rattle.std.proofs.lemmas.List.{append-nil, reverse-append}
 use Rattle.mo_syntax.specs.declared.class.Body.{Body, Body-F, out-Body}
@@ -105,7 +105,7 @@ walked_frames u v frame walk more g is bases walked e =
     ∙ (sym (seen_both (frames_of v) (last_frames walk.sections) (frame ∷ [])) ∙ ap (frames_seen (frames_of v)) (sym e))))
 
 pub walk_halts : {T : Type 0} (view : T → Walked) (table : Table) (frame : Frame) (stop : Stop) → seen.Gives view (Err stop) (walk_of table frame) →
-    told.IfBroken {T = Unit {0}} (Err stop) (λ broken. frames_with_sections table frame ≡ Err broken)
+    IfBroken {T = Unit {0}} (Err stop) (λ broken. frames_with_sections table frame ≡ Err broken)
 walk_halts view table frame (broken_by broken) h = rw h refl
 walk_halts view table frame no_memory h = tt
 
@@ -147,8 +147,8 @@ module _ (table : Table) (xs ys : List Instance) (x : Instance) where
       ap (λ (o : Outcome (List (List Frame))). and_then o (λ lists. Ok (flat lists))) all
       ∙ ap Ok (flat_both f.lists (more ∷ []) ∙ (ap (λ (fs : List Frame). flat f.lists ++ fs) (append-nil more) ∙ ap (λ (fs : List Frame). fs ++ more) f.flat_is))
 
-  pub frames_stop : (before : List Frame) (stop : Stop) → frames_of_instances table xs ≡ Ok before → told.IfBroken {T = Unit {0}} (Err stop) (λ broken. one x ≡ Err broken) →
-      told.IfBroken {T = List FrameId} (Err stop) (λ broken. frames_of_instances table (xs ++ x ∷ ys) ≡ Err broken)
+  pub frames_stop : (before : List Frame) (stop : Stop) → frames_of_instances table xs ≡ Ok before → IfBroken {T = Unit {0}} (Err stop) (λ broken. one x ≡ Err broken) →
+      IfBroken {T = List FrameId} (Err stop) (λ broken. frames_of_instances table (xs ++ x ∷ ys) ≡ Err broken)
   frames_stop before (broken_by broken) h k =
       let f = firsts before h in
       let all : each one (xs ++ x ∷ ys) ≡ Err broken = each_append one xs (x ∷ ys) ∙ rw (f.are, k) refl in

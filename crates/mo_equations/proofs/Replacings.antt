@@ -1,7 +1,7 @@
 -- What stands for the elements that an expression names, step by step.
 use Rattle.std.proofs.Common.{◌≡◌, ℕ, zero, suc, ◌+◌, ◌-◌, ◌<◌, ◌≤◌, Bool, true, false, List, [], ◌∷◌, length, map, take, get_or, Option, Some, None, Result, Ok, Err, refl, ap, sym, ◌∙◌, subst, arith}
 use Rattle.std.specs.Prelude.{slice_get, option_map}
-use Rattle.mo_syntax.specs.Outcome.{Outcome, and_then, breaks}
+use Rattle.mo_syntax.specs.Outcome.{IfBroken, Outcome, and_then, breaks}
 use Rattle.mo_syntax.specs.declared.expr.Expr.{Expr}
 use Rattle.mo_syntax.specs.declared.meaning.Kind.{Kind}
 use Rattle.mo_syntax.specs.declared.place.Broken.{Broken}
@@ -52,11 +52,11 @@ use Rattle.mo_equations.proofs.Staying.{same_replacing, stays_grown}
 pub answers_as : {T A : Type 0} (Is : T → A → Type 0) (result : Result T Stop) (o o' : Outcome A) → o ≡ o' → Answers Is result o → Answers Is result o'
 answers_as Is result o o' e h = subst (λ x. Answers Is result x) e h
 
-pub refused_answers : {T A : Type 0} (U : Type 0) (Is : T → A → Type 0) (o : Outcome A) (stop : Stop) → told.IfBroken {T = U} (Err stop) (λ broken. o ≡ Err broken) → Answers {T = T} Is (Err stop) o
+pub refused_answers : {T A : Type 0} (U : Type 0) (Is : T → A → Type 0) (o : Outcome A) (stop : Stop) → IfBroken {T = U} (Err stop) (λ broken. o ≡ Err broken) → Answers {T = T} Is (Err stop) o
 refused_answers U Is o (broken_by broken) h = h
 refused_answers U Is o no_memory h = tt
 
-pub answers_refused : {T A : Type 0} (U : Type 0) (Is : T → A → Type 0) (o : Outcome A) (stop : Stop) → Answers {T = T} Is (Err stop) o → told.IfBroken {T = U} (Err stop) (λ broken. o ≡ Err broken)
+pub answers_refused : {T A : Type 0} (U : Type 0) (Is : T → A → Type 0) (o : Outcome A) (stop : Stop) → Answers {T = T} Is (Err stop) o → IfBroken {T = U} (Err stop) (λ broken. o ≡ Err broken)
 answers_refused U Is o (broken_by broken) h = h
 answers_refused U Is o no_memory h = tt
 
@@ -208,6 +208,6 @@ chosen_now u v desk left kind fit chosen is g =
 
 -- the first variable that stops
 pub breaks_on : (variable : ℕ → Outcome FlatExpr) (e : FlatExpr) (i n : ℕ) (stop : Stop) → Every (IsThere variable) (take i (variables_in e)) → i < length (variables_in e) →
-    n ≡ get_or (variables_in e) i n → Answers {T = Flat} IsFlat (Err stop) (variable n) → told.IfBroken {T = Unit {0}} (Err stop) (λ broken. with_variables variable e ≡ Err broken)
+    n ≡ get_or (variables_in e) i n → Answers {T = Flat} IsFlat (Err stop) (variable n) → IfBroken {T = Unit {0}} (Err stop) (λ broken. with_variables variable e ≡ Err broken)
 breaks_on variable e i n (broken_by broken) before small at h = breaks_first variable e i n broken before small at h
 breaks_on variable e i n no_memory before small at h = tt

@@ -2,7 +2,7 @@
 use Rattle.std.proofs.Common.{◌≡◌, ℕ, zero, suc, ◌+◌, ◌<◌, ◌≤◌, List, [], ◌∷◌, ◌++◌, map, flat_map, Result, Ok, Err, refl, ap, sym, subst, ◌∙◌, append_assoc, add-one, ◌⊎◌, inl, inr, arith}
 use Rattle.std.proofs.lemmas.Bool.{cases_lt}
 use Rattle.std.proofs.lemmas.List.{append-nil}
-use Rattle.mo_syntax.specs.Outcome.{Outcome, and_then}
+use Rattle.mo_syntax.specs.Outcome.{IfBroken, Outcome, and_then}
 use Rattle.mo_syntax.specs.declared.place.Broken.{Broken}
 use Rattle.mo_syntax.specs.declared.place.Stop.{Stop}
 use Rattle.mo_syntax.specs.declared.place.Stop.TheVariants.{Broken as broken_by, NoMemory as no_memory}
@@ -162,7 +162,7 @@ module _ (tree : Tree) (place : Place) (o : Outcome Sides) where
     sides_are : and_then o (equalities_of tree place) ≡ equalities_of tree place ((l, r), V)
     sides_are = ap (λ (x : Outcome Sides). and_then x (equalities_of tree place)) is
 
-    pub sides_unchecked : (stop : Stop) → told.IfBroken {T = Dims} (Err stop) (λ broken. checked_sides l r place ≡ Err broken) → GivesEquations (Err stop) (and_then o (equalities_of tree place))
+    pub sides_unchecked : (stop : Stop) → IfBroken {T = Dims} (Err stop) (λ broken. checked_sides l r place ≡ Err broken) → GivesEquations (Err stop) (and_then o (equalities_of tree place))
     sides_unchecked (broken_by broken) h =
         ap (λ (x : Outcome (List FlatEquation)). and_then x (λ equations. Ok (made_equations equations)))
         (sides_are ∙ ap (λ (d : Outcome Dims). and_then (and_then d (λ dims. Ok (map (equation l r place) (indices dims)))) (each (replaced_sides tree V))) h)

@@ -65,7 +65,7 @@ bare_reference table scope f reference = go reference.parts
         then_alike (taken table met.near part.place met.found) _ _ (λ first. bare_parts table f first parts))
 
 -- a broken rule stays
-pub seen_halts : {T A B : Type 0} (view : T → A) (stop : Stop) (told : Outcome A) (f : A → Outcome B) → GivesSeen {T = T} view (Err stop) told → typed.Gives {T = B} (Err stop) (typed.and_then told f)
+pub seen_halts : {T A B : Type 0} (view : T → A) (stop : Stop) (told : Outcome A) (f : A → Outcome B) → GivesSeen {T = T} view (Err stop) told → typed.Gives {T = B} (Err stop) (and_then told f)
 seen_halts view (broken_by broken) told f h = rw h refl
 seen_halts view no_memory told f h = tt
 
@@ -96,20 +96,20 @@ last_is (part ∷ []) = refl
 last_is (part ∷ next ∷ parts) = last_is (next ∷ parts)
 
 -- what makes no variable, and breaks a rule
-pub from_halts : {A B : Type 0} (world : World) (stop : Stop) (virtuals : List VirtualAt) (told : typed.Outcome A) (before : List Virtual) (f : A × List Virtual → typed.Outcome (B × List Virtual)) →
-    typed.Gives {T = A} (Err stop) told → IsMade {A = B} world (Err stop) virtuals (typed.and_then (typed.and_then told (λ a. Ok (a, before))) f)
+pub from_halts : {A B : Type 0} (world : World) (stop : Stop) (virtuals : List VirtualAt) (told : Outcome A) (before : List Virtual) (f : A × List Virtual → Outcome (B × List Virtual)) →
+    typed.Gives {T = A} (Err stop) told → IsMade {A = B} world (Err stop) virtuals (and_then (and_then told (λ a. Ok (a, before))) f)
 from_halts world (broken_by broken) virtuals told before f h = record { is = rw h refl }
 from_halts world no_memory virtuals told before f h = record { is = tt }
 
 -- ---- lists
 
 -- one more, behind those before
-pub each_more : {X Y : Type 0} (g : X → typed.Outcome Y) (made : List Y) (x : X) (xs : List X) (y : Y) → g x ≡ Ok y →
-    typed.and_then (typed.each g (x ∷ xs)) (λ more. Ok (made ++ more)) ≡ typed.and_then (typed.each g xs) (λ more. Ok ((made ++ y ∷ []) ++ more))
+pub each_more : {X Y : Type 0} (g : X → Outcome Y) (made : List Y) (x : X) (xs : List X) (y : Y) → g x ≡ Ok y →
+    and_then (typed.each g (x ∷ xs)) (λ more. Ok (made ++ more)) ≡ and_then (typed.each g xs) (λ more. Ok ((made ++ y ∷ []) ++ more))
 each_more {Y = Y} g made x xs y h = rw h (go (typed.each g xs))
   where
-    go : (o : typed.Outcome (List Y)) →
-        typed.and_then (typed.and_then {B = List Y} o (λ ys. Ok (y ∷ ys))) (λ more. Ok (made ++ more)) ≡ typed.and_then o (λ more. Ok ((made ++ y ∷ []) ++ more))
+    go : (o : Outcome (List Y)) →
+        and_then (and_then {B = List Y} o (λ ys. Ok (y ∷ ys))) (λ more. Ok (made ++ more)) ≡ and_then o (λ more. Ok ((made ++ y ∷ []) ++ more))
     go (Ok ys) = ap Ok (sym (append_assoc made (y ∷ []) ys))
     go (Err broken) = refl
 
@@ -135,8 +135,8 @@ empty_by true (x ∷ xs) h = absurd (let k : (x ∷ xs) ≡ [] = h.0 refl in cc)
 empty_by false (x ∷ xs) h = refl
 
 -- one thing after the other
-pub then_then : {A B C : Type 0} (o : typed.Outcome A) (f : A → typed.Outcome B) (g : B → typed.Outcome C) →
-    typed.and_then (typed.and_then o f) g ≡ typed.and_then o (λ a. typed.and_then (f a) g)
+pub then_then : {A B C : Type 0} (o : Outcome A) (f : A → Outcome B) (g : B → Outcome C) →
+    and_then (and_then o f) g ≡ and_then o (λ a. and_then (f a) g)
 then_then (Ok a) f g = refl
 then_then (Err broken) f g = refl
 
