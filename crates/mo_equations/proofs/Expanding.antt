@@ -11,7 +11,6 @@ use Rattle.mo_scope.specs.Frames.{Frame}
 use Rattle.mo_scope.specs.Instances.{Instance}
 use Rattle.mo_scope.specs.Trees.{instances_in}
 use Rattle.mo_scope.specs.Worlds.{World, table_in}
-use Rattle.mo_typing.specs.Outcome as told
 use Rattle.mo_typing.specs.Outcome.{each}
 use Rattle.mo_equations.specs.declared.desk.Desk.{Desk}
 use Rattle.mo_equations.specs.declared.leaves.Leaves.{Leaves}

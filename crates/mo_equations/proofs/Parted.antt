@@ -25,7 +25,6 @@ use Rattle.mo_scope.specs.Worlds.{World, Grows, IsFrame, frame_at, frame_in, fra
 use Rattle.mo_names.specs.Sights.{IsBase, frames_through, walk_seen}
 use Rattle.mo_names.specs.declared.walk.Walk.{Walk as WalkAt}
 use Rattle.mo_names.proofs.Later.{frame_later, is_frame_later, table_later}
-use Rattle.mo_typing.specs.Outcome as told
 use Rattle.mo_syntax.specs.declared.rules.TheConstants.{OUTSIDE_PROFILE}
 use Rattle.mo_typing.specs.Outcome.{each}
 use Rattle.mo_equations.specs.declared.desk.Desk.{Desk}

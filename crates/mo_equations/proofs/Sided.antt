@@ -14,7 +14,6 @@ use Rattle.mo_scope.specs.Outcome as seen
 use Rattle.mo_scope.specs.Worlds.{World, frames_of}
 use Rattle.mo_typing.specs.Dims.{Dims}
 use Rattle.mo_typing.specs.Indices.{Index, indices, numbers_to}
-use Rattle.mo_typing.specs.Outcome as told
 use Rattle.mo_typing.specs.Outcome.{each}
 use Rattle.mo_arrays.specs.Equations.{checked_sides, equation}
 use Rattle.mo_eval.specs.declared.virtuals.Virtual.{Virtual as VirtualAt}
