@@ -8,7 +8,7 @@ use crate::rows::ROWS;
 use crate::showing::shown;
 use mo_equations::{Expansion, expand};
 use mo_instance::instantiate;
-use mo_samples::{Row, is_told, tree};
+use mo_samples::{Row, is_refused, is_shown, tree};
 use mo_scope::Scopes;
 use mo_syntax::{ClassId, ClassTree, Stop, Text};
 use std::alloc::Global;
@@ -48,8 +48,8 @@ fn answer(alloc: Global, files: &ClassTree) -> Result<String, Stop>
 fn told(rt: &impl Abort, alloc: Global, row: &Row) {
     let files = tree(alloc, &[row.text]).expect(rt, "it is read");
     let told = match answer(alloc, &files) {
-        Ok(text) => is_told(row, Ok(text.as_str())),
-        Err(stop) => is_told(row, Err(stop)),
+        Ok(text) => is_shown(row, text.as_str()),
+        Err(stop) => is_refused(row, &stop),
     };
     assert!(rt; told, "{}", row.text);
 }

@@ -4,7 +4,7 @@ ghost use Rattle.mo_syntax.specs.SoundTree.{IsSoundTree};
 use crate::rows::ROWS;
 use mo_flat::flat_text;
 use mo_flatten::flatten;
-use mo_samples::{Row, is_told, tree};
+use mo_samples::{Row, is_refused, is_shown, tree};
 use mo_syntax::{ClassTree, List, NoMemory, Path, Stop, Text, class_count};
 use std::alloc::Global;
 use std::process::Abort;
@@ -29,8 +29,8 @@ fn answer(alloc: Global, files: &ClassTree) -> Result<Text, Stop>
 fn told(rt: &impl Abort, alloc: Global, row: &Row) {
     let files = tree(alloc, &[row.text]).expect(rt, "it is read");
     let told = match answer(alloc, &files) {
-        Ok(text) => is_told(row, Ok(text.as_str())),
-        Err(stop) => is_told(row, Err(stop)),
+        Ok(text) => is_shown(row, text.as_str()),
+        Err(stop) => is_refused(row, &stop),
     };
     assert!(rt; told, "{}", row.text);
 }

@@ -1,7 +1,7 @@
 //! Class trees from texts, for the tests of what stands on class trees.
 //!
 //! - `tree`: the files whose texts are given, read; the tree is sound.
-//! - `Row`: a text with what is to come of its class; `is_told`: whether it came.
+//! - `Row`: a text with what is to come of its class; `is_shown` and `is_refused`: whether it came.
 #![tactic(auto)]
 
 mod row;
@@ -12,7 +12,7 @@ ghost use Rattle.mo_syntax.specs.SoundTree.{IsSoundTree, any_name, is_sound_file
 use mo_lexer::tokens;
 use mo_parse_class::stored_definition;
 use mo_syntax::{ClassTree, FileTree, List, Stop};
-pub use row::{Row, is_told};
+pub use row::{Row, is_refused, is_shown};
 use std::alloc::Global;
 
 /// The longest text that is read, in bytes.

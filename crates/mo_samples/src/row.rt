@@ -20,11 +20,15 @@ fn is_at(broken: &Broken, row: &Row) -> bool {
     }
 }
 
-/// Whether this answer is the one of the row. Want of memory is that of none.
-pub fn is_told(row: &Row, answer: Result<&str, Stop>) -> bool {
-    match answer {
-        Ok(text) => row.rule == 0 && text == row.shown,
-        Err(Stop::Broken(broken)) => is_at(&broken, row),
-        Err(Stop::NoMemory) => false,
+/// Whether the row's class is to be shown so.
+pub fn is_shown(row: &Row, text: &str) -> bool {
+    row.rule == 0 && text == row.shown
+}
+
+/// Whether the row's rule is the one that is broken, at the row's place. Want of memory is no row's answer.
+pub fn is_refused(row: &Row, stop: &Stop) -> bool {
+    match stop {
+        Stop::Broken(broken) => is_at(broken, row),
+        Stop::NoMemory => false,
     }
 }
