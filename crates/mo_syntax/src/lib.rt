@@ -1,8 +1,8 @@
 //! The syntax of a Modelica file as plain data: texts and lists, places and broken rules, tokens, and the trees of
+//! expressions, equations, statements, classes and files.
 //!
 //! Begin with `src/class.rt` (the trees) and `src/finding.rt` (the class table); the definition to read first is `specs/ClassTable.antt`.
 //! What this crate may not know ends its paragraph in docs/ARCHITECTURE.md.
-//! expressions, equations, statements, classes and files.
 //!
 //! Contracts see a `Text` as its bytes, a `List` as the list of its elements and a `Boxed` value as that value, so two
 //! trees that are equal part by part are equal in a contract.
