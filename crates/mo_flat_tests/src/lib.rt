@@ -1,7 +1,14 @@
-//! Tests of the texts of flat models: expressions, each form of line, and a circuit.
+//! Tests of flat models: texts, arrays and connections, derivatives, and aliases.
 //!
-//! They stand apart from `mo_flat`, so that this is proved without them.
+//! They stand apart from the crates that they test, so that these are proved without them, and together, so that what they stand on is
+//! loaded once.
 #![tactic(auto)]
 
 #[cfg(test)]
-mod texts;
+mod alias;
+#[cfg(test)]
+mod array;
+#[cfg(test)]
+mod flat;
+#[cfg(test)]
+mod symdiff;

@@ -1,20 +1,10 @@
-//! Tests of the structural analyses over their public calls: the incidences of models and those given by rows, with what the analyses
-//! find, what the checks say of it and what reports print.
+//! Tests of the structure of models, and of verdicts on printed reports.
 //!
-//! They stand apart from the analyses, so that these are proved without them.
+//! They stand apart from the crates that they test, so that these are proved without them, and together, so that what they stand on is
+//! loaded once.
 #![tactic(auto)]
 
 #[cfg(test)]
-mod assignments;
+mod structure;
 #[cfg(test)]
-mod blocks;
-#[cfg(test)]
-mod checks;
-#[cfg(test)]
-mod incidences;
-#[cfg(test)]
-mod offsets;
-#[cfg(test)]
-mod reports;
-#[cfg(test)]
-mod selections;
+mod verify;

@@ -1,0 +1,3 @@
+//! The texts of flat models: expressions, each form of line, and a circuit.
+
+mod texts;

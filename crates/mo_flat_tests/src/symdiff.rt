@@ -1,0 +1,5 @@
+//! Derivatives and reduced models.
+
+mod derivative_rows;
+mod postfix;
+mod reduced_rows;
