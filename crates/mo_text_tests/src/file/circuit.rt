@@ -1,6 +1,8 @@
 //! A library and a circuit of its parts, as they are ordinarily written.
 use crate::file::files::shown;
-use mo_syntax::Stop;
+use mo_syntax::{NoMemory, Stop};
+use std::alloc::Global;
+use std::process::Abort;
 
 pub const LIBRARY: &str = "within ;
 package Lib \"small circuits\"
@@ -71,18 +73,23 @@ const CIRCUIT_TREE: [&str; 3] = [
     " equation{connect s/p/ r/p/;connect r/n/ s/n/;connect g/p/ s/n/;};};",
 ];
 
+fn joined(alloc: Global, lines: &[&str]) -> Result<String, NoMemory> {
+    let mut text = String::new(alloc);
+    for line in lines {
+        text.push_str(line)?;
+    }
+    Ok(text)
+}
+
+fn has_tree(rt: &impl Abort, alloc: Global, text: &str, lines: &[&str]) -> Result<(), Stop> {
+    let wanted = joined(alloc, lines)?;
+    let found = shown(alloc, text)?;
+    assert_eq!(rt; found.as_slice(), wanted.as_bytes());
+    Ok(())
+}
+
 #[test]
 fn circuit(rt: HostRuntime) -> Result<(), Stop> {
-    let alloc = rt.alloc();
-    let mut library = String::new(alloc);
-    for line in LIBRARY_TREE {
-        library.push_str(line)?;
-    }
-    assert_eq!(rt; shown(alloc, LIBRARY)?.as_slice(), library.as_bytes());
-    let mut circuit = String::new(alloc);
-    for line in CIRCUIT_TREE {
-        circuit.push_str(line)?;
-    }
-    assert_eq!(rt; shown(alloc, CIRCUIT)?.as_slice(), circuit.as_bytes());
-    Ok(())
+    has_tree(&rt, rt.alloc(), LIBRARY, &LIBRARY_TREE)?;
+    has_tree(&rt, rt.alloc(), CIRCUIT, &CIRCUIT_TREE)
 }

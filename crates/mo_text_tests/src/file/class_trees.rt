@@ -1,10 +1,10 @@
 use mo_syntax::{
-    Body, Broken, ClassDef, ClassFlags, ClassKind, ClassTree, FileTree, List, NoMemory, Path,
-    Place, Rule, Stop, Text, class_count, rules,
+    Body, ClassDef, ClassFlags, ClassKind, ClassTree, FileTree, List, NoMemory, Path, Place, Stop,
+    Text, both, class_count, pair, rules, single,
 };
 use mo_tree::{asked, build};
 use std::alloc::Global;
-use std::test::Fail;
+use std::process::Abort;
 
 // A class without parts, whose name stands at the byte of the file.
 fn class(
@@ -34,39 +34,52 @@ fn class(
 }
 
 fn path(alloc: Global, name: &str) -> Result<Path, NoMemory> {
-    let mut names = List::new(alloc);
-    names.push(Text::from_str(alloc, name)?)?;
-    Ok(Path(names))
+    let name = Text::from_str(alloc, name)?;
+    Ok(Path(single(alloc, name)?))
 }
 
-// The model N under `within P`, in the first file, before a package or model of that name in the second.
-fn tree(alloc: Global, kind: ClassKind, name: &str) -> Result<ClassTree, Stop> {
-    let mut inner = List::new(alloc);
-    inner.push(class(alloc, ClassKind::Model, "N", 1, 16)?)?;
-    let mut outer = List::new(alloc);
-    outer.push(class(alloc, kind, name, 2, 8)?)?;
-    let mut files = List::new(alloc);
-    files.push(FileTree {
+// The model N under `within P`, in the first file.
+fn first(alloc: Global) -> Result<FileTree, NoMemory> {
+    let class = class(alloc, ClassKind::Model, "N", 1, 16)?;
+    let (classes, path) = both(single(alloc, class), path(alloc, "P"))?;
+    Ok(FileTree {
         file: 1,
-        within: Some((path(alloc, "P")?, Place { file: 1, byte: 7 })),
-        classes: inner,
-    })?;
-    files.push(FileTree {
+        within: Some((path, Place { file: 1, byte: 7 })),
+        classes,
+    })
+}
+
+// A package or model of that name in the second.
+fn second(alloc: Global, kind: ClassKind, name: &str) -> Result<FileTree, NoMemory> {
+    let class = class(alloc, kind, name, 2, 8)?;
+    Ok(FileTree {
         file: 2,
         within: None,
-        classes: outer,
-    })?;
+        classes: single(alloc, class)?,
+    })
+}
+
+fn files(alloc: Global, kind: ClassKind, name: &str) -> Result<List<FileTree>, NoMemory> {
+    let (first, second) = both(first(alloc), second(alloc, kind, name))?;
+    pair(alloc, first, second)
+}
+
+// The class tree of both.
+fn tree(alloc: Global, kind: ClassKind, name: &str) -> Result<ClassTree, Stop> {
+    let files = files(alloc, kind, name)?;
     if class_count(files.as_slice()) >= 4_294_967_290 {
         return Err(Stop::NoMemory);
     }
     build(alloc, files)
 }
 
-fn broken(rule: Rule, file: u32, byte: u32) -> Option<Stop> {
-    Some(Stop::Broken(Broken {
-        rule,
-        place: Place { file, byte },
-    }))
+// The rule, the file and the byte of the refusal of the class tree; zeros where there is none.
+fn refusal(alloc: Global, name: &str) -> (u8, u32, u32) {
+    match tree(alloc, ClassKind::Model, name) {
+        Ok(_) => (0, 0, 0),
+        Err(Stop::Broken(broken)) => (broken.rule.number(), broken.place.file, broken.place.byte),
+        Err(Stop::NoMemory) => (255, 0, 0),
+    }
 }
 
 // The number of the class with that name, 0 where it is refused.
@@ -82,24 +95,19 @@ fn number(alloc: Global, tree: &ClassTree, name: &str) -> Result<u32, NoMemory> 
 }
 
 #[test]
-fn a_within_names_a_long_class_of_any_file(rt: HostRuntime) -> Result<(), Fail> {
-    let alloc = rt.alloc();
-    let found = tree(alloc, ClassKind::Model, "P");
-    assert_eq!(rt; found.is_ok(), true);
-    let missing = tree(alloc, ClassKind::Model, "Q");
-    assert_eq!(rt;
-        missing.err(),
-        broken(Rule::new(rules::WITHIN_NAMES_NO_CLASS), 1, 7)
-    );
+fn a_within_names_a_long_class_of_any_file(rt: HostRuntime) {
+    assert!(&rt; refusal(rt.alloc(), "P") == (0, 0, 0));
+    assert!(&rt; refusal(rt.alloc(), "Q") == (rules::WITHIN_NAMES_NO_CLASS, 1, 7));
+}
+
+fn has_numbers(rt: &impl Abort, alloc: Global, tree: &ClassTree) -> Result<(), NoMemory> {
+    assert!(rt; number(alloc, tree, "P")? == 7);
+    assert!(rt; number(alloc, tree, "N")? == 0);
     Ok(())
 }
 
 #[test]
-fn the_asked_class_has_its_number(rt: HostRuntime) -> Result<(), Fail> {
-    let alloc = rt.alloc();
-    if let Ok(tree) = tree(alloc, ClassKind::Model, "P") {
-        assert_eq!(rt; number(alloc, &tree, "P")?, 7);
-        assert_eq!(rt; number(alloc, &tree, "N")?, 0);
-    }
-    Ok(())
+fn the_asked_class_has_its_number(rt: HostRuntime) -> Result<(), Stop> {
+    let tree = tree(rt.alloc(), ClassKind::Model, "P")?;
+    Ok(has_numbers(&rt, rt.alloc(), &tree)?)
 }

@@ -2,8 +2,9 @@
 use mo_lexer::tokens;
 use mo_parse_class::stored_definition;
 use mo_show::{parts_of, put, put_refusal, refusal};
-use mo_syntax::{FileTree, NoMemory, Stop};
+use mo_syntax::{FileTree, NoMemory, Stop, both};
 use std::alloc::Global;
+use std::process::Abort;
 
 pub fn file(alloc: Global, text: &str) -> Result<FileTree, Stop> {
     if text.len() > 1000000 {
@@ -13,12 +14,16 @@ pub fn file(alloc: Global, text: &str) -> Result<FileTree, Stop> {
     stored_definition(alloc, list.as_slice())
 }
 
+fn tree_text(alloc: Global, tree: &FileTree) -> Result<Vec<u8>, NoMemory> {
+    let mut out = Vec::new(alloc);
+    mo_show::classes::file(&mut out, tree)?;
+    Ok(out)
+}
+
 /// The tree of a text as text.
 pub fn shown(alloc: Global, text: &str) -> Result<Vec<u8>, Stop> {
     let tree = file(alloc, text)?;
-    let mut out = Vec::new(alloc);
-    mo_show::classes::file(&mut out, &tree)?;
-    Ok(out)
+    Ok(tree_text(alloc, &tree)?)
 }
 
 /// The rule and the byte of the refusal; (0, 0) for a text that is read.
@@ -32,27 +37,41 @@ fn refusal_text(alloc: Global, text: &str) -> Result<Vec<u8>, NoMemory> {
     Ok(out)
 }
 
+fn put_neighbour(alloc: Global, out: &mut Vec<u8>, neighbour: &str) -> Result<(), NoMemory> {
+    put(out, "|")?;
+    put_refusal(out, refusal_of(alloc, neighbour))
+}
+
 /// The tree of a text, and how its neighbour is refused.
 fn row_of(alloc: Global, text: &str, neighbour: &str) -> Result<Vec<u8>, Stop> {
     let mut out = shown(alloc, text)?;
-    put(&mut out, "|")?;
-    put_refusal(&mut out, refusal_of(alloc, neighbour))?;
+    put_neighbour(alloc, &mut out, neighbour)?;
     Ok(out)
+}
+
+fn is_told(rt: &impl Abort, alloc: Global, row: &str) -> Result<(), Stop> {
+    let (text, neighbour, wanted) = parts_of(row);
+    let found = row_of(alloc, text, neighbour)?;
+    assert_eq!(rt; found.as_slice(), wanted.as_bytes(), "in {row}");
+    Ok(())
 }
 
 /// A model in which the text stands.
 fn in_model(alloc: Global, text: &str) -> Result<String, NoMemory> {
-    let mut all = String::from_str(alloc, "model M ")?;
-    all.push_str(text)?;
-    all.push_str(" end M;")?;
-    Ok(all)
+    Ok(format!(in alloc; "model M {text} end M;")?)
 }
 
 /// The same of what stands in a model.
 fn row_in_model(alloc: Global, text: &str, neighbour: &str) -> Result<Vec<u8>, Stop> {
-    let text = in_model(alloc, text)?;
-    let neighbour = in_model(alloc, neighbour)?;
+    let (text, neighbour) = both(in_model(alloc, text), in_model(alloc, neighbour))?;
     row_of(alloc, text.as_str(), neighbour.as_str())
+}
+
+fn is_told_in_model(rt: &impl Abort, alloc: Global, row: &str) -> Result<(), Stop> {
+    let (text, neighbour, wanted) = parts_of(row);
+    let found = row_in_model(alloc, text, neighbour)?;
+    assert_eq!(rt; found.as_slice(), wanted.as_bytes(), "in {row}");
+    Ok(())
 }
 
 /// A text, a neighbour that is refused, the tree of the text, and the rule and the byte of the refusal.
@@ -82,9 +101,7 @@ model M model N end N; end M;|model M model N end M; end M;|model M{ model N{};}
 #[test]
 fn files(rt: HostRuntime) -> Result<(), Stop> {
     for row in FILES.split('\n') {
-        let (text, neighbour, wanted) = parts_of(row);
-        let found = row_of(rt.alloc(), text, neighbour)?;
-        assert_eq!(rt; found.as_slice(), wanted.as_bytes(), "in {row}");
+        is_told(&rt, rt.alloc(), row)?;
     }
     Ok(())
 }
@@ -114,9 +131,7 @@ protected extends A; import B; model N end N; public extends C;|protected extend
 #[test]
 fn elements(rt: HostRuntime) -> Result<(), Stop> {
     for row in ELEMENTS.split('\n') {
-        let (text, neighbour, wanted) = parts_of(row);
-        let found = row_in_model(rt.alloc(), text, neighbour)?;
-        assert_eq!(rt; found.as_slice(), wanted.as_bytes(), "in {row}");
+        is_told_in_model(&rt, rt.alloc(), row)?;
     }
     Ok(())
 }
@@ -134,9 +149,7 @@ model N equation x = 1; end N; equation y = 2;|model N equation x = 1;|model M{ 
 #[test]
 fn sections(rt: HostRuntime) -> Result<(), Stop> {
     for row in SECTIONS.split('\n') {
-        let (text, neighbour, wanted) = parts_of(row);
-        let found = row_in_model(rt.alloc(), text, neighbour)?;
-        assert_eq!(rt; found.as_slice(), wanted.as_bytes(), "in {row}");
+        is_told_in_model(&rt, rt.alloc(), row)?;
     }
     Ok(())
 }
@@ -154,9 +167,7 @@ equation x = 1; external; annotation(a);|external; annotation(a); annotation(b);
 #[test]
 fn externals(rt: HostRuntime) -> Result<(), Stop> {
     for row in EXTERNALS.split('\n') {
-        let (text, neighbour, wanted) = parts_of(row);
-        let found = row_in_model(rt.alloc(), text, neighbour)?;
-        assert_eq!(rt; found.as_slice(), wanted.as_bytes(), "in {row}");
+        is_told_in_model(&rt, rt.alloc(), row)?;
     }
     Ok(())
 }
@@ -172,53 +183,63 @@ model M end M;;||6 14
 model M end M; x||6 15
 model||6 5";
 
+fn is_refused(rt: &impl Abort, alloc: Global, row: &str) -> Result<(), NoMemory> {
+    let (text, _, wanted) = parts_of(row);
+    let found = refusal_text(alloc, text)?;
+    assert_eq!(rt; found.as_slice(), wanted.as_bytes(), "in {row}");
+    Ok(())
+}
+
 #[test]
 fn refused(rt: HostRuntime) -> Result<(), NoMemory> {
     for row in REFUSED.split('\n') {
-        let (text, _, wanted) = parts_of(row);
-        let found = refusal_text(rt.alloc(), text)?;
-        assert_eq!(rt; found.as_slice(), wanted.as_bytes(), "in {row}");
+        is_refused(&rt, rt.alloc(), row)?;
     }
     Ok(())
 }
 
-/// So many copies of the text.
-fn copies(alloc: Global, text: &str, count: u32) -> Result<String, NoMemory> {
-    let mut all = String::new(alloc);
+/// Puts so many copies of the text at the end.
+fn push_copies(all: &mut String, text: &str, count: u32) -> Result<(), NoMemory> {
     for _ in 0..count {
         all.push_str(text)?;
     }
-    Ok(all)
+    Ok(())
 }
 
-/// A model with so many parentheses around a number.
-fn in_parentheses(alloc: Global, count: u32) -> Result<String, NoMemory> {
-    let mut text = String::from_str(alloc, "model M Real x; equation x = ")?;
-    text.push_str(copies(alloc, "(", count)?.as_str())?;
-    text.push_str("1.0")?;
-    text.push_str(copies(alloc, ")", count)?.as_str())?;
-    text.push_str("; end M;")?;
-    Ok(text)
+fn push_parentheses(text: &mut String, count: u32) -> Result<(), NoMemory> {
+    push_copies(text, "model M Real x; equation x = ", 1)?;
+    push_copies(text, "(", count)?;
+    push_copies(text, "1.0", 1)?;
+    push_copies(text, ")", count)?;
+    push_copies(text, "; end M;", 1)
 }
 
-/// So many models inside one another.
-fn nested_models(alloc: Global, count: u32) -> Result<String, NoMemory> {
-    let mut text = copies(alloc, "model a ", count)?;
-    text.push_str(copies(alloc, "end a; ", count)?.as_str())?;
-    Ok(text)
+/// How a model with so many parentheses around a number is refused.
+fn in_parentheses(alloc: Global, count: u32) -> Result<(u8, u32), NoMemory> {
+    let mut text = String::new(alloc);
+    push_parentheses(&mut text, count)?;
+    Ok(refusal_of(alloc, text.as_str()))
+}
+
+fn push_models(text: &mut String, count: u32) -> Result<(), NoMemory> {
+    push_copies(text, "model a ", count)?;
+    push_copies(text, "end a; ", count)
+}
+
+/// How so many models inside one another are refused.
+fn nested_models(alloc: Global, count: u32) -> Result<(u8, u32), NoMemory> {
+    let mut text = String::new(alloc);
+    push_models(&mut text, count)?;
+    Ok(refusal_of(alloc, text.as_str()))
 }
 
 #[test]
 fn nesting(rt: HostRuntime) -> Result<(), NoMemory> {
     let alloc = rt.alloc();
     // one construct is the class itself
-    let text = in_parentheses(alloc, 128)?;
-    assert_eq!(rt; refusal_of(alloc, text.as_str()), (8, 156));
-    let text = in_parentheses(alloc, 127)?;
-    assert_eq!(rt; refusal_of(alloc, text.as_str()), (0, 0));
-    let text = nested_models(alloc, 33)?;
-    assert_eq!(rt; refusal_of(alloc, text.as_str()), (8, 256));
-    let text = nested_models(alloc, 32)?;
-    assert_eq!(rt; refusal_of(alloc, text.as_str()), (0, 0));
+    assert!(&rt; in_parentheses(alloc, 128)? == (8, 156));
+    assert!(&rt; in_parentheses(alloc, 127)? == (0, 0));
+    assert!(&rt; nested_models(alloc, 33)? == (8, 256));
+    assert!(&rt; nested_models(alloc, 32)? == (0, 0));
     Ok(())
 }

@@ -1,5 +1,7 @@
 use mo_pieces::{Piece, Pieces, text_of};
-use std::test::Fail;
+use mo_syntax::{NoMemory, Text};
+use std::alloc::Global;
+use std::process::Abort;
 
 const ROWS: [(&[Piece<'static>], &str); 13] = [
     (&[Piece::Word("not"), Piece::Name("x1")], "not x1"),
@@ -60,14 +62,34 @@ const ROWS: [(&[Piece<'static>], &str); 13] = [
     ),
 ];
 
+fn put_all(pieces: &mut Pieces<'static>, row: &[Piece<'static>]) -> Result<(), NoMemory> {
+    for piece in row {
+        pieces.put(*piece)?;
+    }
+    Ok(())
+}
+
+fn shown(alloc: Global, row: &[Piece<'static>]) -> Result<Text, NoMemory> {
+    let mut pieces = Pieces::new(alloc);
+    put_all(&mut pieces, row)?;
+    text_of(alloc, &pieces)
+}
+
+fn is_text(
+    rt: &impl Abort,
+    alloc: Global,
+    row: &[Piece<'static>],
+    want: &str,
+) -> Result<(), NoMemory> {
+    let found = shown(alloc, row)?;
+    assert_eq!(rt; found.as_str(), want);
+    Ok(())
+}
+
 #[test]
-fn parts_tokens_and_lines(rt: HostRuntime) -> Result<(), Fail> {
-    for (row, want) in ROWS {
-        let mut pieces = Pieces::new(rt.alloc());
-        for piece in row {
-            pieces.put(*piece)?;
-        }
-        assert_eq!(rt; text_of(rt.alloc(), &pieces)?.as_str(), want);
+fn parts_tokens_and_lines(rt: HostRuntime) -> Result<(), NoMemory> {
+    for (row, want) in &ROWS {
+        is_text(&rt, rt.alloc(), row, want)?;
     }
     Ok(())
 }

@@ -3,31 +3,55 @@ use crate::file::circuit::{CIRCUIT, LIBRARY};
 use crate::file::files::{file, shown};
 use mo_lexer::tokens;
 use mo_parse_expr::expression;
-use mo_syntax::{NoMemory, Stop};
+use mo_syntax::{ClassDef, Expr, FileTree, NoMemory, Stop, both};
 use mo_unparse::{class_text, expr_text};
 use std::alloc::Global;
 use std::process::Abort;
 
+fn put_class(alloc: Global, all: &mut String, class: &ClassDef) -> Result<(), NoMemory> {
+    let text = class_text(alloc, class)?;
+    all.push_str(text.as_str())?;
+    Ok(all.push_str(";\n")?)
+}
+
+fn put_classes(alloc: Global, all: &mut String, tree: &FileTree) -> Result<(), NoMemory> {
+    for class in tree.classes.as_slice() {
+        put_class(alloc, all, class)?;
+    }
+    Ok(())
+}
+
+fn tree_text(alloc: Global, tree: &FileTree) -> Result<String, NoMemory> {
+    let mut all = String::new(alloc);
+    put_classes(alloc, &mut all, tree)?;
+    Ok(all)
+}
+
 /// The classes of a text, printed, each with a semicolon and a line feed behind it.
 fn printed(alloc: Global, text: &str) -> Result<String, Stop> {
     let tree = file(alloc, text)?;
-    let mut all = String::new(alloc);
-    for class in tree.classes.as_slice() {
-        all.push_str(class_text(alloc, class)?.as_str())?;
-        all.push_str(";\n")?;
-    }
-    Ok(all)
+    Ok(tree_text(alloc, &tree)?)
+}
+
+/// The two texts have equal trees.
+fn are_equal(rt: &impl Abort, alloc: Global, first: &str, second: &str) -> Result<(), Stop> {
+    let (first, second) = both(shown(alloc, first), shown(alloc, second))?;
+    assert_eq!(rt; second.as_slice(), first.as_slice());
+    Ok(())
+}
+
+/// The text is printed so.
+fn is_printed(rt: &impl Abort, alloc: Global, text: &str, wanted: &str) -> Result<(), Stop> {
+    let found = printed(alloc, text)?;
+    assert_eq!(rt; found.as_str(), wanted);
+    Ok(())
 }
 
 /// The text is printed, read again to an equal tree, and printed again to the same text.
 fn reads_again(rt: &impl Abort, alloc: Global, text: &str) -> Result<(), Stop> {
     let again = printed(alloc, text)?;
-    let before = shown(alloc, text)?;
-    let after = shown(alloc, again.as_str())?;
-    assert_eq!(rt; after.as_slice(), before.as_slice());
-    let last = printed(alloc, again.as_str())?;
-    assert_eq!(rt; last.as_str(), again.as_str());
-    Ok(())
+    are_equal(rt, alloc, text, again.as_str())?;
+    is_printed(rt, alloc, again.as_str(), again.as_str())
 }
 
 const CIRCUIT_TEXT: &str = "model Circuit
@@ -45,7 +69,7 @@ end Circuit;
 #[test]
 fn circuit_again(rt: HostRuntime) -> Result<(), Stop> {
     let alloc = rt.alloc();
-    assert_eq!(rt; printed(alloc, CIRCUIT)?.as_str(), CIRCUIT_TEXT);
+    is_printed(&rt, alloc, CIRCUIT, CIRCUIT_TEXT)?;
     reads_again(&rt, alloc, LIBRARY)?;
     reads_again(&rt, alloc, CIRCUIT)
 }
@@ -143,13 +167,20 @@ fn statements_again(rt: HostRuntime) -> Result<(), Stop> {
     reads_again(&rt, rt.alloc(), STATEMENTS)
 }
 
-/// An expression printed.
-fn printed_expression(alloc: Global, text: &str) -> Result<String, Stop> {
+fn tree_of(alloc: Global, text: &str) -> Result<Expr, Stop> {
     if text.len() > 1000000 {
         return Err(Stop::NoMemory);
     }
     let list = tokens(alloc, 1, text)?;
-    let (tree, _end) = expression(alloc, list.as_slice(), 0, 0)?;
+    match expression(alloc, list.as_slice(), 0, 0) {
+        Ok((tree, _end)) => Ok(tree),
+        Err(stop) => Err(stop),
+    }
+}
+
+/// An expression printed.
+fn printed_expression(alloc: Global, text: &str) -> Result<String, Stop> {
+    let tree = tree_of(alloc, text)?;
     let text = expr_text(alloc, &tree)?;
     Ok(String::from_str(alloc, text.as_str())?)
 }
@@ -202,15 +233,18 @@ x[end]|x[end]
 \"a\\\"b\"|\"a\\\"b\"
 true and false|true and false";
 
+fn prints(rt: &impl Abort, alloc: Global, text: &str, wanted: &str) -> Result<(), Stop> {
+    let once = printed_expression(alloc, text)?;
+    assert_eq!(rt; once.as_str(), wanted, "{text}");
+    Ok(())
+}
+
 #[test]
 fn expressions_again(rt: HostRuntime) -> Result<(), Stop> {
-    let alloc = rt.alloc();
     for row in EXPRESSIONS.split('\n') {
         let (text, wanted) = row.split_once('|').unwrap_or((row, ""));
-        let once = printed_expression(alloc, text)?;
-        assert_eq!(rt; once.as_str(), wanted, "{row}");
-        let again = printed_expression(alloc, wanted)?;
-        assert_eq!(rt; again.as_str(), wanted, "{row}");
+        prints(&rt, rt.alloc(), text, wanted)?;
+        prints(&rt, rt.alloc(), wanted, wanted)?;
     }
     Ok(())
 }

@@ -1,9 +1,9 @@
 //! Tokens of texts.
 use mo_lexer::tokens;
-use mo_syntax::{Stop, Token, TokenKind};
+use mo_syntax::{Broken, NoMemory, Stop, Token, TokenKind};
 use mo_tables::{KEYWORDS, OPERATORS};
-use std::alloc::{AllocError, Global};
-use std::test::Fail;
+use std::alloc::Global;
+use std::process::Abort;
 
 // A word for the kind of a token.
 fn kind_word(kind: TokenKind) -> &'static str {
@@ -18,34 +18,59 @@ fn kind_word(kind: TokenKind) -> &'static str {
     }
 }
 
-fn push_tokens(alloc: Global, out: &mut String, all: &[Token]) -> Result<(), AllocError> {
+fn put(out: &mut String, text: &str) -> Result<(), NoMemory> {
+    Ok(out.push_str(text)?)
+}
+
+fn put_number(alloc: Global, out: &mut String, number: u32) -> Result<(), NoMemory> {
+    let text = number.to_string(alloc)?;
+    put(out, text.as_str())
+}
+
+fn put_token(alloc: Global, out: &mut String, token: &Token) -> Result<(), NoMemory> {
+    put(out, kind_word(token.kind))?;
+    put(out, token.text)?;
+    put(out, "@")?;
+    put_number(alloc, out, token.place.byte)?;
+    put(out, " ")
+}
+
+fn put_tokens(alloc: Global, out: &mut String, all: &[Token]) -> Result<(), NoMemory> {
     for token in all {
-        out.push_str(kind_word(token.kind))?;
-        out.push_str(token.text)?;
-        out.push_str("@")?;
-        out.push_str(token.place.byte.to_string(alloc)?.as_str())?;
-        out.push_str(" ")?;
+        put_token(alloc, out, token)?;
     }
     Ok(())
 }
 
-// The tokens of a short text, or the rule that it breaks.
-fn told(alloc: Global, text: &str) -> Result<String, AllocError> {
+fn put_broken(alloc: Global, out: &mut String, broken: &Broken) -> Result<(), NoMemory> {
+    put(out, "rule ")?;
+    put_number(alloc, out, u32::from(broken.rule.number()))?;
+    put(out, " at ")?;
+    put_number(alloc, out, broken.place.byte)
+}
+
+fn put_told(alloc: Global, out: &mut String, text: &str) -> Result<(), NoMemory> {
     if text.len() > 1000 {
-        return String::from_str(alloc, "too long");
+        return put(out, "too long");
     }
-    let mut out = String::new(alloc);
     match tokens(alloc, 7, text) {
-        Ok(all) => push_tokens(alloc, &mut out, all.as_slice())?,
-        Err(Stop::Broken(broken)) => {
-            out.push_str("rule ")?;
-            out.push_str(broken.rule.number().to_string(alloc)?.as_str())?;
-            out.push_str(" at ")?;
-            out.push_str(broken.place.byte.to_string(alloc)?.as_str())?;
-        }
-        Err(Stop::NoMemory) => out.push_str("no memory")?,
+        Ok(all) => put_tokens(alloc, out, all.as_slice()),
+        Err(Stop::Broken(broken)) => put_broken(alloc, out, &broken),
+        Err(Stop::NoMemory) => put(out, "no memory"),
     }
+}
+
+// The tokens of a short text, or the rule that it breaks.
+fn told(alloc: Global, text: &str) -> Result<String, NoMemory> {
+    let mut out = String::new(alloc);
+    put_told(alloc, &mut out, text)?;
     Ok(out)
+}
+
+fn is_told(rt: &impl Abort, alloc: Global, text: &str, wanted: &str) -> Result<(), NoMemory> {
+    let got = told(alloc, text)?;
+    assert_eq!(rt; got.as_str(), wanted, "{text}");
+    Ok(())
 }
 
 // A text and its tokens, each with its place.
@@ -91,10 +116,9 @@ const READ: [(&str, &str); 29] = [
 ];
 
 #[test]
-fn reads_the_longest_spellings(rt: HostRuntime) -> Result<(), Fail> {
-    for (text, wanted) in READ {
-        let got = told(rt.alloc(), text)?;
-        assert_eq!(rt; got.as_str(), wanted, "{text}");
+fn reads_the_longest_spellings(rt: HostRuntime) -> Result<(), NoMemory> {
+    for (text, wanted) in &READ {
+        is_told(&rt, rt.alloc(), text, wanted)?;
     }
     Ok(())
 }
@@ -122,52 +146,68 @@ const REFUSED: [(&str, &str); 18] = [
 ];
 
 #[test]
-fn refuses_at_the_first_bad_byte(rt: HostRuntime) -> Result<(), Fail> {
-    for (text, wanted) in REFUSED {
-        let got = told(rt.alloc(), text)?;
-        assert_eq!(rt; got.as_str(), wanted, "{text}");
+fn refuses_at_the_first_bad_byte(rt: HostRuntime) -> Result<(), NoMemory> {
+    for (text, wanted) in &REFUSED {
+        is_told(&rt, rt.alloc(), text, wanted)?;
     }
     Ok(())
 }
 
-#[test]
-fn limits_identifiers_to_256_bytes(rt: HostRuntime) -> Result<(), Fail> {
-    let mut text = String::new(rt.alloc());
-    for _ in 0..256 {
-        text.push_str("x")?;
+// That often the letter x.
+fn letters(alloc: Global, count: usize) -> Result<String, NoMemory> {
+    let mut text = String::new(alloc);
+    for _ in 0..count {
+        put(&mut text, "x")?;
     }
-    let mut wanted = String::from_str(rt.alloc(), "name ")?;
-    wanted.push_str(text.as_str())?;
-    wanted.push_str("@0 end@256 ")?;
-    assert_eq!(rt; told(rt.alloc(), text.as_str())?.as_str(), wanted.as_str());
-    text.push_str("x")?;
-    assert_eq!(rt; told(rt.alloc(), text.as_str())?.as_str(), "rule 5 at 0");
-    Ok(())
+    Ok(text)
+}
+
+fn is_one_name(rt: &impl Abort, alloc: Global, name: &str) -> Result<(), NoMemory> {
+    let wanted = format!(in alloc; "name {name}@0 end@256 ")?;
+    is_told(rt, alloc, name, wanted.as_str())
 }
 
 #[test]
-fn reads_each_word_of_the_tables(rt: HostRuntime) -> Result<(), Fail> {
-    for row in KEYWORDS {
-        assert!(rt; row.name.len() < 20);
-        let all = tokens(rt.alloc(), 1, row.name)?;
-        assert_eq!(rt;
-            all.get(0).map(|t| t.kind),
-            Some(TokenKind::Keyword(row.code)),
+fn reads_identifiers_of_256_bytes(rt: HostRuntime) -> Result<(), NoMemory> {
+    let name = letters(rt.alloc(), 256)?;
+    is_one_name(&rt, rt.alloc(), name.as_str())
+}
+
+#[test]
+fn limits_identifiers_to_256_bytes(rt: HostRuntime) -> Result<(), NoMemory> {
+    let name = letters(rt.alloc(), 257)?;
+    is_told(&rt, rt.alloc(), name.as_str(), "rule 5 at 0")
+}
+
+// Whether a word is one token of that kind, and the end.
+fn is_one_token(alloc: Global, word: &str, kind: TokenKind) -> bool {
+    if word.len() >= 20 {
+        return false;
+    }
+    match tokens(alloc, 1, word) {
+        Ok(all) => all.len() == 2 && all.get(0).map(|t| t.kind) == Some(kind),
+        Err(_) => false,
+    }
+}
+
+#[test]
+fn reads_each_keyword(rt: HostRuntime) {
+    for row in &KEYWORDS {
+        assert!(&rt;
+            is_one_token(rt.alloc(), row.name, TokenKind::Keyword(row.code)),
             "{}",
             row.name
         );
-        assert_eq!(rt; all.len(), 2);
     }
-    for row in OPERATORS {
-        assert!(rt; row.name.len() < 20);
-        let all = tokens(rt.alloc(), 1, row.name)?;
-        assert_eq!(rt;
-            all.get(0).map(|t| t.kind),
-            Some(TokenKind::Operator(row.code)),
+}
+
+#[test]
+fn reads_each_operator(rt: HostRuntime) {
+    for row in &OPERATORS {
+        assert!(&rt;
+            is_one_token(rt.alloc(), row.name, TokenKind::Operator(row.code)),
             "{}",
             row.name
         );
-        assert_eq!(rt; all.len(), 2);
     }
-    Ok(())
 }

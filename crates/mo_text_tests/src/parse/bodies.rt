@@ -1,9 +1,10 @@
 //! Modifiers, equations and statements.
-use crate::parse::words::{number, tokens, written};
+use crate::parse::words::{is_wanted, number, tokens};
 use mo_parse_body::{class_mod, equation_item, statement};
 use mo_show::{DEPTH, parts_of, put_between, put_refusal, refusal};
-use mo_syntax::{NoMemory, Stop};
+use mo_syntax::{Equation, Mods, NoMemory, Statement, Stop};
 use std::alloc::Global;
+use std::process::Abort;
 
 /// The words, a neighbour, the tree of the words, the number of the word behind it, and the rule that the neighbour breaks with
 /// the number of the word where it does.
@@ -27,11 +28,17 @@ const MODIFIERS: &str = "\
 ( redeclare type E = enumeration ( one \"s\" , two ) annotation ( x = 1 ) )|( redeclare type E = enumeration ( one , : ) )|(E/ redeclare type E = enumeration one/two/,)|19|6 9
 ( redeclare constant Real x , redeclare type E = enumeration ( : ) )|( redeclare Real x if b )|(x/ redeclare constant Real/ x(),E/ redeclare type E = enumeration :,)|15|6 4";
 
+fn put_modifiers(out: &mut Vec<u8>, found: &Mods, behind: usize) -> Result<(), NoMemory> {
+    mo_show::classes::modifiers(out, DEPTH, found)?;
+    put_between(out, behind as u64)
+}
+
 fn modifier_shown(alloc: Global, words: &str, out: &mut Vec<u8>) -> Result<(), Stop> {
     let list = tokens(alloc, words)?;
-    let (found, behind) = class_mod(alloc, list.as_slice(), 0, 0)?;
-    mo_show::classes::modifiers(out, DEPTH, &found)?;
-    Ok(put_between(out, behind as u64)?)
+    match class_mod(alloc, list.as_slice(), 0, 0) {
+        Ok((found, behind)) => Ok(put_modifiers(out, &found, behind)?),
+        Err(stop) => Err(stop),
+    }
 }
 
 fn modifier_refused(alloc: Global, words: &str, nest: u32) -> Result<(u8, u32), NoMemory> {
@@ -39,19 +46,33 @@ fn modifier_refused(alloc: Global, words: &str, nest: u32) -> Result<(u8, u32), 
     Ok(refusal(&class_mod(alloc, list.as_slice(), 0, nest)))
 }
 
+fn put_modifier_row(
+    alloc: Global,
+    words: &str,
+    neighbour: &str,
+    out: &mut Vec<u8>,
+) -> Result<(), Stop> {
+    modifier_shown(alloc, words, out)?;
+    Ok(put_refusal(out, modifier_refused(alloc, neighbour, 0)?)?)
+}
+
 fn modifier_row(alloc: Global, words: &str, neighbour: &str) -> Result<Vec<u8>, Stop> {
     let mut out = Vec::new(alloc);
-    modifier_shown(alloc, words, &mut out)?;
-    put_refusal(&mut out, modifier_refused(alloc, neighbour, 0)?)?;
+    put_modifier_row(alloc, words, neighbour, &mut out)?;
     Ok(out)
+}
+
+fn is_modifier_row(rt: &impl Abort, alloc: Global, row: &str) -> Result<(), Stop> {
+    let (words, neighbour, wanted) = parts_of(row);
+    let found = modifier_row(alloc, words, neighbour)?;
+    assert_eq!(rt; found.as_slice(), wanted.as_bytes(), "in {row}");
+    Ok(())
 }
 
 #[test]
 fn modifiers(rt: HostRuntime) -> Result<(), Stop> {
     for row in MODIFIERS.split('\n') {
-        let (words, neighbour, wanted) = parts_of(row);
-        let found = modifier_row(rt.alloc(), words, neighbour)?;
-        assert_eq!(rt; found.as_slice(), wanted.as_bytes(), "in {row}");
+        is_modifier_row(&rt, rt.alloc(), row)?;
     }
     Ok(())
 }
@@ -76,11 +97,17 @@ for i loop end for ;|for 1 loop end for ;| for i in _ {}|5|6 1
 when c then x = 1 ; elsewhen d then elsewhen e then y = 2 ; end when ;|when c then x = 1 ; else y = 2 ; end when ;|when c/ {x/ = 1;}when d/ {}when e/ {y/ = 2;}|19|6 7
 when c then if d then f ( ) ; end if ; end when ;|when c then end if ;|when c/ {if d/ {f/();}else {};}|15|6 4";
 
+fn put_equation(out: &mut Vec<u8>, found: &Equation, behind: usize) -> Result<(), NoMemory> {
+    mo_show::bodies::equation(out, DEPTH, found)?;
+    put_between(out, behind as u64)
+}
+
 fn equation_shown(alloc: Global, words: &str, out: &mut Vec<u8>) -> Result<(), Stop> {
     let list = tokens(alloc, words)?;
-    let (found, behind) = equation_item(alloc, list.as_slice(), 0, 0)?;
-    mo_show::bodies::equation(out, DEPTH, &found)?;
-    Ok(put_between(out, behind as u64)?)
+    match equation_item(alloc, list.as_slice(), 0, 0) {
+        Ok((found, behind)) => Ok(put_equation(out, &found, behind)?),
+        Err(stop) => Err(stop),
+    }
 }
 
 fn equation_refused(alloc: Global, words: &str, nest: u32) -> Result<(u8, u32), NoMemory> {
@@ -88,19 +115,33 @@ fn equation_refused(alloc: Global, words: &str, nest: u32) -> Result<(u8, u32), 
     Ok(refusal(&equation_item(alloc, list.as_slice(), 0, nest)))
 }
 
+fn put_equation_row(
+    alloc: Global,
+    words: &str,
+    neighbour: &str,
+    out: &mut Vec<u8>,
+) -> Result<(), Stop> {
+    equation_shown(alloc, words, out)?;
+    Ok(put_refusal(out, equation_refused(alloc, neighbour, 0)?)?)
+}
+
 fn equation_row(alloc: Global, words: &str, neighbour: &str) -> Result<Vec<u8>, Stop> {
     let mut out = Vec::new(alloc);
-    equation_shown(alloc, words, &mut out)?;
-    put_refusal(&mut out, equation_refused(alloc, neighbour, 0)?)?;
+    put_equation_row(alloc, words, neighbour, &mut out)?;
     Ok(out)
+}
+
+fn is_equation_row(rt: &impl Abort, alloc: Global, row: &str) -> Result<(), Stop> {
+    let (words, neighbour, wanted) = parts_of(row);
+    let found = equation_row(alloc, words, neighbour)?;
+    assert_eq!(rt; found.as_slice(), wanted.as_bytes(), "in {row}");
+    Ok(())
 }
 
 #[test]
 fn equations(rt: HostRuntime) -> Result<(), Stop> {
     for row in EQUATIONS.split('\n') {
-        let (words, neighbour, wanted) = parts_of(row);
-        let found = equation_row(rt.alloc(), words, neighbour)?;
-        assert_eq!(rt; found.as_slice(), wanted.as_bytes(), "in {row}");
+        is_equation_row(&rt, rt.alloc(), row)?;
     }
     Ok(())
 }
@@ -122,11 +163,17 @@ while c loop x := 1 ; end while ;|while c then x := 1 ; end while ;|while c/ {x/
 when c then x := 1 ; elsewhen d then end when ;|when c then x := 1 ; else y := 2 ; end when ;|when c/ {x/ := 1;}when d/ {}|12|6 7
 while c loop if d then return ; end if ; end while annotation ( x ) ;|while c loop end when ;|while c/ {if d/ {return;}else {};}|17|6 4";
 
+fn put_statement(out: &mut Vec<u8>, found: &Statement, behind: usize) -> Result<(), NoMemory> {
+    mo_show::bodies::statement(out, DEPTH, found)?;
+    put_between(out, behind as u64)
+}
+
 fn statement_shown(alloc: Global, words: &str, out: &mut Vec<u8>) -> Result<(), Stop> {
     let list = tokens(alloc, words)?;
-    let (found, behind) = statement(alloc, list.as_slice(), 0, 0)?;
-    mo_show::bodies::statement(out, DEPTH, &found)?;
-    Ok(put_between(out, behind as u64)?)
+    match statement(alloc, list.as_slice(), 0, 0) {
+        Ok((found, behind)) => Ok(put_statement(out, &found, behind)?),
+        Err(stop) => Err(stop),
+    }
 }
 
 fn statement_refused(alloc: Global, words: &str, nest: u32) -> Result<(u8, u32), NoMemory> {
@@ -134,19 +181,33 @@ fn statement_refused(alloc: Global, words: &str, nest: u32) -> Result<(u8, u32),
     Ok(refusal(&statement(alloc, list.as_slice(), 0, nest)))
 }
 
+fn put_statement_row(
+    alloc: Global,
+    words: &str,
+    neighbour: &str,
+    out: &mut Vec<u8>,
+) -> Result<(), Stop> {
+    statement_shown(alloc, words, out)?;
+    Ok(put_refusal(out, statement_refused(alloc, neighbour, 0)?)?)
+}
+
 fn statement_row(alloc: Global, words: &str, neighbour: &str) -> Result<Vec<u8>, Stop> {
     let mut out = Vec::new(alloc);
-    statement_shown(alloc, words, &mut out)?;
-    put_refusal(&mut out, statement_refused(alloc, neighbour, 0)?)?;
+    put_statement_row(alloc, words, neighbour, &mut out)?;
     Ok(out)
+}
+
+fn is_statement_row(rt: &impl Abort, alloc: Global, row: &str) -> Result<(), Stop> {
+    let (words, neighbour, wanted) = parts_of(row);
+    let found = statement_row(alloc, words, neighbour)?;
+    assert_eq!(rt; found.as_slice(), wanted.as_bytes(), "in {row}");
+    Ok(())
 }
 
 #[test]
 fn statements(rt: HostRuntime) -> Result<(), Stop> {
     for row in STATEMENTS.split('\n') {
-        let (words, neighbour, wanted) = parts_of(row);
-        let found = statement_row(rt.alloc(), words, neighbour)?;
-        assert_eq!(rt; found.as_slice(), wanted.as_bytes(), "in {row}");
+        is_statement_row(&rt, rt.alloc(), row)?;
     }
     Ok(())
 }
@@ -181,10 +242,9 @@ while c loop while d loop end while ; end while ;|127|8 3
 #[test]
 fn equations_as_deep_as_the_limit(rt: HostRuntime) -> Result<(), NoMemory> {
     for row in NESTED_EQUATIONS.split('\n') {
-        let (words, nest, wanted) = parts_of(row);
+        let (words, nest, _) = parts_of(row);
         let refused = equation_refused(rt.alloc(), words, number(nest))?;
-        let found = written(rt.alloc(), refused)?;
-        assert_eq!(rt; found.as_slice(), wanted.as_bytes(), "in {row}");
+        is_wanted(&rt, rt.alloc(), refused, row)?;
     }
     Ok(())
 }
@@ -192,10 +252,9 @@ fn equations_as_deep_as_the_limit(rt: HostRuntime) -> Result<(), NoMemory> {
 #[test]
 fn modifiers_as_deep_as_the_limit(rt: HostRuntime) -> Result<(), NoMemory> {
     for row in NESTED_MODIFIERS.split('\n') {
-        let (words, nest, wanted) = parts_of(row);
+        let (words, nest, _) = parts_of(row);
         let refused = modifier_refused(rt.alloc(), words, number(nest))?;
-        let found = written(rt.alloc(), refused)?;
-        assert_eq!(rt; found.as_slice(), wanted.as_bytes(), "in {row}");
+        is_wanted(&rt, rt.alloc(), refused, row)?;
     }
     Ok(())
 }
@@ -203,10 +262,9 @@ fn modifiers_as_deep_as_the_limit(rt: HostRuntime) -> Result<(), NoMemory> {
 #[test]
 fn statements_as_deep_as_the_limit(rt: HostRuntime) -> Result<(), NoMemory> {
     for row in NESTED_STATEMENTS.split('\n') {
-        let (words, nest, wanted) = parts_of(row);
+        let (words, nest, _) = parts_of(row);
         let refused = statement_refused(rt.alloc(), words, number(nest))?;
-        let found = written(rt.alloc(), refused)?;
-        assert_eq!(rt; found.as_slice(), wanted.as_bytes(), "in {row}");
+        is_wanted(&rt, rt.alloc(), refused, row)?;
     }
     Ok(())
 }

@@ -6,8 +6,10 @@ use std::alloc::Global;
 
 fn count(alloc: Global, words: &str) -> Result<u64, Stop> {
     let list = tokens(alloc, words)?;
-    let (found, _) = expression(alloc, list.as_slice(), 0, 0)?;
-    Ok(nodes(&found))
+    match expression(alloc, list.as_slice(), 0, 0) {
+        Ok((found, _)) => Ok(nodes(&found)),
+        Err(stop) => Err(stop),
+    }
 }
 
 #[test]

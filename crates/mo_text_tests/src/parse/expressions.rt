@@ -1,9 +1,10 @@
 //! Expressions.
-use crate::parse::words::{number, tokens, written};
+use crate::parse::words::{is_wanted, number, tokens};
 use mo_parse_expr::expression;
 use mo_show::{DEPTH, parts_of, put_between, put_refusal, refusal};
-use mo_syntax::{NoMemory, Place, Stop, Token, TokenKind};
+use mo_syntax::{Expr, NoMemory, Place, Stop, Token, TokenKind};
 use std::alloc::Global;
+use std::process::Abort;
 
 /// The words, a neighbour, the tree of the words, the number of the word behind it, and the rule that the neighbour breaks with
 /// the number of the word where it does.
@@ -51,11 +52,17 @@ true|true + true +|true|1|6 4
 false + \"s\"|false + ]|(sum +false +\"s\")|3|6 2
 9223372036854775807|* 1|most|1|6 0";
 
+fn put_found(out: &mut Vec<u8>, found: &Expr, behind: usize) -> Result<(), NoMemory> {
+    mo_show::expressions::expression(out, DEPTH, found)?;
+    put_between(out, behind as u64)
+}
+
 fn shown(alloc: Global, words: &str, out: &mut Vec<u8>) -> Result<(), Stop> {
     let list = tokens(alloc, words)?;
-    let (found, behind) = expression(alloc, list.as_slice(), 0, 0)?;
-    mo_show::expressions::expression(out, DEPTH, &found)?;
-    Ok(put_between(out, behind as u64)?)
+    match expression(alloc, list.as_slice(), 0, 0) {
+        Ok((found, behind)) => Ok(put_found(out, &found, behind)?),
+        Err(stop) => Err(stop),
+    }
 }
 
 fn refused(alloc: Global, words: &str, nest: u32) -> Result<(u8, u32), NoMemory> {
@@ -63,19 +70,28 @@ fn refused(alloc: Global, words: &str, nest: u32) -> Result<(u8, u32), NoMemory>
     Ok(refusal(&expression(alloc, list.as_slice(), 0, nest)))
 }
 
+fn put_row(alloc: Global, words: &str, neighbour: &str, out: &mut Vec<u8>) -> Result<(), Stop> {
+    shown(alloc, words, out)?;
+    Ok(put_refusal(out, refused(alloc, neighbour, 0)?)?)
+}
+
 fn row_of(alloc: Global, words: &str, neighbour: &str) -> Result<Vec<u8>, Stop> {
     let mut out = Vec::new(alloc);
-    shown(alloc, words, &mut out)?;
-    put_refusal(&mut out, refused(alloc, neighbour, 0)?)?;
+    put_row(alloc, words, neighbour, &mut out)?;
     Ok(out)
+}
+
+fn is_row(rt: &impl Abort, alloc: Global, row: &str) -> Result<(), Stop> {
+    let (words, neighbour, wanted) = parts_of(row);
+    let found = row_of(alloc, words, neighbour)?;
+    assert_eq!(rt; found.as_slice(), wanted.as_bytes(), "in {row}");
+    Ok(())
 }
 
 #[test]
 fn reads_each_production(rt: HostRuntime) -> Result<(), Stop> {
     for row in EXPRESSIONS.split('\n') {
-        let (words, neighbour, wanted) = parts_of(row);
-        let found = row_of(rt.alloc(), words, neighbour)?;
-        assert_eq!(rt; found.as_slice(), wanted.as_bytes(), "in {row}");
+        is_row(&rt, rt.alloc(), row)?;
     }
     Ok(())
 }
@@ -134,9 +150,9 @@ const PARENTHESES: [(u32, u32, (usize, u8, u32)); 6] = [
 #[test]
 fn reads_as_deep_as_the_limit(rt: HostRuntime) -> Result<(), NoMemory> {
     let alloc = rt.alloc();
-    for (open, nest, wanted) in PARENTHESES {
-        let found = nested_end(alloc, open, nest)?;
-        assert_eq!(rt; found, wanted, "in {open} and {nest}");
+    for (open, nest, wanted) in &PARENTHESES {
+        let found = nested_end(alloc, *open, *nest)?;
+        assert_eq!(rt; found, *wanted, "in {open} and {nest}");
     }
     Ok(())
 }
@@ -165,9 +181,9 @@ if a then if b then c else d else e|127|8 3
 #[test]
 fn each_bracket_opens_a_construct(rt: HostRuntime) -> Result<(), NoMemory> {
     for row in BRACKETS.split('\n') {
-        let (words, nest, wanted) = parts_of(row);
-        let found = written(rt.alloc(), refused(rt.alloc(), words, number(nest))?)?;
-        assert_eq!(rt; found.as_slice(), wanted.as_bytes(), "in {row}");
+        let (words, nest, _) = parts_of(row);
+        let refused = refused(rt.alloc(), words, number(nest))?;
+        is_wanted(&rt, rt.alloc(), refused, row)?;
     }
     Ok(())
 }

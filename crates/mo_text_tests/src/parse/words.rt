@@ -1,7 +1,8 @@
 //! Tokens of texts whose words stand apart by one blank, and what rows write.
-use mo_show::put_refusal;
+use mo_show::{parts_of, put_refusal};
 use mo_syntax::{NoMemory, Place, Token, TokenKind};
 use std::alloc::Global;
+use std::process::Abort;
 
 /// The tokens, each at the place of its number, and the end of the file.
 pub fn tokens(alloc: Global, text: &str) -> Result<Vec<Token<'_>>, NoMemory> {
@@ -55,9 +56,21 @@ pub fn number(digits: &str) -> u32 {
     found
 }
 
-/// A refusal as a row writes it.
-pub fn written(alloc: Global, refusal: (u8, u32)) -> Result<Vec<u8>, NoMemory> {
+fn written(alloc: Global, refusal: (u8, u32)) -> Result<Vec<u8>, NoMemory> {
     let mut out = Vec::new(alloc);
     put_refusal(&mut out, refusal)?;
     Ok(out)
+}
+
+/// Asks that the refusal is the last part of its row.
+pub fn is_wanted(
+    rt: &impl Abort,
+    alloc: Global,
+    refusal: (u8, u32),
+    row: &str,
+) -> Result<(), NoMemory> {
+    let (_, _, wanted) = parts_of(row);
+    let found = written(alloc, refusal)?;
+    assert_eq!(rt; found.as_slice(), wanted.as_bytes(), "in {row}");
+    Ok(())
 }
