@@ -1,6 +1,8 @@
 //! Flat models whose equations are spelled with each operator behind its operands.
 use mo_flat::{FlatEquation, FlatExpr, FlatModel, FlatVar};
-use mo_syntax::{Boxed, Kind, List, NoMemory, Place, RelOp, Role, Text, both, pair, single};
+use mo_syntax::{
+    Boxed, Kind, List, NoMemory, Place, RelOp, Role, Text, both, pair, pushed, single,
+};
 use std::alloc::Global;
 
 const PLACE: Place = Place { file: 1, byte: 0 };
@@ -8,29 +10,40 @@ const PLACE: Place = Place { file: 1, byte: 0 };
 /// A variable: its name, its unit and its value, which makes it a parameter.
 pub(crate) type Variable<'a> = (&'a str, &'a str, &'a str);
 
+fn attributes(alloc: Global, unit: &str) -> Result<List<(u8, FlatExpr)>, NoMemory> {
+    if unit.is_empty() {
+        return Ok(List::new(alloc));
+    }
+    let unit = FlatExpr::Str(Text::from_str(alloc, unit)?);
+    single(alloc, (1u8, unit))
+}
+
+fn binding(alloc: Global, value: &str) -> Result<Option<FlatExpr>, NoMemory> {
+    if value.is_empty() {
+        return Ok(None);
+    }
+    Ok(Some(FlatExpr::Decimal(Text::from_str(alloc, value)?)))
+}
+
 fn variable(alloc: Global, given: Variable) -> Result<FlatVar, NoMemory> {
-    let (name, kind_text) = both(
-        Text::from_str(alloc, given.0),
-        Text::from_str(alloc, "Real"),
-    )?;
-    let mut v = FlatVar {
+    let (name, unit, value) = given;
+    let texts = both(Text::from_str(alloc, name), Text::from_str(alloc, "Real"));
+    let values = both(attributes(alloc, unit), binding(alloc, value));
+    let ((name, kind_text), (attributes, binding)) = both(texts, values)?;
+    let role = if value.is_empty() {
+        Role::Unknown
+    } else {
+        Role::Parameter
+    };
+    Ok(FlatVar {
         name,
         kind: Kind::Real,
         kind_text,
-        role: Role::Unknown,
-        attributes: List::new(alloc),
-        binding: None,
+        role,
+        attributes,
+        binding,
         place: PLACE,
-    };
-    if !given.1.is_empty() {
-        v.attributes
-            .push((1, FlatExpr::Str(Text::from_str(alloc, given.1)?)))?;
-    }
-    if !given.2.is_empty() {
-        v.role = Role::Parameter;
-        v.binding = Some(FlatExpr::Decimal(Text::from_str(alloc, given.2)?));
-    }
-    Ok(v)
+    })
 }
 
 /// The number of a variable by its name, 0 where it is none.
@@ -107,15 +120,24 @@ fn node(
     }
 }
 
+fn push_word(
+    alloc: Global,
+    vars: &[FlatVar],
+    stack: &mut List<FlatExpr>,
+    word: &str,
+) -> Result<(), NoMemory> {
+    let e = match word.strip_suffix("'") {
+        Some(name) => FlatExpr::Var(number_of(vars, name), 1),
+        None => node(alloc, vars, stack, word)?,
+    };
+    stack.push(e)
+}
+
 /// The expression that these words, with a blank between them, spell. An apostrophe behind a name is its first order.
 fn read(alloc: Global, vars: &[FlatVar], words: &str) -> Result<FlatExpr, NoMemory> {
     let mut stack = List::new(alloc);
     for word in words.split(' ') {
-        let e = match word.strip_suffix("'") {
-            Some(name) => FlatExpr::Var(number_of(vars, name), 1),
-            None => node(alloc, vars, &mut stack, word)?,
-        };
-        stack.push(e)?;
+        push_word(alloc, vars, &mut stack, word)?;
     }
     Ok(pop(&mut stack))
 }
@@ -133,6 +155,29 @@ fn equation(
     })
 }
 
+fn push_variables(
+    alloc: Global,
+    vars: &mut List<FlatVar>,
+    variables: &[Variable],
+) -> Result<(), NoMemory> {
+    for given in variables {
+        pushed(vars, variable(alloc, *given))?;
+    }
+    Ok(())
+}
+
+fn equations_of(
+    alloc: Global,
+    vars: &[FlatVar],
+    equations: &[(&str, &str)],
+) -> Result<List<FlatEquation>, NoMemory> {
+    let mut made = List::new(alloc);
+    for sides in equations {
+        pushed(&mut made, equation(alloc, vars, *sides))?;
+    }
+    Ok(made)
+}
+
 /// A model of these variables and equations, each by its two sides.
 pub(crate) fn model(
     alloc: Global,
@@ -140,21 +185,17 @@ pub(crate) fn model(
     variables: &[Variable],
     equations: &[(&str, &str)],
 ) -> Result<FlatModel, NoMemory> {
-    let mut m = FlatModel {
-        name: Text::from_str(alloc, name)?,
+    let mut vars = List::new(alloc);
+    push_variables(alloc, &mut vars, variables)?;
+    let made = equations_of(alloc, vars.as_slice(), equations);
+    let (name, equations) = both(Text::from_str(alloc, name), made)?;
+    Ok(FlatModel {
+        name,
         place: PLACE,
-        vars: List::new(alloc),
+        vars,
         first: List::new(alloc),
         first_asserts: List::new(alloc),
-        equations: List::new(alloc),
+        equations,
         asserts: List::new(alloc),
-    };
-    for given in variables {
-        m.vars.push(variable(alloc, *given)?)?;
-    }
-    for sides in equations {
-        let made = equation(alloc, m.vars.as_slice(), *sides)?;
-        m.equations.push(made)?;
-    }
-    Ok(m)
+    })
 }

@@ -1,6 +1,9 @@
 use crate::alias::models::{Variable, model};
 use mo_alias::{aliases, aliases_text};
-use std::test::Fail;
+use mo_flat::FlatModel;
+use mo_syntax::{NoMemory, Text};
+use std::alloc::Global;
+use std::process::Abort;
 
 /// A model and the text of its aliases.
 #[derive(Clone, Copy)]
@@ -134,14 +137,26 @@ const CASES: [Case<'static>; 8] = [
     },
 ];
 
+fn text_of(alloc: Global, m: &FlatModel) -> Result<Text, NoMemory> {
+    let found = aliases(alloc, m)?;
+    aliases_text(alloc, m, &found)
+}
+
+fn told(alloc: Global, case: &Case) -> Result<Text, NoMemory> {
+    let m = model(alloc, case.name, case.variables, case.equations)?;
+    text_of(alloc, &m)
+}
+
+fn is_told(rt: &impl Abort, alloc: Global, case: &Case) -> Result<(), NoMemory> {
+    let text = told(alloc, case)?;
+    assert_eq!(rt; text.as_str(), case.text);
+    Ok(())
+}
+
 #[test]
-fn aliases_of_small_models(rt: HostRuntime) -> Result<(), Fail> {
-    let alloc = rt.alloc();
+fn aliases_of_small_models(rt: HostRuntime) -> Result<(), NoMemory> {
     for case in &CASES {
-        let m = model(alloc, case.name, case.variables, case.equations)?;
-        let found = aliases(alloc, &m)?;
-        let text = aliases_text(alloc, &m, &found)?;
-        assert_eq!(rt; text.as_str(), case.text);
+        is_told(&rt, rt.alloc(), case)?;
     }
     Ok(())
 }

@@ -4,34 +4,48 @@ use mo_typing::dims_of;
 use std::alloc::Global;
 use std::process::Abort;
 
-// Sizes apart by one blank, or the rule and the place of what breaks it.
-pub(crate) fn shown(alloc: Global, dims: Result<List<u32>, Stop>) -> Result<String, NoMemory> {
-    let sizes = match dims {
-        Ok(sizes) => sizes,
-        Err(Stop::NoMemory) => return Err(NoMemory),
-        Err(Stop::Broken(broken)) => {
-            return Ok(format!(in alloc; "{} at {}", broken.rule.number(), broken.place.byte)?);
-        }
-    };
+fn push_size(alloc: Global, made: &mut String, mark: &str, size: u32) -> Result<(), NoMemory> {
+    let text = format!(in alloc; "{mark}{size}")?;
+    Ok(made.push_str(text.as_str())?)
+}
+
+fn sizes_text(alloc: Global, sizes: &[u32]) -> Result<String, NoMemory> {
     let mut made = String::new(alloc);
-    for (k, n) in sizes.as_slice().iter().enumerate() {
-        if k > 0 {
-            made.push(' ')?;
-        }
-        made.push_str(format!(in alloc; "{n}")?.as_str())?;
+    let mut mark = "";
+    for size in sizes {
+        push_size(alloc, &mut made, mark, *size)?;
+        mark = " ";
     }
     Ok(made)
+}
+
+// Sizes apart by one blank, or the rule and the place of what breaks it.
+pub(crate) fn shown(alloc: Global, dims: Result<List<u32>, Stop>) -> Result<String, NoMemory> {
+    match dims {
+        Ok(sizes) => sizes_text(alloc, sizes.as_slice()),
+        Err(Stop::NoMemory) => Err(NoMemory),
+        Err(Stop::Broken(broken)) => {
+            Ok(format!(in alloc; "{} at {}", broken.rule.number(), broken.place.byte)?)
+        }
+    }
+}
+
+fn found_of(alloc: Global, words: &str) -> Result<String, NoMemory> {
+    let e = expression(alloc, words)?;
+    shown(alloc, dims_of(alloc, &e))
+}
+
+fn is_shown(rt: &impl Abort, alloc: Global, words: &str, wanted: &str) -> Result<(), NoMemory> {
+    let found = found_of(alloc, words)?;
+    assert_eq!(rt; found.as_str(), wanted, "{words}");
+    Ok(())
 }
 
 // Each line has words and the dimensions of their expression, or the rule and the place of the word that breaks it.
 fn check(rt: &impl Abort, alloc: Global, rows: &str) -> Result<(), NoMemory> {
     for row in rows.split('\n') {
-        let Some((words, wanted)) = row.split_once('|') else {
-            assert!(rt; false, "{row}");
-            return Ok(());
-        };
-        let found = shown(alloc, dims_of(alloc, &expression(alloc, words)?))?;
-        assert_eq!(rt; found.as_str(), wanted, "{words}");
+        let (words, wanted) = row.split_once('|').unwrap_or((row, "no row"));
+        is_shown(rt, alloc, words, wanted)?;
     }
     Ok(())
 }

@@ -1,12 +1,22 @@
 use crate::array::dims::shown as shown_dims;
 use crate::array::words::{expression, model};
 use mo_arrays::{checked_sides, element, element_at, scalar_equations};
-use mo_flat::{FlatEquation, FlatExpr, FlatModel, flat_expr_text};
-use mo_syntax::{List, NoMemory, Place, Stop};
+use mo_flat::{ArrayExpr, FlatEquation, FlatExpr, FlatModel, flat_expr_text};
+use mo_syntax::{List, NoMemory, Place, Stop, both};
 use std::alloc::Global;
 use std::process::Abort;
 
 const PLACE: Place = Place { file: 1, byte: 99 };
+
+fn push_expression(
+    alloc: Global,
+    m: &FlatModel,
+    e: &FlatExpr,
+    made: &mut String,
+) -> Result<(), NoMemory> {
+    let text = flat_expr_text(alloc, m, e)?;
+    Ok(made.push_str(text.as_str())?)
+}
 
 fn push_side(
     alloc: Global,
@@ -14,10 +24,18 @@ fn push_side(
     equation: &FlatEquation,
     made: &mut String,
 ) -> Result<(), NoMemory> {
-    made.push_str(flat_expr_text(alloc, m, &equation.left)?.as_str())?;
+    push_expression(alloc, m, &equation.left, made)?;
     made.push_str(" = ")?;
-    made.push_str(flat_expr_text(alloc, m, &equation.right)?.as_str())?;
-    Ok(())
+    push_expression(alloc, m, &equation.right, made)
+}
+
+fn shown_all(alloc: Global, m: &FlatModel, equations: &[FlatEquation]) -> Result<String, NoMemory> {
+    let mut made = String::new(alloc);
+    for equation in equations {
+        push_side(alloc, m, equation, &mut made)?;
+        made.push_str("; ")?;
+    }
+    Ok(made)
 }
 
 fn shown(
@@ -25,19 +43,31 @@ fn shown(
     m: &FlatModel,
     equations: Result<List<FlatEquation>, Stop>,
 ) -> Result<String, NoMemory> {
-    let equations = match equations {
-        Ok(equations) => equations,
-        Err(Stop::NoMemory) => return Err(NoMemory),
+    match equations {
+        Ok(equations) => shown_all(alloc, m, equations.as_slice()),
+        Err(Stop::NoMemory) => Err(NoMemory),
         Err(Stop::Broken(broken)) => {
-            return Ok(format!(in alloc; "{} at {}", broken.rule.number(), broken.place.byte)?);
+            Ok(format!(in alloc; "{} at {}", broken.rule.number(), broken.place.byte)?)
         }
-    };
-    let mut made = String::new(alloc);
-    for equation in equations.as_slice() {
-        push_side(alloc, m, equation, &mut made)?;
-        made.push_str("; ")?;
     }
-    Ok(made)
+}
+
+// The two sides of an equation, from their words.
+fn both_sides(alloc: Global, words: &str) -> Result<(ArrayExpr, ArrayExpr), NoMemory> {
+    let (left, right) = words.split_once('=').unwrap_or((words, "no side"));
+    both(expression(alloc, left), expression(alloc, right))
+}
+
+fn found_of(alloc: Global, m: &FlatModel, words: &str) -> Result<String, NoMemory> {
+    let (left, right) = both_sides(alloc, words)?;
+    shown(alloc, m, scalar_equations(alloc, &left, &right, PLACE))
+}
+
+fn check_row(rt: &impl Abort, alloc: Global, m: &FlatModel, row: &str) -> Result<(), NoMemory> {
+    let (words, wanted) = row.split_once('|').unwrap_or((row, "no row"));
+    let found = found_of(alloc, m, words)?;
+    assert_eq!(rt; found.as_str(), wanted, "{words}");
+    Ok(())
 }
 
 // Each line has the words of both sides and their equations, or the rule and the place of what breaks it: 99 is the equation, another
@@ -45,18 +75,7 @@ fn shown(
 fn check(rt: &impl Abort, alloc: Global, rows: &str) -> Result<(), NoMemory> {
     let m = model(alloc)?;
     for row in rows.split('\n') {
-        let Some((words, wanted)) = row.split_once('|') else {
-            assert!(rt; false, "{row}");
-            return Ok(());
-        };
-        let Some((left, right)) = words.split_once('=') else {
-            assert!(rt; false, "{row}");
-            return Ok(());
-        };
-        let left = expression(alloc, left)?;
-        let right = expression(alloc, right)?;
-        let found = shown(alloc, &m, scalar_equations(alloc, &left, &right, PLACE))?;
-        assert_eq!(rt; found.as_str(), wanted, "{words}");
+        check_row(rt, alloc, &m, row)?;
     }
     Ok(())
 }
@@ -208,19 +227,15 @@ x=v[3]|32 at 10
 b=b|34 at 99
 zeros(3000000000)=zeros(3000000000)|3000000000";
 
+fn found_dims(alloc: Global, words: &str) -> Result<String, NoMemory> {
+    let (left, right) = both_sides(alloc, words)?;
+    shown_dims(alloc, checked_sides(alloc, &left, &right, PLACE))
+}
+
 fn check_sides(rt: &impl Abort, alloc: Global, rows: &str) -> Result<(), NoMemory> {
     for row in rows.split('\n') {
-        let Some((words, wanted)) = row.split_once('|') else {
-            assert!(rt; false, "{row}");
-            return Ok(());
-        };
-        let Some((left, right)) = words.split_once('=') else {
-            assert!(rt; false, "{row}");
-            return Ok(());
-        };
-        let left = expression(alloc, left)?;
-        let right = expression(alloc, right)?;
-        let found = shown_dims(alloc, checked_sides(alloc, &left, &right, PLACE))?;
+        let (words, wanted) = row.split_once('|').unwrap_or((row, "no row"));
+        let found = found_dims(alloc, words)?;
         assert_eq!(rt; found.as_str(), wanted, "{words}");
     }
     Ok(())
@@ -231,16 +246,18 @@ fn sides(rt: HostRuntime) -> Result<(), NoMemory> {
     check_sides(&rt, rt.alloc(), SIDES)
 }
 
+fn expression_text(alloc: Global, m: &FlatModel, e: &FlatExpr) -> Result<String, NoMemory> {
+    let text = flat_expr_text(alloc, m, e)?;
+    Ok(String::from_str(alloc, text.as_str())?)
+}
+
 fn element_text(
     alloc: Global,
     m: &FlatModel,
     made: Result<FlatExpr, Stop>,
 ) -> Result<String, NoMemory> {
     match made {
-        Ok(made) => {
-            let text = flat_expr_text(alloc, m, &made)?;
-            Ok(String::from_str(alloc, text.as_str())?)
-        }
+        Ok(made) => expression_text(alloc, m, &made),
         Err(Stop::NoMemory) => Err(NoMemory),
         Err(Stop::Broken(broken)) => {
             Ok(format!(in alloc; "{} at {}", broken.rule.number(), broken.place.byte)?)
@@ -255,33 +272,48 @@ const ELEMENTS: [(&str, &[u32], &str); 3] = [
     ("v[3]", &[], "32 at 10"),
 ];
 
+fn found_element(
+    alloc: Global,
+    m: &FlatModel,
+    words: &str,
+    index: &[u32],
+) -> Result<String, NoMemory> {
+    let e = expression(alloc, words)?;
+    element_text(alloc, m, element(alloc, &e, index))
+}
+
 fn check_element(
     rt: &impl Abort,
     alloc: Global,
-    words: &str,
-    index: &[u32],
-    wanted: &str,
+    m: &FlatModel,
+    row: &(&str, &[u32], &str),
 ) -> Result<(), NoMemory> {
-    let m = model(alloc)?;
-    let found = element_text(alloc, &m, element(alloc, &expression(alloc, words)?, index))?;
+    let (words, index, wanted) = *row;
+    let found = found_element(alloc, m, words, index)?;
     assert_eq!(rt; found.as_str(), wanted, "{words}");
     Ok(())
 }
 
 #[test]
 fn elements(rt: HostRuntime) -> Result<(), NoMemory> {
-    for (words, index, wanted) in ELEMENTS {
-        check_element(&rt, rt.alloc(), words, index, wanted)?;
+    let m = model(rt.alloc())?;
+    for row in &ELEMENTS {
+        check_element(&rt, rt.alloc(), &m, row)?;
     }
     Ok(())
+}
+
+fn found_alone(alloc: Global, m: &FlatModel) -> Result<String, NoMemory> {
+    let e = expression(alloc, "A w *")?;
+    let made = element_at(alloc, &e, &[1])?;
+    expression_text(alloc, m, &made)
 }
 
 // Subscripts are not asked.
 #[test]
 fn elements_alone(rt: HostRuntime) -> Result<(), NoMemory> {
-    let e = expression(rt.alloc(), "A w *")?;
     let m = model(rt.alloc())?;
-    let found = flat_expr_text(rt.alloc(), &m, &element_at(rt.alloc(), &e, &[1])?)?;
+    let found = found_alone(rt.alloc(), &m)?;
     assert_eq!(rt; found.as_str(), "A[1,1]*w[1] + A[1,2]*w[2] + A[1,3]*w[3]");
     Ok(())
 }

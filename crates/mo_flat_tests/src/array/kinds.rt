@@ -15,15 +15,22 @@ fn shown(alloc: Global, kind: Result<Kind, Broken>) -> Result<String, NoMemory> 
     })
 }
 
+fn found_of(alloc: Global, words: &str) -> Result<String, NoMemory> {
+    let e = expression(alloc, words)?;
+    shown(alloc, kind_of(&e))
+}
+
+fn is_shown(rt: &impl Abort, alloc: Global, words: &str, wanted: &str) -> Result<(), NoMemory> {
+    let found = found_of(alloc, words)?;
+    assert_eq!(rt; found.as_str(), wanted, "{words}");
+    Ok(())
+}
+
 // Each line has words and the kind of their expression, or the rule and the place of the word that breaks it.
 fn check(rt: &impl Abort, alloc: Global, rows: &str) -> Result<(), NoMemory> {
     for row in rows.split('\n') {
-        let Some((words, wanted)) = row.split_once('|') else {
-            assert!(rt; false, "{row}");
-            return Ok(());
-        };
-        let found = shown(alloc, kind_of(&expression(alloc, words)?))?;
-        assert_eq!(rt; found.as_str(), wanted, "{words}");
+        let (words, wanted) = row.split_once('|').unwrap_or((row, "no row"));
+        is_shown(rt, alloc, words, wanted)?;
     }
     Ok(())
 }

@@ -1,6 +1,8 @@
 //! Expressions for tests, from words.
 use mo_flat::{ArrayExpr, ArrayNode, FlatModel, FlatVar, Subscript};
-use mo_syntax::{Boxed, ClassId, Kind, List, NoMemory, Place, RelOp, Role, Text};
+use mo_syntax::{
+    Boxed, ClassId, Kind, List, NoMemory, Place, RelOp, Role, Text, both, pushed, single,
+};
 use mo_tables::function;
 use std::alloc::Global;
 
@@ -35,10 +37,11 @@ fn count_of(sizes: &[u32]) -> u32 {
 }
 
 fn variable(alloc: Global, name: &str, kind: Kind) -> Result<FlatVar, NoMemory> {
+    let (name, kind_text) = both(Text::from_str(alloc, name), Text::from_str(alloc, "Real"))?;
     Ok(FlatVar {
-        name: Text::from_str(alloc, name)?,
+        name,
         kind,
-        kind_text: Text::from_str(alloc, "Real")?,
+        kind_text,
         role: Role::Unknown,
         attributes: List::new(alloc),
         binding: None,
@@ -63,19 +66,24 @@ fn push_elements(
             1 => format!(in alloc; "{name}[{row}]")?,
             _ => format!(in alloc; "{name}[{row},{column}]")?,
         };
-        vars.push(variable(alloc, text.as_str(), kind)?)?;
+        pushed(vars, variable(alloc, text.as_str(), kind))?;
     }
     Ok(())
 }
 
+fn variables(alloc: Global) -> Result<List<FlatVar>, NoMemory> {
+    let mut vars = List::new(alloc);
+    for (name, kind, sizes) in &VARIABLES {
+        push_elements(alloc, &mut vars, name, *kind, sizes)?;
+    }
+    Ok(vars)
+}
+
 // The model of these variables.
 pub(crate) fn model(alloc: Global) -> Result<FlatModel, NoMemory> {
-    let mut vars = List::new(alloc);
-    for (name, kind, sizes) in VARIABLES {
-        push_elements(alloc, &mut vars, name, kind, sizes)?;
-    }
+    let (name, vars) = both(Text::from_str(alloc, "M"), variables(alloc))?;
     Ok(FlatModel {
-        name: Text::from_str(alloc, "M")?,
+        name,
         place: Place { file: 1, byte: 0 },
         vars,
         first: List::new(alloc),
@@ -109,20 +117,20 @@ fn dims(alloc: Global, sizes: &[u32]) -> Result<List<u32>, NoMemory> {
     Ok(made)
 }
 
-// A variable, or a literal where no variable has that name.
-fn leaf(alloc: Global, word: &str) -> Result<ArrayNode, NoMemory> {
-    let mut first = 1u32;
-    for (name, kind, sizes) in VARIABLES {
-        if name == word {
-            return Ok(ArrayNode::Vars {
-                vars: numbers(alloc, first, count_of(sizes))?,
-                kind,
-                dims: dims(alloc, sizes)?,
-                subs: List::new(alloc),
-            });
-        }
-        first = first.saturating_add(count_of(sizes));
-    }
+// A variable without subscripts.
+fn named(alloc: Global, first: u32, kind: Kind, sizes: &[u32]) -> Result<ArrayNode, NoMemory> {
+    let vars = numbers(alloc, first, count_of(sizes));
+    let (vars, dims) = both(vars, dims(alloc, sizes))?;
+    Ok(ArrayNode::Vars {
+        vars,
+        kind,
+        dims,
+        subs: List::new(alloc),
+    })
+}
+
+// A literal.
+fn literal(alloc: Global, word: &str) -> Result<ArrayNode, NoMemory> {
     if let Ok(n) = word.parse::<i64>() {
         return Ok(ArrayNode::Whole(n));
     }
@@ -135,6 +143,18 @@ fn leaf(alloc: Global, word: &str) -> Result<ArrayNode, NoMemory> {
     })
 }
 
+// A variable, or a literal where no variable has that name.
+fn leaf(alloc: Global, word: &str) -> Result<ArrayNode, NoMemory> {
+    let mut first = 1u32;
+    for (name, kind, sizes) in &VARIABLES {
+        if *name == word {
+            return named(alloc, first, *kind, sizes);
+        }
+        first = first.saturating_add(count_of(sizes));
+    }
+    literal(alloc, word)
+}
+
 // The last of the operands, or a literal where there is none.
 fn pop(alloc: Global, stack: &mut List<ArrayExpr>) -> Result<ArrayExpr, NoMemory> {
     match stack.pop() {
@@ -143,20 +163,55 @@ fn pop(alloc: Global, stack: &mut List<ArrayExpr>) -> Result<ArrayExpr, NoMemory
     }
 }
 
+// The last operands, the last one first.
+fn backwards(
+    alloc: Global,
+    stack: &mut List<ArrayExpr>,
+    count: u8,
+) -> Result<List<ArrayExpr>, NoMemory> {
+    let mut made = List::new(alloc);
+    for _i in 0..count {
+        pushed(&mut made, pop(alloc, stack))?;
+    }
+    Ok(made)
+}
+
+fn push_several(
+    alloc: Global,
+    made: &mut List<ArrayExpr>,
+    backwards: &mut List<ArrayExpr>,
+    count: u8,
+) -> Result<(), NoMemory> {
+    for _i in 0..count {
+        pushed(made, pop(alloc, backwards))?;
+    }
+    Ok(())
+}
+
 fn several(
     alloc: Global,
     stack: &mut List<ArrayExpr>,
     count: u8,
 ) -> Result<List<ArrayExpr>, NoMemory> {
-    let mut backwards = List::new(alloc);
-    for _i in 0..count {
-        backwards.push(pop(alloc, stack)?)?;
-    }
+    let mut backwards = backwards(alloc, stack, count)?;
     let mut made = List::new(alloc);
-    for _i in 0..count {
-        made.push(pop(alloc, &mut backwards)?)?;
-    }
+    push_several(alloc, &mut made, &mut backwards, count)?;
     Ok(made)
+}
+
+fn push_chain(
+    alloc: Global,
+    made: &mut List<(bool, bool, ArrayExpr)>,
+    backwards: &mut List<ArrayExpr>,
+    count: u8,
+    turned: bool,
+    dotted: bool,
+) -> Result<(), NoMemory> {
+    for i in 0..count {
+        let e = pop(alloc, backwards)?;
+        made.push((turned && i > 0, dotted && i > 0, e))?;
+    }
+    Ok(())
 }
 
 // A chain of as many operands; `turned` and `dotted` are those of all but the first.
@@ -167,42 +222,44 @@ fn chain(
     turned: bool,
     dotted: bool,
 ) -> Result<List<(bool, bool, ArrayExpr)>, NoMemory> {
-    let mut backwards = List::new(alloc);
-    for _i in 0..count {
-        backwards.push(pop(alloc, stack)?)?;
-    }
+    let mut backwards = backwards(alloc, stack, count)?;
     let mut made = List::new(alloc);
-    for i in 0..count {
-        let e = pop(alloc, &mut backwards)?;
-        made.push((turned && i > 0, dotted && i > 0, e))?;
-    }
+    push_chain(alloc, &mut made, &mut backwards, count, turned, dotted)?;
     Ok(made)
 }
 
+// The two last operands.
+fn two(alloc: Global, stack: &mut List<ArrayExpr>) -> Result<(ArrayExpr, ArrayExpr), NoMemory> {
+    let last = pop(alloc, stack);
+    both(pop(alloc, stack), last)
+}
+
 fn power(alloc: Global, stack: &mut List<ArrayExpr>, dotted: bool) -> Result<ArrayNode, NoMemory> {
-    let exponent = pop(alloc, stack)?;
-    let base = pop(alloc, stack)?;
+    let (base, exponent) = two(alloc, stack)?;
     Ok(ArrayNode::Power(base, dotted, exponent))
 }
 
 fn relation(alloc: Global, stack: &mut List<ArrayExpr>, op: RelOp) -> Result<ArrayNode, NoMemory> {
-    let right = pop(alloc, stack)?;
-    let left = pop(alloc, stack)?;
+    let (left, right) = two(alloc, stack)?;
     Ok(ArrayNode::Relation(op, left, right))
 }
 
 fn negated(alloc: Global, stack: &mut List<ArrayExpr>) -> Result<ArrayNode, NoMemory> {
-    let mut terms = List::new(alloc);
-    terms.push((true, false, pop(alloc, stack)?))?;
-    Ok(ArrayNode::Sum(terms))
+    let e = pop(alloc, stack)?;
+    Ok(ArrayNode::Sum(single(alloc, (true, false, e))?))
+}
+
+fn branch(
+    alloc: Global,
+    stack: &mut List<ArrayExpr>,
+) -> Result<List<(ArrayExpr, ArrayExpr)>, NoMemory> {
+    let branch = two(alloc, stack)?;
+    single(alloc, branch)
 }
 
 fn choice(alloc: Global, stack: &mut List<ArrayExpr>) -> Result<ArrayNode, NoMemory> {
-    let other = pop(alloc, stack)?;
-    let value = pop(alloc, stack)?;
-    let condition = pop(alloc, stack)?;
-    let mut branches = List::new(alloc);
-    branches.push((condition, value))?;
+    let other = pop(alloc, stack);
+    let (branches, other) = both(branch(alloc, stack), other)?;
     Ok(ArrayNode::If(branches, other))
 }
 
@@ -232,28 +289,32 @@ fn subscript(alloc: Global, place: Place, text: &str) -> Result<Subscript, NoMem
     Ok(Subscript::Many(place, indices))
 }
 
-// `T[9,:,1;1]`: a scalar, `:` and a vector as subscripts; each has 10 and its number as place.
-fn subscripted(alloc: Global, at: u32, name: &str, rest: &str) -> Result<ArrayNode, NoMemory> {
-    let ArrayNode::Vars {
-        vars,
-        kind,
-        dims,
-        subs: _,
-    } = leaf(alloc, name)?
-    else {
-        return leaf(alloc, name);
-    };
+fn subscripts(alloc: Global, at: u32, rest: &str) -> Result<List<Subscript>, NoMemory> {
     let mut subs = List::new(alloc);
     let mut byte = at.saturating_add(10);
     for text in rest.trim_end_matches(']').split(',') {
-        subs.push(subscript(alloc, Place { file: 1, byte }, text)?)?;
+        pushed(&mut subs, subscript(alloc, Place { file: 1, byte }, text))?;
         byte = byte.saturating_add(1);
     }
-    Ok(ArrayNode::Vars {
-        vars,
-        kind,
-        dims,
-        subs,
+    Ok(subs)
+}
+
+// `T[9,:,1;1]`: a scalar, `:` and a vector as subscripts; each has 10 and its number as place.
+fn subscripted(alloc: Global, at: u32, name: &str, rest: &str) -> Result<ArrayNode, NoMemory> {
+    let (leaf, subs) = both(leaf(alloc, name), subscripts(alloc, at, rest))?;
+    Ok(match leaf {
+        ArrayNode::Vars {
+            vars,
+            kind,
+            dims,
+            subs: _,
+        } => ArrayNode::Vars {
+            vars,
+            kind,
+            dims,
+            subs,
+        },
+        other => other,
     })
 }
 
@@ -271,6 +332,26 @@ fn sizes(alloc: Global, at: u32, rest: &str) -> Result<List<(Place, i64)>, NoMem
     Ok(made)
 }
 
+fn size_of(
+    alloc: Global,
+    stack: &mut List<ArrayExpr>,
+    sizes: Result<List<(Place, i64)>, NoMemory>,
+) -> Result<ArrayNode, NoMemory> {
+    let (e, mut sizes) = both(pop(alloc, stack), sizes)?;
+    Ok(ArrayNode::Size(e, sizes.pop()))
+}
+
+fn filled(
+    alloc: Global,
+    stack: &mut List<ArrayExpr>,
+    name: &str,
+) -> Result<Option<ArrayExpr>, NoMemory> {
+    if name == "fill" {
+        return Ok(Some(pop(alloc, stack)?));
+    }
+    Ok(None)
+}
+
 // `zeros(2,3)`, and with an operand `fill(2)` and `size(1)`; each number has 10 and its number as place.
 fn sized(
     alloc: Global,
@@ -279,20 +360,15 @@ fn sized(
     name: &str,
     rest: &str,
 ) -> Result<ArrayNode, NoMemory> {
-    let sizes = sizes(alloc, at, rest)?;
+    let sizes = sizes(alloc, at, rest);
     if name == "size" {
-        let mut sizes = sizes;
-        return Ok(ArrayNode::Size(pop(alloc, stack)?, sizes.pop()));
+        return size_of(alloc, stack, sizes);
     }
-    let part = if name == "fill" {
-        Some(pop(alloc, stack)?)
-    } else {
-        None
+    let Some(code) = function(name.as_bytes()) else {
+        return leaf(alloc, name);
     };
-    match function(name.as_bytes()) {
-        Some(code) => Ok(ArrayNode::Sized(code, part, sizes)),
-        None => leaf(alloc, name),
-    }
+    let (part, sizes) = both(filled(alloc, stack, name), sizes)?;
+    Ok(ArrayNode::Sized(code, part, sizes))
 }
 
 // `sin/1`: a call of a function with so many arguments.
@@ -368,14 +444,19 @@ fn word(
     }
 }
 
+fn push_words(alloc: Global, stack: &mut List<ArrayExpr>, text: &str) -> Result<(), NoMemory> {
+    let mut at = 0u32;
+    for name in text.split(' ') {
+        let made = word(alloc, stack, at, name)?;
+        pushed(stack, node(alloc, at, made))?;
+        at = at.saturating_add(1);
+    }
+    Ok(())
+}
+
 // The expression of words that stand apart by one blank, operands before operators; each has the number of its word as place.
 pub(crate) fn expression(alloc: Global, text: &str) -> Result<ArrayExpr, NoMemory> {
     let mut stack = List::new(alloc);
-    let mut at = 0u32;
-    for name in text.split(' ') {
-        let made = word(alloc, &mut stack, at, name)?;
-        stack.push(node(alloc, at, made)?)?;
-        at = at.saturating_add(1);
-    }
+    push_words(alloc, &mut stack, text)?;
     pop(alloc, &mut stack)
 }

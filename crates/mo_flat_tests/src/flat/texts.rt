@@ -1,11 +1,12 @@
 use mo_flat::{
     FlatAssert, FlatEquation, FlatExpr, FlatModel, FlatVar, flat_expr_text, flat_nodes, flat_text,
 };
-use mo_syntax::{Boxed, Kind, List, NoMemory, Place, RelOp, Role, Text};
+use mo_syntax::{
+    Boxed, Kind, List, NoMemory, Place, RelOp, Role, Text, both, in_box, pair, pushed, single,
+};
 use mo_text_size::text_bytes;
 use std::alloc::Global;
 use std::process::Abort;
-use std::test::Fail;
 
 const PLACE: Place = Place { file: 1, byte: 0 };
 
@@ -27,16 +28,29 @@ fn side(alloc: Global, row: &[(bool, u32)]) -> Result<FlatExpr, NoMemory> {
     }
 }
 
-fn variable(alloc: Global, name: &str, kind: &str, role: Role) -> Result<FlatVar, NoMemory> {
+/// A variable of that name, printed kind and role, with its attributes and its binding.
+fn variable(
+    alloc: Global,
+    head: (&str, &str, Role),
+    attributes: List<(u8, FlatExpr)>,
+    binding: Option<FlatExpr>,
+) -> Result<FlatVar, NoMemory> {
+    let (name, kind, role) = head;
+    let (name, kind_text) = both(Text::from_str(alloc, name), Text::from_str(alloc, kind))?;
     Ok(FlatVar {
-        name: Text::from_str(alloc, name)?,
+        name,
         kind: Kind::Real,
-        kind_text: Text::from_str(alloc, kind)?,
+        kind_text,
         role,
-        attributes: List::new(alloc),
-        binding: None,
+        attributes,
+        binding,
         place: PLACE,
     })
+}
+
+/// A variable of kind Real, without attributes and without a binding.
+fn plain(alloc: Global, name: &str, role: Role) -> Result<FlatVar, NoMemory> {
+    variable(alloc, (name, "Real", role), List::new(alloc), None)
 }
 
 fn empty(alloc: Global, name: &str) -> Result<FlatModel, NoMemory> {
@@ -52,126 +66,140 @@ fn empty(alloc: Global, name: &str) -> Result<FlatModel, NoMemory> {
 }
 
 fn relation(alloc: Global, op: RelOp, left: FlatExpr, right: i64) -> Result<FlatExpr, NoMemory> {
-    let left = Boxed::new(alloc, left)?;
-    let right = Boxed::new(alloc, FlatExpr::Whole(right))?;
+    let right = Boxed::new(alloc, FlatExpr::Whole(right));
+    let (left, right) = both(Boxed::new(alloc, left), right)?;
     Ok(FlatExpr::Relation(op, left, right))
 }
 
-fn power(alloc: Global, base: FlatExpr, exponent: i64) -> Result<FlatExpr, NoMemory> {
-    let base = Boxed::new(alloc, base)?;
-    let exponent = Boxed::new(alloc, FlatExpr::Whole(exponent))?;
+fn power(
+    alloc: Global,
+    base: Result<FlatExpr, NoMemory>,
+    exponent: i64,
+) -> Result<FlatExpr, NoMemory> {
+    let exponent = Boxed::new(alloc, FlatExpr::Whole(exponent));
+    let (base, exponent) = both(in_box(alloc, base), exponent)?;
     Ok(FlatExpr::Power(base, exponent))
 }
 
 /// `((-x + y)^2)^(-3)/p`
 fn quotient(alloc: Global) -> Result<FlatExpr, NoMemory> {
-    let sum = side(alloc, &[(true, 1), (false, 2)])?;
-    let power = power(alloc, power(alloc, sum, 2)?, -3)?;
-    let mut factors = List::new(alloc);
-    factors.push((false, power))?;
-    factors.push((true, FlatExpr::Var(3, 0)))?;
+    let square = power(alloc, side(alloc, &[(true, 1), (false, 2)]), 2);
+    let power = power(alloc, square, -3)?;
+    let factors = pair(alloc, (false, power), (true, FlatExpr::Var(3, 0)))?;
     Ok(FlatExpr::Product(factors))
 }
 
 /// `x <= 0 and not p > -1`
 fn conjunction(alloc: Global) -> Result<FlatExpr, NoMemory> {
-    let mut parts = List::new(alloc);
-    parts.push(relation(alloc, RelOp::LessEqual, FlatExpr::Var(1, 0), 0)?)?;
-    let inner = relation(alloc, RelOp::Greater, FlatExpr::Var(3, 0), -1)?;
-    parts.push(FlatExpr::Not(Boxed::new(alloc, inner)?))?;
-    Ok(FlatExpr::All(parts))
+    let left = relation(alloc, RelOp::LessEqual, FlatExpr::Var(1, 0), 0);
+    let inner = relation(alloc, RelOp::Greater, FlatExpr::Var(3, 0), -1);
+    let (left, inner) = both(left, in_box(alloc, inner))?;
+    Ok(FlatExpr::All(pair(alloc, left, FlatExpr::Not(inner))?))
 }
 
 /// `not (x <= 0 and not p > -1 or false)`
 fn negation(alloc: Global) -> Result<FlatExpr, NoMemory> {
-    let mut parts = List::new(alloc);
-    parts.push(conjunction(alloc)?)?;
-    parts.push(FlatExpr::Truth(false))?;
+    let parts = pair(alloc, conjunction(alloc)?, FlatExpr::Truth(false))?;
     Ok(FlatExpr::Not(Boxed::new(alloc, FlatExpr::Any(parts))?))
+}
+
+fn branches(alloc: Global) -> Result<List<(FlatExpr, FlatExpr)>, NoMemory> {
+    let first = both(conjunction(alloc), Text::from_str(alloc, "1.50"));
+    let second = relation(alloc, RelOp::NotEqual, FlatExpr::Time, 7);
+    let ((first, decimal), second) = both(first, second)?;
+    let value = FlatExpr::Decimal(decimal);
+    pair(alloc, (first, value), (second, FlatExpr::Var(1, 2)))
+}
+
+fn choice(
+    alloc: Global,
+    branches: Result<List<(FlatExpr, FlatExpr)>, NoMemory>,
+    other: Result<FlatExpr, NoMemory>,
+) -> Result<FlatExpr, NoMemory> {
+    let (branches, other) = both(branches, in_box(alloc, other))?;
+    Ok(FlatExpr::If(branches, other))
 }
 
 /// `max(time, if x <= 0 and not p > -1 then 1.50 elseif x < p then .. else ..)`
 fn call(alloc: Global) -> Result<FlatExpr, NoMemory> {
-    let mut branches = List::new(alloc);
-    branches.push((
-        conjunction(alloc)?,
-        FlatExpr::Decimal(Text::from_str(alloc, "1.50")?),
-    ))?;
-    branches.push((
-        relation(alloc, RelOp::NotEqual, FlatExpr::Time, 7)?,
-        FlatExpr::Var(1, 2),
-    ))?;
     let other = FlatExpr::Der(Boxed::new(alloc, FlatExpr::Var(2, 1))?);
-    let mut args = List::new(alloc);
-    args.push(FlatExpr::Time)?;
-    args.push(FlatExpr::If(branches, Boxed::new(alloc, other)?))?;
-    Ok(FlatExpr::Call(14, args))
+    let choice = choice(alloc, branches(alloc), Ok(other))?;
+    Ok(FlatExpr::Call(14, pair(alloc, FlatExpr::Time, choice)?))
 }
 
 /// `-(-1) - max(..)*..`, the sum of a negative number, a call and an if-expression
 fn sum(alloc: Global) -> Result<FlatExpr, NoMemory> {
-    let mut terms = List::new(alloc);
-    terms.push((true, FlatExpr::Whole(-1)))?;
-    let mut branches = List::new(alloc);
-    branches.push((FlatExpr::Truth(true), FlatExpr::Whole(i64::MIN)))?;
-    let other = Boxed::new(alloc, quotient(alloc)?)?;
-    terms.push((true, FlatExpr::If(branches, other)))?;
+    let branches = single(alloc, (FlatExpr::Truth(true), FlatExpr::Whole(i64::MIN)));
+    let choice = choice(alloc, branches, quotient(alloc))?;
+    let terms = pair(alloc, (true, FlatExpr::Whole(-1)), (true, choice))?;
     Ok(FlatExpr::Sum(terms))
 }
 
-fn three_variables(alloc: Global, m: &mut FlatModel) -> Result<(), NoMemory> {
-    m.vars.push(variable(alloc, "x", "Real", Role::Unknown)?)?;
-    m.vars
-        .push(variable(alloc, "y[1,2]", "Real", Role::Unknown)?)?;
-    m.vars.push(variable(alloc, "p", "Real", Role::Parameter)?)
+fn push_three(alloc: Global, vars: &mut List<FlatVar>) -> Result<(), NoMemory> {
+    pushed(vars, plain(alloc, "x", Role::Unknown))?;
+    pushed(vars, plain(alloc, "y[1,2]", Role::Unknown))?;
+    pushed(vars, plain(alloc, "p", Role::Parameter))
+}
+
+fn of_three(alloc: Global) -> Result<FlatModel, NoMemory> {
+    let mut m = empty(alloc, "M")?;
+    push_three(alloc, &mut m.vars)?;
+    Ok(m)
+}
+
+/// An expression's text and the number of its nodes.
+type Wanted = (&'static str, u64);
+
+fn is_told(
+    rt: &impl Abort,
+    alloc: Global,
+    m: &FlatModel,
+    e: &FlatExpr,
+    wanted: &Wanted,
+) -> Result<(), NoMemory> {
+    let (text, nodes) = *wanted;
+    assert!(rt; flat_nodes(e) == nodes, "{text}");
+    let printed = flat_expr_text(alloc, m, e)?;
+    assert_eq!(rt; printed.as_str(), text);
+    Ok(())
 }
 
 fn check(
     rt: &impl Abort,
     alloc: Global,
     m: &FlatModel,
-    e: &FlatExpr,
-    text: &str,
-    nodes: u64,
+    e: Result<FlatExpr, NoMemory>,
+    wanted: &Wanted,
 ) -> Result<(), NoMemory> {
-    assert_eq!(rt; flat_nodes(e), nodes, "{text}");
-    let printed = flat_expr_text(alloc, m, e)?;
-    assert_eq!(rt; printed.as_str(), text);
-    Ok(())
+    let e = e?;
+    is_told(rt, alloc, m, &e, wanted)
 }
+
+const QUOTIENT: Wanted = ("((-x + y[1,2])^2)^(-3)/p", 9);
+
+const NEGATION: Wanted = ("not (x <= 0 and not p > -1 or false)", 11);
+
+const SUM: Wanted = (
+    "-(-1) - (if true then -9223372036854775808 else ((-x + y[1,2])^2)^(-3)/p)",
+    14,
+);
+
+const CALL: Wanted = (
+    "max(time, if x <= 0 and not p > -1 then 1.50 elseif time <> 7 then der(der(x)) else der(der(y[1,2])))",
+    21,
+);
 
 fn check_expressions(rt: &impl Abort, alloc: Global, m: &FlatModel) -> Result<(), NoMemory> {
-    check(
-        rt,
-        alloc,
-        m,
-        &quotient(alloc)?,
-        "((-x + y[1,2])^2)^(-3)/p",
-        9,
-    )?;
-    check(
-        rt,
-        alloc,
-        m,
-        &negation(alloc)?,
-        "not (x <= 0 and not p > -1 or false)",
-        11,
-    )?;
-    check(rt, alloc, m, &sum(alloc)?, SUM, 14)?;
-    check(rt, alloc, m, &call(alloc)?, CALL, 21)
+    check(rt, alloc, m, quotient(alloc), &QUOTIENT)?;
+    check(rt, alloc, m, negation(alloc), &NEGATION)?;
+    check(rt, alloc, m, sum(alloc), &SUM)?;
+    check(rt, alloc, m, call(alloc), &CALL)
 }
 
-const SUM: &str = "-(-1) - (if true then -9223372036854775808 else ((-x + y[1,2])^2)^(-3)/p)";
-
-const CALL: &str =
-    "max(time, if x <= 0 and not p > -1 then 1.50 elseif time <> 7 then der(der(x)) else der(der(y[1,2])))";
-
 #[test]
-fn prints_expressions(rt: HostRuntime) -> Result<(), Fail> {
-    let mut m = empty(rt.alloc(), "M")?;
-    three_variables(rt.alloc(), &mut m)?;
-    check_expressions(&rt, rt.alloc(), &m)?;
-    Ok(())
+fn prints_expressions(rt: HostRuntime) -> Result<(), NoMemory> {
+    let m = of_three(rt.alloc())?;
+    check_expressions(&rt, rt.alloc(), &m)
 }
 
 const EVERY_LINE: &str = "model Lib.M
@@ -192,31 +220,48 @@ fn literal(alloc: Global) -> Result<FlatExpr, NoMemory> {
     Ok(FlatExpr::Literal(Text::from_str(alloc, "Lib.Color.red")?))
 }
 
-fn given(alloc: Global) -> Result<FlatVar, NoMemory> {
-    let mut u = variable(alloc, "u", "Real", Role::Given)?;
-    u.attributes
-        .push((0, FlatExpr::Str(Text::from_str(alloc, "\"T\"")?)))?;
-    u.attributes.push((5, FlatExpr::Whole(-1)))?;
-    u.binding = Some(FlatExpr::Whole(2));
-    Ok(u)
+fn string(alloc: Global, text: &str) -> Result<FlatExpr, NoMemory> {
+    Ok(FlatExpr::Str(Text::from_str(alloc, text)?))
 }
 
-fn every_variable(alloc: Global, m: &mut FlatModel) -> Result<(), NoMemory> {
-    m.vars.push(given(alloc)?)?;
-    let mut x = variable(alloc, "x", "Real", Role::Unknown)?;
-    x.binding = Some(FlatExpr::Var(1, 0));
-    m.vars.push(x)?;
-    m.vars
-        .push(variable(alloc, "n", "Integer", Role::Parameter)?)?;
-    let mut c = variable(alloc, "c", "Lib.Color", Role::Constant)?;
-    c.binding = Some(literal(alloc)?);
-    m.vars.push(c)
+fn push_given(alloc: Global, vars: &mut List<FlatVar>) -> Result<(), NoMemory> {
+    let quantity = string(alloc, "\"T\"")?;
+    let attributes = pair(alloc, (0u8, quantity), (5u8, FlatExpr::Whole(-1)))?;
+    let two = Some(FlatExpr::Whole(2));
+    pushed(
+        vars,
+        variable(alloc, ("u", "Real", Role::Given), attributes, two),
+    )
+}
+
+fn push_unknown(alloc: Global, vars: &mut List<FlatVar>) -> Result<(), NoMemory> {
+    let binding = Some(FlatExpr::Var(1, 0));
+    let head = ("x", "Real", Role::Unknown);
+    pushed(vars, variable(alloc, head, List::new(alloc), binding))
+}
+
+fn push_number(alloc: Global, vars: &mut List<FlatVar>) -> Result<(), NoMemory> {
+    let head = ("n", "Integer", Role::Parameter);
+    pushed(vars, variable(alloc, head, List::new(alloc), None))
+}
+
+fn push_color(alloc: Global, vars: &mut List<FlatVar>) -> Result<(), NoMemory> {
+    let binding = Some(literal(alloc)?);
+    let head = ("c", "Lib.Color", Role::Constant);
+    pushed(vars, variable(alloc, head, List::new(alloc), binding))
+}
+
+fn every_variable(alloc: Global, vars: &mut List<FlatVar>) -> Result<(), NoMemory> {
+    push_given(alloc, vars)?;
+    push_unknown(alloc, vars)?;
+    push_number(alloc, vars)?;
+    push_color(alloc, vars)
 }
 
 fn assertion(alloc: Global, level: Option<FlatExpr>) -> Result<FlatAssert, NoMemory> {
     Ok(FlatAssert {
         condition: FlatExpr::Truth(true),
-        message: FlatExpr::Str(Text::from_str(alloc, "\"low\"")?),
+        message: string(alloc, "\"low\"")?,
         level,
     })
 }
@@ -226,38 +271,56 @@ fn equal(
     left: &[(bool, u32)],
     right: &[(bool, u32)],
 ) -> Result<FlatEquation, NoMemory> {
+    let (left, right) = both(side(alloc, left), side(alloc, right))?;
     Ok(FlatEquation {
-        left: side(alloc, left)?,
-        right: side(alloc, right)?,
+        left,
+        right,
         place: PLACE,
     })
 }
 
+fn push_equation(alloc: Global, first: &mut List<FlatEquation>) -> Result<(), NoMemory> {
+    let equation = equal(alloc, &[(false, 2)], &[(true, 1), (false, 2)])?;
+    pushed(first, equation.copy(alloc))
+}
+
+fn push_assert(alloc: Global, first: &mut List<FlatAssert>) -> Result<(), NoMemory> {
+    let level = Some(literal(alloc)?);
+    let low = assertion(alloc, level)?;
+    pushed(first, low.copy(alloc))
+}
+
 fn every_line(alloc: Global, m: &mut FlatModel) -> Result<(), NoMemory> {
-    let first = equal(alloc, &[(false, 2)], &[(true, 1), (false, 2)])?;
-    m.first.push(first.copy(alloc)?)?;
-    let low = assertion(alloc, Some(literal(alloc)?))?;
-    m.first_asserts.push(low.copy(alloc)?)?;
-    m.equations
-        .push(equal(alloc, &[(false, 2)], &[(false, 1)])?)?;
-    m.asserts.push(assertion(alloc, None)?)
+    push_equation(alloc, &mut m.first)?;
+    push_assert(alloc, &mut m.first_asserts)?;
+    pushed(&mut m.equations, equal(alloc, &[(false, 2)], &[(false, 1)]))?;
+    pushed(&mut m.asserts, assertion(alloc, None))
+}
+
+fn of_every_line(alloc: Global) -> Result<FlatModel, NoMemory> {
+    let mut m = empty(alloc, "Lib.M")?;
+    every_variable(alloc, &mut m.vars)?;
+    every_line(alloc, &mut m)?;
+    Ok(m)
 }
 
 fn check_model(rt: &impl Abort, alloc: Global, m: &FlatModel, text: &str) -> Result<(), NoMemory> {
+    assert!(rt; text_bytes(m) == text.len() as u64);
     let printed = flat_text(alloc, m)?;
     assert_eq!(rt; printed.as_str(), text);
-    assert_eq!(rt; text_bytes(m), text.len() as u64);
     Ok(())
 }
 
 #[test]
-fn prints_every_line(rt: HostRuntime) -> Result<(), Fail> {
-    let mut m = empty(rt.alloc(), "Lib.M")?;
-    check_model(&rt, rt.alloc(), &m, "model Lib.M\nend Lib.M;\n")?;
-    every_variable(rt.alloc(), &mut m)?;
-    every_line(rt.alloc(), &mut m)?;
-    check_model(&rt, rt.alloc(), &m, EVERY_LINE)?;
-    Ok(())
+fn prints_a_model_without_lines(rt: HostRuntime) -> Result<(), NoMemory> {
+    let m = empty(rt.alloc(), "Lib.M")?;
+    check_model(&rt, rt.alloc(), &m, "model Lib.M\nend Lib.M;\n")
+}
+
+#[test]
+fn prints_every_line(rt: HostRuntime) -> Result<(), NoMemory> {
+    let m = of_every_line(rt.alloc())?;
+    check_model(&rt, rt.alloc(), &m, EVERY_LINE)
 }
 
 const CIRCUIT: &str = "model Circuit
@@ -335,44 +398,49 @@ const AFTER: [(&[(bool, u32)], &[(bool, u32)]); 6] = [
     (&[(false, 4), (false, 11), (false, 16)], &[]),
 ];
 
+fn decimal(alloc: Global, text: &str) -> Result<FlatExpr, NoMemory> {
+    Ok(FlatExpr::Decimal(Text::from_str(alloc, text)?))
+}
+
+fn voltage(alloc: Global) -> Result<FlatVar, NoMemory> {
+    let binding = Some(decimal(alloc, "5.0")?);
+    let head = ("s.V", "Real", Role::Parameter);
+    variable(alloc, head, List::new(alloc), binding)
+}
+
+fn resistance(alloc: Global) -> Result<FlatVar, NoMemory> {
+    let attributes = single(alloc, (5u8, FlatExpr::Whole(1)));
+    let (attributes, value) = both(attributes, decimal(alloc, "2.0"))?;
+    let head = ("r.R", "Real", Role::Parameter);
+    variable(alloc, head, attributes, Some(value))
+}
+
 fn circuit_variable(alloc: Global, name: &str, unit: &str) -> Result<FlatVar, NoMemory> {
-    if unit.is_empty() {
-        return variable(alloc, name, "Real", Role::Parameter);
-    }
-    let mut v = variable(alloc, name, "Real", Role::Unknown)?;
-    v.attributes
-        .push((1, FlatExpr::Str(Text::from_str(alloc, unit)?)))?;
-    Ok(v)
-}
-
-fn bind(alloc: Global, v: &mut FlatVar, value: &str) -> Result<(), NoMemory> {
-    v.binding = Some(FlatExpr::Decimal(Text::from_str(alloc, value)?));
-    Ok(())
-}
-
-fn circuit_variables(alloc: Global, m: &mut FlatModel) -> Result<(), NoMemory> {
-    for (name, unit) in &VARIABLES {
-        let mut v = circuit_variable(alloc, name, unit)?;
-        match *name {
-            "s.V" => bind(alloc, &mut v, "5.0")?,
-            "r.R" => {
-                v.attributes.push((5, FlatExpr::Whole(1)))?;
-                bind(alloc, &mut v, "2.0")?;
-            }
-            _ => {}
+    match name {
+        "s.V" => voltage(alloc),
+        "r.R" => resistance(alloc),
+        _ => {
+            let unit = string(alloc, unit)?;
+            let attributes = single(alloc, (1u8, unit))?;
+            variable(alloc, (name, "Real", Role::Unknown), attributes, None)
         }
-        m.vars.push(v)?;
+    }
+}
+
+fn circuit_variables(alloc: Global, vars: &mut List<FlatVar>) -> Result<(), NoMemory> {
+    for (name, unit) in &VARIABLES {
+        pushed(vars, circuit_variable(alloc, name, unit))?;
     }
     Ok(())
 }
 
 fn sums(
     alloc: Global,
-    m: &mut FlatModel,
+    equations: &mut List<FlatEquation>,
     rows: &[(&'static [(bool, u32)], &'static [(bool, u32)])],
 ) -> Result<(), NoMemory> {
     for (left, right) in rows {
-        m.equations.push(equal(alloc, left, right)?)?;
+        pushed(equations, equal(alloc, left, right))?;
     }
     Ok(())
 }
@@ -386,13 +454,21 @@ fn ohm(alloc: Global) -> Result<FlatEquation, NoMemory> {
     })
 }
 
+fn circuit_equations(alloc: Global, equations: &mut List<FlatEquation>) -> Result<(), NoMemory> {
+    sums(alloc, equations, &BEFORE)?;
+    pushed(equations, ohm(alloc))?;
+    sums(alloc, equations, &AFTER)
+}
+
+fn circuit(alloc: Global) -> Result<FlatModel, NoMemory> {
+    let mut m = empty(alloc, "Circuit")?;
+    circuit_variables(alloc, &mut m.vars)?;
+    circuit_equations(alloc, &mut m.equations)?;
+    Ok(m)
+}
+
 #[test]
-fn prints_a_circuit(rt: HostRuntime) -> Result<(), Fail> {
-    let mut m = empty(rt.alloc(), "Circuit")?;
-    circuit_variables(rt.alloc(), &mut m)?;
-    sums(rt.alloc(), &mut m, &BEFORE)?;
-    m.equations.push(ohm(rt.alloc())?)?;
-    sums(rt.alloc(), &mut m, &AFTER)?;
-    check_model(&rt, rt.alloc(), &m, CIRCUIT)?;
-    Ok(())
+fn prints_a_circuit(rt: HostRuntime) -> Result<(), NoMemory> {
+    let m = circuit(rt.alloc())?;
+    check_model(&rt, rt.alloc(), &m, CIRCUIT)
 }

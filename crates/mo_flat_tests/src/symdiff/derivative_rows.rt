@@ -1,11 +1,10 @@
 //! Derivatives with respect to time, and expressions with their derivatives carried out.
 use crate::symdiff::postfix::{PLACE, model, read};
-use mo_flat::{FlatExpr, FlatModel, flat_expr_text};
+use mo_flat::{FlatExpr, FlatModel, FlatVar, flat_expr_text};
 use mo_symdiff::{derivative, expand_der, holds_given, is_still};
 use mo_syntax::{NoMemory, Stop, Text};
 use std::alloc::Global;
 use std::process::Abort;
-use std::test::Fail;
 
 /// An expression, and its derivative, or 43 where that rule is broken.
 type Row = (&'static str, &'static str);
@@ -144,22 +143,27 @@ fn carried(alloc: Global, words: &str) -> Result<Text, NoMemory> {
     shown(alloc, &m, expand_der(alloc, &m, &e, PLACE))
 }
 
-fn derives(rt: &impl Abort, alloc: Global, rows: &[Row]) -> Result<(), Fail> {
-    for row in rows {
-        assert_eq!(rt; derived(alloc, row.0)?.as_str(), row.1);
-    }
+fn is_derived(rt: &impl Abort, alloc: Global, row: &Row) -> Result<(), NoMemory> {
+    let found = derived(alloc, row.0)?;
+    assert_eq!(rt; found.as_str(), row.1, "{}", row.0);
     Ok(())
 }
 
-fn carries(rt: &impl Abort, alloc: Global, rows: &[Row]) -> Result<(), Fail> {
+fn is_carried(rt: &impl Abort, alloc: Global, row: &Row) -> Result<(), NoMemory> {
+    let found = carried(alloc, row.0)?;
+    assert_eq!(rt; found.as_str(), row.1, "{}", row.0);
+    Ok(())
+}
+
+fn derives(rt: &impl Abort, alloc: Global, rows: &[Row]) -> Result<(), NoMemory> {
     for row in rows {
-        assert_eq!(rt; carried(alloc, row.0)?.as_str(), row.1);
+        is_derived(rt, alloc, row)?;
     }
     Ok(())
 }
 
 #[test]
-fn derives_sums_and_products(rt: HostRuntime) -> Result<(), Fail> {
+fn derives_sums_and_products(rt: HostRuntime) -> Result<(), NoMemory> {
     derives(&rt, rt.alloc(), &STILL)?;
     derives(&rt, rt.alloc(), &SUMS)?;
     derives(&rt, rt.alloc(), &PRODUCTS)?;
@@ -167,24 +171,29 @@ fn derives_sums_and_products(rt: HostRuntime) -> Result<(), Fail> {
 }
 
 #[test]
-fn derives_functions(rt: HostRuntime) -> Result<(), Fail> {
+fn derives_functions(rt: HostRuntime) -> Result<(), NoMemory> {
     derives(&rt, rt.alloc(), &ANGLES)?;
     derives(&rt, rt.alloc(), &FUNCTIONS)
 }
 
 #[test]
-fn derives_choices(rt: HostRuntime) -> Result<(), Fail> {
+fn derives_choices(rt: HostRuntime) -> Result<(), NoMemory> {
     derives(&rt, rt.alloc(), &CHOICES)?;
     derives(&rt, rt.alloc(), &GIVEN)
 }
 
 #[test]
-fn carries_out(rt: HostRuntime) -> Result<(), Fail> {
-    carries(&rt, rt.alloc(), &CARRIED)
+fn carries_out(rt: HostRuntime) -> Result<(), NoMemory> {
+    for row in &CARRIED {
+        is_carried(&rt, rt.alloc(), row)?;
+    }
+    Ok(())
 }
 
 /// An expression, whether it is still, and whether a given variable stands in it: conditions are left aside.
-const DEPENDENCES: [(&str, bool, bool); 5] = [
+type Dependence = (&'static str, bool, bool);
+
+const DEPENDENCES: [Dependence; 5] = [
     ("time", false, false),
     ("x 0 > x 1 if", false, false),
     ("x 0 > u 1 if", false, true),
@@ -192,14 +201,26 @@ const DEPENDENCES: [(&str, bool, bool); 5] = [
     ("p 0 > p 1 if", true, false),
 ];
 
+fn depends(
+    rt: &impl Abort,
+    alloc: Global,
+    vars: &[FlatVar],
+    row: &Dependence,
+) -> Result<(), NoMemory> {
+    let (words, still, given) = *row;
+    let e = read(alloc, words)?;
+    assert!(rt;
+        is_still(vars, &e) == still && holds_given(vars, &e) == given,
+        "{words}"
+    );
+    Ok(())
+}
+
 #[test]
-fn says_what_an_expression_depends_on(rt: HostRuntime) -> Result<(), Fail> {
-    let alloc = rt.alloc();
-    let m = model(alloc)?;
+fn says_what_an_expression_depends_on(rt: HostRuntime) -> Result<(), NoMemory> {
+    let m = model(rt.alloc())?;
     for row in &DEPENDENCES {
-        let e = read(alloc, row.0)?;
-        assert_eq!(rt; is_still(m.vars.as_slice(), &e), row.1);
-        assert_eq!(rt; holds_given(m.vars.as_slice(), &e), row.2);
+        depends(&rt, rt.alloc(), m.vars.as_slice(), row)?;
     }
     Ok(())
 }

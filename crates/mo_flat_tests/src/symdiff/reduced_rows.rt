@@ -2,11 +2,10 @@
 use crate::symdiff::postfix::{PLACE, model, read};
 use mo_flat::{FlatEquation, FlatExpr, FlatModel};
 use mo_symdiff::{reduced, reduced_text};
-use mo_syntax::{Boxed, List, NoMemory, Place, Stop, Text, both, single};
+use mo_syntax::{List, NoMemory, Place, Stop, Text, both, in_box, single};
 use mo_tables::functions::NO_EVENT;
 use std::alloc::Global;
 use std::process::Abort;
-use std::test::Fail;
 
 const PENDULUM: &str = "reduced M
   x^2 + y^2 = p^2;
@@ -80,10 +79,16 @@ fn reduced_row(alloc: Global, row: &Row) -> Result<Text, NoMemory> {
     shown(alloc, &m, &[row.2], PLACE)
 }
 
+fn is_reduced(rt: &impl Abort, alloc: Global, row: &Row) -> Result<(), NoMemory> {
+    let found = reduced_row(alloc, row)?;
+    assert_eq!(rt; found.as_str(), row.3);
+    Ok(())
+}
+
 #[test]
-fn reduces_each_row(rt: HostRuntime) -> Result<(), Fail> {
+fn reduces_each_row(rt: HostRuntime) -> Result<(), NoMemory> {
     for row in &ROWS {
-        assert_eq!(rt; reduced_row(rt.alloc(), row)?.as_str(), row.3);
+        is_reduced(&rt, rt.alloc(), row)?;
     }
     Ok(())
 }
@@ -98,8 +103,9 @@ fn large_and_given(alloc: Global) -> Result<Text, NoMemory> {
 }
 
 #[test]
-fn asks_for_given_variables_before_sizes(rt: HostRuntime) -> Result<(), Fail> {
-    assert_eq!(rt; large_and_given(rt.alloc())?.as_str(), "43");
+fn asks_for_given_variables_before_sizes(rt: HostRuntime) -> Result<(), NoMemory> {
+    let found = large_and_given(rt.alloc())?;
+    assert_eq!(rt; found.as_str(), "43");
     Ok(())
 }
 
@@ -123,19 +129,24 @@ fn derived_once(alloc: Global, left: FlatExpr) -> Result<Text, NoMemory> {
     shown(alloc, &m, &[1], PLACE)
 }
 
+fn large_derived(alloc: Global) -> Result<Text, NoMemory> {
+    let left = long_product(alloc, 3_800)?;
+    derived_once(alloc, left)
+}
+
 #[test]
-fn refuses_a_large_derivative(rt: HostRuntime) -> Result<(), Fail> {
-    let left = long_product(rt.alloc(), 3_800)?;
-    assert_eq!(rt; derived_once(rt.alloc(), left)?.as_str(), "44");
+fn refuses_a_large_derivative(rt: HostRuntime) -> Result<(), NoMemory> {
+    let found = large_derived(rt.alloc())?;
+    assert_eq!(rt; found.as_str(), "44");
     Ok(())
 }
 
 /// The derivative of a product of an unknown with itself, so often.
 fn large_carried(alloc: Global, count: u32) -> Result<Text, NoMemory> {
-    let mut m = model(alloc)?;
-    let inner = long_product(alloc, count)?;
+    let product = in_box(alloc, long_product(alloc, count));
+    let (mut m, product) = both(model(alloc), product)?;
     m.equations.push(FlatEquation {
-        left: FlatExpr::Der(Boxed::new(alloc, inner)?),
+        left: FlatExpr::Der(product),
         right: FlatExpr::Time,
         place: PLACE,
     })?;
@@ -143,8 +154,9 @@ fn large_carried(alloc: Global, count: u32) -> Result<Text, NoMemory> {
 }
 
 #[test]
-fn refuses_a_large_derivative_that_is_carried_out(rt: HostRuntime) -> Result<(), Fail> {
-    assert_eq!(rt; large_carried(rt.alloc(), 3_800)?.as_str(), "44");
+fn refuses_a_large_derivative_that_is_carried_out(rt: HostRuntime) -> Result<(), NoMemory> {
+    let found = large_carried(rt.alloc(), 3_800)?;
+    assert_eq!(rt; found.as_str(), "44");
     Ok(())
 }
 
@@ -157,14 +169,29 @@ fn nested(alloc: Global, count: u32) -> Result<FlatExpr, NoMemory> {
     Ok(e)
 }
 
+fn push_nest(alloc: Global, terms: &mut List<(bool, FlatExpr)>) -> Result<(), NoMemory> {
+    let nest = nested(alloc, 128)?;
+    terms.push((false, nest))
+}
+
+/// The sum of so many nests.
+fn sum_of_nests(alloc: Global, count: u32) -> Result<FlatExpr, NoMemory> {
+    let mut terms = List::new(alloc);
+    for _ in 0..count {
+        push_nest(alloc, &mut terms)?;
+    }
+    Ok(FlatExpr::Sum(terms))
+}
+
+fn many_derived(alloc: Global) -> Result<Text, NoMemory> {
+    let left = sum_of_nests(alloc, 900)?;
+    derived_once(alloc, left)
+}
+
 /// Each nest counts once in the derivative.
 #[test]
-fn reduces_many_nests(rt: HostRuntime) -> Result<(), Fail> {
-    let mut all = List::new(rt.alloc());
-    for _ in 0..900 {
-        all.push((false, nested(rt.alloc(), 128)?))?;
-    }
-    let text = derived_once(rt.alloc(), FlatExpr::Sum(all))?;
-    assert!(rt; text.as_str().len() > 1_000_000);
+fn reduces_many_nests(rt: HostRuntime) -> Result<(), NoMemory> {
+    let text = many_derived(rt.alloc())?;
+    assert!(&rt; text.as_str().len() > 1_000_000);
     Ok(())
 }
