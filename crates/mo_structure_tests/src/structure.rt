@@ -4,6 +4,7 @@
 mod assignments;
 mod blocks;
 mod checks;
+mod given;
 mod incidences;
 mod offsets;
 mod reports;

@@ -1,7 +1,10 @@
+use crate::structure::given::incidence_of;
 use mo_incidence::{Counted, Incidence};
 use mo_match::{Assigned, Work, assign, undetermined};
 use mo_ports::Steps;
-use std::test::Fail;
+use mo_syntax::NoMemory;
+use std::alloc::Global;
+use std::process::Abort;
 
 type Case<'a> = (
     u32,
@@ -50,34 +53,47 @@ const CASES: [Case; 5] = [
     (2, &[], Assigned::All, &[], &[], &[1, 2]),
 ];
 
+fn has_deficit(rt: &impl Abort, work: &Work, case: &Case) {
+    let (_, _, _, deficient, mentioned, _) = case;
+    assert!(rt; work.deficit().equations.as_slice() == *deficient);
+    assert!(rt; work.deficit().unknowns.as_slice() == *mentioned);
+}
+
+fn finds(
+    rt: &impl Abort,
+    alloc: Global,
+    incidence: &Incidence,
+    case: &Case,
+) -> Result<(), NoMemory> {
+    let (_, _, answer, _, _, loose) = case;
+    let (m, n, e) = (
+        incidence.equations(),
+        incidence.unknowns(),
+        incidence.entries(),
+    );
+    let mut work = Work::new(alloc, m, n, e)?;
+    let mut steps = Steps::new(());
+    let counted = Counted::new(incidence, &steps);
+    let found = assign(&counted, &mut work, &mut steps);
+    assert!(rt; found == *answer);
+    has_deficit(rt, &work, case);
+    match found {
+        Assigned::All => undetermined(incidence, &mut work),
+        Assigned::Missing(_) => {}
+    }
+    assert!(rt; work.loose() == *loose);
+    Ok(())
+}
+
+fn is_assigned(rt: &impl Abort, alloc: Global, case: &Case) -> Result<(), NoMemory> {
+    let incidence = incidence_of(alloc, case.0, case.1)?;
+    finds(rt, alloc, &incidence, case)
+}
+
 #[test]
-fn assignments_and_deficits_of_small_systems(rt: HostRuntime) -> Result<(), Fail> {
-    let alloc = rt.alloc();
-    for (unknowns, given, answer, deficient, mentioned, loose) in CASES {
-        let mut rows = Vec::new(alloc);
-        for row in given {
-            rows.push(row.to_vec(alloc)?)?;
-        }
-        let incidence = Incidence::from_rows(alloc, unknowns, &rows)
-            .ok()
-            .ok_or("rows")?;
-        let (m, n, e) = (
-            incidence.equations(),
-            incidence.unknowns(),
-            incidence.entries(),
-        );
-        let mut work = Work::new(alloc, m, n, e)?;
-        let mut steps = Steps::new(());
-        let counted = Counted::new(&incidence, &steps);
-        let found = assign(&counted, &mut work, &mut steps);
-        assert_eq!(rt; found, answer);
-        assert_eq!(rt; work.deficit().equations.as_slice(), deficient);
-        assert_eq!(rt; work.deficit().unknowns.as_slice(), mentioned);
-        match found {
-            Assigned::All => undetermined(&incidence, &mut work),
-            Assigned::Missing(_) => {}
-        }
-        assert_eq!(rt; work.loose(), loose);
+fn assignments_and_deficits_of_small_systems(rt: HostRuntime) -> Result<(), NoMemory> {
+    for case in &CASES {
+        is_assigned(&rt, rt.alloc(), case)?;
     }
     Ok(())
 }

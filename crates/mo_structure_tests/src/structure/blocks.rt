@@ -1,8 +1,10 @@
+use crate::structure::given::{incidence_of, lists_of, offsets_of};
 use mo_blocks::{blocks, dummies};
 use mo_certify::{blocks_hold, offsets_hold};
 use mo_incidence::{Blocks, Incidence, Offsets};
+use mo_syntax::{NoMemory, both};
 use std::alloc::Global;
-use std::test::Fail;
+use std::process::Abort;
 
 /// Unknowns, rows, offsets c and d, pairs, the blocks, and the dummies and states.
 type Case<'a> = (
@@ -91,96 +93,98 @@ const CASES: [Case; 6] = [
     (0, &[], &[], &[], &[], &[], &[], &[]),
 ];
 
-fn incidence_of(alloc: Global, unknowns: u32, given: &[&[(u32, u32)]]) -> Result<Incidence, Fail> {
-    let mut rows = Vec::new(alloc);
-    for row in given {
-        rows.push(row.to_vec(alloc)?)?;
-    }
-    Ok(
-        Incidence::from_rows(alloc, unknowns, &rows)
-            .ok()
-            .ok_or("rows")?,
-    )
-}
-
-fn lists_of(alloc: Global, given: &[&[u32]]) -> Result<Blocks, Fail> {
-    let mut lists = Vec::new(alloc);
-    for numbers in given {
-        lists.push(numbers.to_vec(alloc)?)?;
-    }
-    Ok(Blocks(lists))
-}
-
-fn offsets_of(alloc: Global, c: &[u32], d: &[u32], pairs: &[u32]) -> Result<Offsets, Fail> {
-    Ok(Offsets {
-        c: c.to_vec(alloc)?,
-        d: d.to_vec(alloc)?,
-        pairs: pairs.to_vec(alloc)?,
-    })
-}
-
-/// Whether the lists are right, and those that are found too.
-fn are_blocks(
-    alloc: Global,
-    incidence: &Incidence,
-    offsets: &Offsets,
-    right: &Blocks,
-) -> Result<bool, Fail> {
+/// Whether the blocks that are found are right.
+fn finds_blocks(alloc: Global, incidence: &Incidence, offsets: &Offsets) -> Result<bool, NoMemory> {
     if !offsets_hold(alloc, incidence, offsets)? || incidence.equations() != incidence.unknowns() {
-        return Err("offsets".into());
+        return Ok(false);
     }
     let found = blocks(alloc, incidence, offsets)?;
-    Ok(
-        blocks_hold(alloc, incidence, offsets, right)?
-            && blocks_hold(alloc, incidence, offsets, &found)?,
-    )
+    blocks_hold(alloc, incidence, offsets, &found)
 }
 
-/// Whether the dummies and states are these.
-fn are_dummies(
+/// Whether the dummies and states that are found are these.
+fn finds_dummies(
     alloc: Global,
     incidence: &Incidence,
     offsets: &Offsets,
     chosen: &[(u32, u32, u32, u32)],
     states: &[(u32, u32)],
-) -> Result<bool, Fail> {
+) -> Result<bool, NoMemory> {
     if !offsets_hold(alloc, incidence, offsets)? || incidence.equations() != incidence.unknowns() {
-        return Err("offsets".into());
+        return Ok(false);
     }
     let found = dummies(alloc, incidence, offsets)?;
     Ok(found.chosen.as_slice() == chosen && found.states.as_slice() == states)
 }
 
+/// Whether these lists are right.
+fn are_blocks(
+    alloc: Global,
+    incidence: &Incidence,
+    offsets: &Offsets,
+    given: &[&[u32]],
+) -> Result<bool, NoMemory> {
+    let lists: Blocks = lists_of(alloc, given)?;
+    blocks_hold(alloc, incidence, offsets, &lists)
+}
+
+fn holds(
+    rt: &impl Abort,
+    alloc: Global,
+    incidence: &Incidence,
+    offsets: &Offsets,
+    case: &Case,
+) -> Result<(), NoMemory> {
+    let (_, _, _, _, _, right, chosen, states) = case;
+    assert!(rt; are_blocks(alloc, incidence, offsets, right)?);
+    assert!(rt; finds_blocks(alloc, incidence, offsets)?);
+    assert!(rt; finds_dummies(alloc, incidence, offsets, chosen, states)?);
+    Ok(())
+}
+
+fn system(alloc: Global, case: &Case) -> Result<(Incidence, Offsets), NoMemory> {
+    let (unknowns, rows, c, d, pairs, _, _, _) = case;
+    let incidence = incidence_of(alloc, *unknowns, rows);
+    both(incidence, offsets_of(alloc, c, d, pairs))
+}
+
+fn is_ordered(rt: &impl Abort, alloc: Global, case: &Case) -> Result<(), NoMemory> {
+    let (incidence, offsets) = system(alloc, case)?;
+    holds(rt, alloc, &incidence, &offsets, case)
+}
+
 #[test]
-fn blocks_and_dummies_of_small_systems(rt: HostRuntime) -> Result<(), Fail> {
-    let alloc = rt.alloc();
-    for (unknowns, rows, c, d, pairs, right, chosen, states) in CASES {
-        let incidence = incidence_of(alloc, unknowns, rows)?;
-        let offsets = offsets_of(alloc, c, d, pairs)?;
-        let right = lists_of(alloc, right)?;
-        assert!(rt; are_blocks(alloc, &incidence, &offsets, &right)?);
-        assert!(rt; are_dummies(alloc, &incidence, &offsets, chosen, states)?);
+fn blocks_and_dummies_of_small_systems(rt: HostRuntime) -> Result<(), NoMemory> {
+    for case in &CASES {
+        is_ordered(&rt, rt.alloc(), case)?;
+    }
+    Ok(())
+}
+
+/// Lists that are no blocks of the second case.
+const WRONG: [&[&[u32]]; 6] = [
+    &[&[1, 2]],
+    &[&[1], &[2]],
+    &[&[2]],
+    &[&[2], &[1], &[]],
+    &[&[2], &[1, 1]],
+    &[],
+];
+
+fn are_wrong(
+    rt: &impl Abort,
+    alloc: Global,
+    incidence: &Incidence,
+    offsets: &Offsets,
+) -> Result<(), NoMemory> {
+    for lists in &WRONG {
+        assert!(rt; !are_blocks(alloc, incidence, offsets, lists)?);
     }
     Ok(())
 }
 
 #[test]
-fn other_lists_are_no_blocks(rt: HostRuntime) -> Result<(), Fail> {
-    let alloc = rt.alloc();
-    let (unknowns, rows, c, d, pairs, ..) = CASES[1];
-    let incidence = incidence_of(alloc, unknowns, rows)?;
-    let offsets = offsets_of(alloc, c, d, pairs)?;
-    let wrong: [&[&[u32]]; 6] = [
-        &[&[1, 2]],
-        &[&[1], &[2]],
-        &[&[2]],
-        &[&[2], &[1], &[]],
-        &[&[2], &[1, 1]],
-        &[],
-    ];
-    for lists in wrong {
-        let listed = lists_of(alloc, lists)?;
-        assert!(rt; !blocks_hold(alloc, &incidence, &offsets, &listed)?);
-    }
-    Ok(())
+fn other_lists_are_no_blocks(rt: HostRuntime) -> Result<(), NoMemory> {
+    let (incidence, offsets) = system(rt.alloc(), &CASES[1])?;
+    are_wrong(&rt, rt.alloc(), &incidence, &offsets)
 }

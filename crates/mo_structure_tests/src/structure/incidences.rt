@@ -1,42 +1,47 @@
+use crate::structure::given::{incidence_of, rows_of};
 use mo_flat::{FlatEquation, FlatExpr, FlatModel, FlatVar};
 use mo_incidence::{Incidence, RowsError, incidence};
-use mo_syntax::{Boxed, Broken, Kind, List, NoMemory, Place, RelOp, Role, Rule, Stop, Text, rules};
+use mo_syntax::{
+    Boxed, Kind, List, NoMemory, Place, RelOp, Role, Stop, Text, both, in_box, pair, pushed, rules,
+    single,
+};
 use std::alloc::Global;
-use std::test::Fail;
+use std::process::Abort;
 
-fn rows_of(
-    alloc: std::alloc::Global,
-    first: &[(u32, u32)],
-    second: &[(u32, u32)],
-) -> Result<Vec<Vec<(u32, u32)>>, Fail> {
-    let mut rows = Vec::new(alloc);
-    rows.push(first.to_vec(alloc)?)?;
-    rows.push(second.to_vec(alloc)?)?;
-    Ok(rows)
+fn has_counts(rt: &impl Abort, incidence: &Incidence) {
+    assert!(rt; incidence.equations() == 2);
+    assert!(rt; incidence.unknowns() == 3);
+    assert!(rt; incidence.entries() == 2);
+    assert!(rt; incidence.row_len(2) == 0);
+    assert!(rt; has_entry(incidence, 1, 1, (3, 2)));
 }
 
 #[test]
-fn rows_are_kept_or_refused(rt: HostRuntime) -> Result<(), Fail> {
-    let alloc = rt.alloc();
-    let kept = rows_of(alloc, &[(1, 0), (3, 2)], &[])?;
-    let incidence = Incidence::from_rows(alloc, 3, &kept).ok();
-    let incidence = incidence.ok_or("refused")?;
-    assert_eq!(rt; incidence.equations(), 2);
-    assert_eq!(rt; incidence.unknowns(), 3);
-    assert_eq!(rt; incidence.entries(), 2);
-    assert_eq!(rt; incidence.row_len(2), 0);
-    if incidence.row_len(1) == 2 {
-        assert_eq!(rt; incidence.entry(1, 1), (3, 2));
-    }
-    for wrong in [
-        [(2, 0), (2, 1)],
-        [(1, 0), (4, 0)],
-        [(0, 0), (1, 0)],
-        [(1, 65536), (2, 0)],
-    ] {
-        let rows = rows_of(alloc, &[], &wrong)?;
-        let answer = Incidence::from_rows(alloc, 3, &rows);
-        assert_eq!(rt; answer.err(), Some(RowsError::Unsound), "{wrong:?}");
+fn rows_are_kept(rt: HostRuntime) -> Result<(), NoMemory> {
+    let incidence = incidence_of(rt.alloc(), 3, &[&[(1, 0), (3, 2)], &[]])?;
+    has_counts(&rt, &incidence);
+    Ok(())
+}
+
+const UNSOUND: [&[(u32, u32)]; 4] = [
+    &[(2, 0), (2, 1)],
+    &[(1, 0), (4, 0)],
+    &[(0, 0), (1, 0)],
+    &[(1, 65536), (2, 0)],
+];
+
+fn is_unsound(alloc: Global, row: &[(u32, u32)]) -> Result<bool, NoMemory> {
+    let rows = rows_of(alloc, &[&[], row])?;
+    Ok(match Incidence::from_rows(alloc, 3, &rows) {
+        Ok(_) => false,
+        Err(error) => error == RowsError::Unsound,
+    })
+}
+
+#[test]
+fn rows_are_refused(rt: HostRuntime) -> Result<(), NoMemory> {
+    for row in &UNSOUND {
+        assert!(&rt; is_unsound(rt.alloc(), row)?);
     }
     Ok(())
 }
@@ -68,32 +73,46 @@ fn der(alloc: Global, times: u32, e: FlatExpr) -> Result<FlatExpr, NoMemory> {
     Ok(made)
 }
 
-fn pair(
-    alloc: Global,
-    first: FlatExpr,
-    minus: bool,
-    second: FlatExpr,
-) -> Result<List<(bool, FlatExpr)>, NoMemory> {
-    let mut made = List::new(alloc);
-    made.push((false, first))?;
-    made.push((minus, second))?;
-    Ok(made)
+/// Two variables, the second of which may be taken away.
+fn two(alloc: Global, v: u32, minus: bool, w: u32) -> Result<List<(bool, FlatExpr)>, NoMemory> {
+    pair(
+        alloc,
+        (false, FlatExpr::Var(v, 0)),
+        (minus, FlatExpr::Var(w, 0)),
+    )
+}
+
+fn product(alloc: Global, times: u32, v: u32, w: u32) -> Result<FlatExpr, NoMemory> {
+    let factors = two(alloc, v, false, w)?;
+    der(alloc, times, FlatExpr::Product(factors))
 }
 
 fn square(alloc: Global, v: u32) -> Result<FlatExpr, NoMemory> {
-    let base = Boxed::new(alloc, FlatExpr::Var(v, 0))?;
-    let exponent = Boxed::new(alloc, FlatExpr::Whole(2))?;
+    let base = Boxed::new(alloc, FlatExpr::Var(v, 0));
+    let (base, exponent) = both(base, Boxed::new(alloc, FlatExpr::Whole(2)))?;
     Ok(FlatExpr::Power(base, exponent))
 }
 
+fn squares(alloc: Global, v: u32, w: u32) -> Result<FlatExpr, NoMemory> {
+    let (first, second) = both(square(alloc, v), square(alloc, w))?;
+    Ok(FlatExpr::Sum(pair(alloc, (false, first), (false, second))?))
+}
+
+fn branch(
+    alloc: Global,
+    left: Result<FlatExpr, NoMemory>,
+    w: u32,
+) -> Result<List<(FlatExpr, FlatExpr)>, NoMemory> {
+    let zero = Boxed::new(alloc, FlatExpr::Whole(0));
+    let (left, zero) = both(in_box(alloc, left), zero)?;
+    let condition = FlatExpr::Relation(RelOp::Greater, left, zero);
+    single(alloc, (condition, FlatExpr::Var(w, 0)))
+}
+
 /// `if left > 0 then w else 1`
-fn choice(alloc: Global, left: FlatExpr, w: u32) -> Result<FlatExpr, NoMemory> {
-    let left = Boxed::new(alloc, left)?;
-    let right = Boxed::new(alloc, FlatExpr::Whole(0))?;
-    let condition = FlatExpr::Relation(RelOp::Greater, left, right);
-    let mut branches = List::new(alloc);
-    branches.push((condition, FlatExpr::Var(w, 0)))?;
-    let other = Boxed::new(alloc, FlatExpr::Whole(1))?;
+fn choice(alloc: Global, left: Result<FlatExpr, NoMemory>, w: u32) -> Result<FlatExpr, NoMemory> {
+    let other = Boxed::new(alloc, FlatExpr::Whole(1));
+    let (branches, other) = both(branch(alloc, left, w), other)?;
     Ok(FlatExpr::If(branches, other))
 }
 
@@ -102,32 +121,20 @@ fn tree(alloc: Global, shape: Shape) -> Result<FlatExpr, NoMemory> {
         Shape::Time => Ok(FlatExpr::Time),
         Shape::Var(v) => Ok(FlatExpr::Var(v, 0)),
         Shape::Der(times, v) => der(alloc, times, FlatExpr::Var(v, 0)),
-        Shape::DerProduct(times, v, w) => {
-            let factors = pair(alloc, FlatExpr::Var(v, 0), false, FlatExpr::Var(w, 0))?;
-            der(alloc, times, FlatExpr::Product(factors))
-        }
-        Shape::Difference(v, w) => Ok(FlatExpr::Sum(pair(
-            alloc,
-            FlatExpr::Var(v, 0),
-            true,
-            FlatExpr::Var(w, 0),
-        )?)),
-        Shape::SumOfSquares(v, w) => Ok(FlatExpr::Sum(pair(
-            alloc,
-            square(alloc, v)?,
-            false,
-            square(alloc, w)?,
-        )?)),
-        Shape::Choice(v, w) => choice(alloc, der(alloc, 1, FlatExpr::Var(v, 0))?, w),
-        Shape::DerChoice(v, w) => der(alloc, 1, choice(alloc, FlatExpr::Var(v, 0), w)?),
+        Shape::DerProduct(times, v, w) => product(alloc, times, v, w),
+        Shape::Difference(v, w) => Ok(FlatExpr::Sum(two(alloc, v, true, w)?)),
+        Shape::SumOfSquares(v, w) => squares(alloc, v, w),
+        Shape::Choice(v, w) => choice(alloc, der(alloc, 1, FlatExpr::Var(v, 0)), w),
+        Shape::DerChoice(v, w) => der(alloc, 1, choice(alloc, Ok(FlatExpr::Var(v, 0)), w)?),
     }
 }
 
 fn variable(alloc: Global, role: Role) -> Result<FlatVar, NoMemory> {
+    let (name, kind_text) = both(Text::from_str(alloc, "v"), Text::from_str(alloc, "Real"))?;
     Ok(FlatVar {
-        name: Text::from_str(alloc, "v")?,
+        name,
         kind: Kind::Real,
-        kind_text: Text::from_str(alloc, "Real")?,
+        kind_text,
         role,
         attributes: List::new(alloc),
         binding: None,
@@ -135,16 +142,25 @@ fn variable(alloc: Global, role: Role) -> Result<FlatVar, NoMemory> {
     })
 }
 
+fn variables(alloc: Global, roles: &[Role]) -> Result<List<FlatVar>, NoMemory> {
+    let mut vars = List::new(alloc);
+    for role in roles {
+        pushed(&mut vars, variable(alloc, *role))?;
+    }
+    Ok(vars)
+}
+
+fn equation(alloc: Global, row: &(u32, Shape, Shape)) -> Result<FlatEquation, NoMemory> {
+    let (byte, left, right) = *row;
+    let (left, right) = both(tree(alloc, left), tree(alloc, right))?;
+    let place = Place { file: 1, byte };
+    Ok(FlatEquation { left, right, place })
+}
+
 fn equations(alloc: Global, rows: &[(u32, Shape, Shape)]) -> Result<List<FlatEquation>, NoMemory> {
     let mut made = List::new(alloc);
-    for (byte, left, right) in rows {
-        let left = tree(alloc, *left)?;
-        let right = tree(alloc, *right)?;
-        let place = Place {
-            file: 1,
-            byte: *byte,
-        };
-        made.push(FlatEquation { left, right, place })?;
+    for row in rows {
+        pushed(&mut made, equation(alloc, row))?;
     }
     Ok(made)
 }
@@ -155,17 +171,15 @@ fn model(
     roles: &[Role],
     rows: &[(u32, Shape, Shape)],
 ) -> Result<FlatModel, NoMemory> {
-    let mut vars = List::new(alloc);
-    for role in roles {
-        vars.push(variable(alloc, *role)?)?;
-    }
+    let parts = both(variables(alloc, roles), equations(alloc, rows));
+    let ((vars, equations), name) = both(parts, Text::from_str(alloc, "M"))?;
     Ok(FlatModel {
-        name: Text::from_str(alloc, "M")?,
+        name,
         place: NAME,
         vars,
         first: List::new(alloc),
         first_asserts: List::new(alloc),
-        equations: equations(alloc, rows)?,
+        equations,
         asserts: List::new(alloc),
     })
 }
@@ -177,18 +191,33 @@ fn has_entry(incidence: &Incidence, row: u32, k: u32, entry: (u32, u32)) -> bool
     incidence.entry(row, k) == entry
 }
 
-/// Whether the incidence of a model has just these entries: row, place in the row, unknown and order.
-fn has_just(alloc: Global, m: &FlatModel, entries: &[(u32, u32, u32, u32)]) -> Result<bool, Stop> {
-    let found = incidence(alloc, m)?;
-    if found.entries() as usize != entries.len() {
-        return Ok(false);
-    }
+/// Row, place in the row, unknown and order.
+type Entry = (u32, u32, u32, u32);
+
+fn has_entries(found: &Incidence, entries: &[Entry]) -> bool {
     for (row, k, unknown, order) in entries {
-        if !has_entry(&found, *row, *k, (*unknown, *order)) {
-            return Ok(false);
+        if !has_entry(found, *row, *k, (*unknown, *order)) {
+            return false;
         }
     }
-    Ok(true)
+    found.entries() as usize == entries.len()
+}
+
+/// Whether the incidence of a model has just these entries.
+fn has_just(alloc: Global, m: &FlatModel, entries: &[Entry]) -> Result<bool, Stop> {
+    let found = incidence(alloc, m)?;
+    Ok(has_entries(&found, entries))
+}
+
+/// The same of the model with variables of these roles and these equations.
+fn gives(
+    alloc: Global,
+    roles: &[Role],
+    rows: &[(u32, Shape, Shape)],
+    entries: &[Entry],
+) -> Result<bool, Stop> {
+    let m = model(alloc, roles, rows)?;
+    has_just(alloc, &m, entries)
 }
 
 const U: Role = Role::Unknown;
@@ -204,7 +233,7 @@ const PENDULUM: &[(u32, Shape, Shape)] = &[
     (5, Shape::SumOfSquares(2, 3), Shape::SumOfSquares(1, 1)),
 ];
 
-const PENDULUM_ENTRIES: &[(u32, u32, u32, u32)] = &[
+const PENDULUM_ENTRIES: &[Entry] = &[
     (1, 0, 1, 1),
     (1, 1, 3, 0),
     (2, 0, 2, 1),
@@ -229,7 +258,7 @@ const RESISTOR: &[(u32, Shape, Shape)] = &[
     (6, Shape::Var(6), Shape::Var(7)),
 ];
 
-const RESISTOR_ENTRIES: &[(u32, u32, u32, u32)] = &[
+const RESISTOR_ENTRIES: &[Entry] = &[
     (1, 0, 1, 0),
     (1, 1, 3, 0),
     (1, 2, 5, 0),
@@ -253,7 +282,7 @@ const CORNERS: &[(u32, Shape, Shape)] = &[
     (5, Shape::Var(1), Shape::DerProduct(1, 3, 1)),
 ];
 
-const CORNER_ENTRIES: &[(u32, u32, u32, u32)] = &[
+const CORNER_ENTRIES: &[Entry] = &[
     (1, 0, 1, 0),
     (1, 1, 2, 0),
     (2, 0, 1, 40),
@@ -266,22 +295,24 @@ const CORNER_ENTRIES: &[(u32, u32, u32, u32)] = &[
 #[test]
 fn rows_are_those_of_the_model(rt: HostRuntime) -> Result<(), Stop> {
     let alloc = rt.alloc();
-    let pendulum = model(alloc, &[P, U, U, U, U, U], PENDULUM)?;
-    assert!(rt; has_just(alloc, &pendulum, PENDULUM_ENTRIES)?);
-    let resistor = model(alloc, &[U, U, U, U, U, U, P, P], RESISTOR)?;
-    assert!(rt; has_just(alloc, &resistor, RESISTOR_ENTRIES)?);
+    assert!(&rt; gives(alloc, &[P, U, U, U, U, U], PENDULUM, PENDULUM_ENTRIES)?);
+    assert!(&rt; gives(alloc, &[U, U, U, U, U, U, P, P], RESISTOR, RESISTOR_ENTRIES)?);
+    assert!(&rt; gives(alloc, &[U, U, Role::Given], &CORNERS[..4], CORNER_ENTRIES)?);
     Ok(())
+}
+
+/// The rule and the byte that the incidence of a model breaks.
+fn broken(alloc: Global, m: &FlatModel) -> (u8, u32) {
+    match incidence(alloc, m) {
+        Ok(_) => (0, 0),
+        Err(Stop::NoMemory) => (0, 1),
+        Err(Stop::Broken(broken)) => (broken.rule.number(), broken.place.byte),
+    }
 }
 
 #[test]
 fn given_variables_are_not_differentiated(rt: HostRuntime) -> Result<(), Stop> {
-    let alloc = rt.alloc();
-    let mut corners = model(alloc, &[U, U, Role::Given], CORNERS)?;
-    let stop = incidence(alloc, &corners).err();
-    let rule = Rule::new(rules::DERIVATIVE_OF_INPUT);
-    let place = Place { file: 1, byte: 5 };
-    assert_eq!(rt; stop, Some(Stop::Broken(Broken { rule, place })));
-    corners.equations = equations(alloc, &CORNERS[..4])?;
-    assert!(rt; has_just(alloc, &corners, CORNER_ENTRIES)?);
+    let m = model(rt.alloc(), &[U, U, Role::Given], CORNERS)?;
+    assert!(&rt; broken(rt.alloc(), &m) == (rules::DERIVATIVE_OF_INPUT, 5));
     Ok(())
 }

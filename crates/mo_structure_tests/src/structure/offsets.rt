@@ -1,8 +1,11 @@
+use crate::structure::given::incidence_of;
 use mo_incidence::{Counted, Incidence, Reason};
 use mo_match::{Assigned, Work, assign};
 use mo_pantelides::{offsets, reasons};
 use mo_ports::Steps;
-use std::test::Fail;
+use mo_syntax::NoMemory;
+use std::alloc::Global;
+use std::process::Abort;
 
 /// Unknowns, rows, the least offsets c and d, the least pairs, and the reasons.
 type Case<'a> = (
@@ -96,36 +99,48 @@ const CASES: [Case; 7] = [
     (1, &[], &[], &[0], &[], &[]),
 ];
 
+fn is_found(rt: &impl Abort, work: &Work, case: &Case) {
+    let (_, _, c, d, pairs, why) = case;
+    assert!(rt; work.offsets().c.as_slice() == *c);
+    assert!(rt; work.offsets().d.as_slice() == *d);
+    assert!(rt; work.offsets().pairs.as_slice() == *pairs);
+    assert!(rt; work.reasons() == *why);
+}
+
+fn finds(
+    rt: &impl Abort,
+    alloc: Global,
+    incidence: &Incidence,
+    case: &Case,
+) -> Result<(), NoMemory> {
+    let (m, n, e) = (
+        incidence.equations(),
+        incidence.unknowns(),
+        incidence.entries(),
+    );
+    let mut work = Work::new(alloc, m, n, e)?;
+    let mut steps = Steps::new(());
+    let counted = Counted::new(incidence, &steps);
+    match assign(&counted, &mut work, &mut steps) {
+        Assigned::All => {
+            offsets(&counted, &mut work, &mut steps);
+            reasons(incidence, &mut work);
+        }
+        Assigned::Missing(_) => return Err(NoMemory),
+    }
+    is_found(rt, &work, case);
+    Ok(())
+}
+
+fn has_offsets(rt: &impl Abort, alloc: Global, case: &Case) -> Result<(), NoMemory> {
+    let incidence = incidence_of(alloc, case.0, case.1)?;
+    finds(rt, alloc, &incidence, case)
+}
+
 #[test]
-fn offsets_of_small_systems(rt: HostRuntime) -> Result<(), Fail> {
-    let alloc = rt.alloc();
-    for (unknowns, given, c, d, pairs, why) in CASES {
-        let mut rows = Vec::new(alloc);
-        for row in given {
-            rows.push(row.to_vec(alloc)?)?;
-        }
-        let incidence = Incidence::from_rows(alloc, unknowns, &rows)
-            .ok()
-            .ok_or("rows")?;
-        let (m, n, e) = (
-            incidence.equations(),
-            incidence.unknowns(),
-            incidence.entries(),
-        );
-        let mut work = Work::new(alloc, m, n, e)?;
-        let mut steps = Steps::new(());
-        let counted = Counted::new(&incidence, &steps);
-        match assign(&counted, &mut work, &mut steps) {
-            Assigned::All => {
-                offsets(&counted, &mut work, &mut steps);
-                reasons(&incidence, &mut work);
-            }
-            Assigned::Missing(_) => return Err("singular".into()),
-        }
-        assert_eq!(rt; work.offsets().c.as_slice(), c);
-        assert_eq!(rt; work.offsets().d.as_slice(), d);
-        assert_eq!(rt; work.offsets().pairs.as_slice(), pairs);
-        assert_eq!(rt; work.reasons(), why);
+fn offsets_of_small_systems(rt: HostRuntime) -> Result<(), NoMemory> {
+    for case in &CASES {
+        has_offsets(&rt, rt.alloc(), case)?;
     }
     Ok(())
 }

@@ -1,10 +1,11 @@
+use crate::structure::given::{incidence_of, offsets_of};
 use mo_certify::offsets_hold;
 use mo_flat::{FlatExpr, FlatModel, FlatVar};
 use mo_incidence::{Incidence, Offsets};
 use mo_select::{select, selection_text};
-use mo_syntax::{Kind, List, Place, Role, Text};
+use mo_syntax::{Kind, List, NoMemory, Place, Role, Text, both, pushed, single};
 use std::alloc::Global;
-use std::test::Fail;
+use std::process::Abort;
 
 /// A system and what is selected of it.
 #[derive(Clone, Copy)]
@@ -87,15 +88,21 @@ const CASES: [Case; 4] = [
     },
 ];
 
-fn unknown(alloc: Global, name: &str, wanted: &str) -> Result<FlatVar, Fail> {
-    let mut attributes = List::new(alloc);
-    if !wanted.is_empty() {
-        attributes.push((9, FlatExpr::Literal(Text::from_str(alloc, wanted)?)))?;
+fn attributes(alloc: Global, wanted: &str) -> Result<List<(u8, FlatExpr)>, NoMemory> {
+    if wanted.is_empty() {
+        return Ok(List::new(alloc));
     }
+    let literal = FlatExpr::Literal(Text::from_str(alloc, wanted)?);
+    single(alloc, (9u8, literal))
+}
+
+fn unknown(alloc: Global, name: &str, wanted: &str) -> Result<FlatVar, NoMemory> {
+    let texts = both(Text::from_str(alloc, name), Text::from_str(alloc, "Real"));
+    let ((name, kind_text), attributes) = both(texts, attributes(alloc, wanted))?;
     Ok(FlatVar {
-        name: Text::from_str(alloc, name)?,
+        name,
         kind: Kind::Real,
-        kind_text: Text::from_str(alloc, "Real")?,
+        kind_text,
         role: Role::Unknown,
         attributes,
         binding: None,
@@ -103,22 +110,27 @@ fn unknown(alloc: Global, name: &str, wanted: &str) -> Result<FlatVar, Fail> {
     })
 }
 
-fn names(alloc: Global, unknowns: &[(&str, &str)]) -> Result<List<Text>, Fail> {
+fn names(alloc: Global, unknowns: &[(&str, &str)]) -> Result<List<Text>, NoMemory> {
     let mut names = List::new(alloc);
     for (name, _) in unknowns {
-        names.push(Text::from_str(alloc, name)?)?;
+        pushed(&mut names, Text::from_str(alloc, name))?;
     }
     Ok(names)
 }
 
-/// A model that has only its unknowns.
-fn model(alloc: Global, name: &str, unknowns: &[(&str, &str)]) -> Result<FlatModel, Fail> {
+fn variables(alloc: Global, unknowns: &[(&str, &str)]) -> Result<List<FlatVar>, NoMemory> {
     let mut vars = List::new(alloc);
     for (name, wanted) in unknowns {
-        vars.push(unknown(alloc, name, wanted)?)?;
+        pushed(&mut vars, unknown(alloc, name, wanted))?;
     }
+    Ok(vars)
+}
+
+/// A model that has only its unknowns.
+fn model(alloc: Global, name: &str, unknowns: &[(&str, &str)]) -> Result<FlatModel, NoMemory> {
+    let (name, vars) = both(Text::from_str(alloc, name), variables(alloc, unknowns))?;
     Ok(FlatModel {
-        name: Text::from_str(alloc, name)?,
+        name,
         place: Place { file: 1, byte: 0 },
         vars,
         first: List::new(alloc),
@@ -128,25 +140,6 @@ fn model(alloc: Global, name: &str, unknowns: &[(&str, &str)]) -> Result<FlatMod
     })
 }
 
-fn incidence_of(alloc: Global, unknowns: u32, given: &[&[(u32, u32)]]) -> Result<Incidence, Fail> {
-    let mut rows = Vec::new(alloc);
-    for row in given {
-        rows.push(row.to_vec(alloc)?)?;
-    }
-    Ok(
-        Incidence::from_rows(alloc, unknowns, &rows)
-            .ok()
-            .ok_or("rows")?,
-    )
-}
-
-fn offsets_of(alloc: Global, case: &Case) -> Result<Offsets, Fail> {
-    let c = case.c.to_vec(alloc)?;
-    let d = case.d.to_vec(alloc)?;
-    let pairs = case.pairs.to_vec(alloc)?;
-    Ok(Offsets { c, d, pairs })
-}
-
 /// The text of what is selected of a system.
 fn selected(
     alloc: Global,
@@ -154,29 +147,47 @@ fn selected(
     names: &[Text],
     incidence: &Incidence,
     offsets: &Offsets,
-) -> Result<Text, Fail> {
+) -> Result<Text, NoMemory> {
     if !offsets_hold(alloc, incidence, offsets)? {
-        return Err("offsets".into());
+        return Text::from_str(alloc, "no offsets");
     }
     let found = select(alloc, m, incidence, offsets)?;
-    Ok(selection_text(alloc, &m.name, names, offsets, &found)?)
+    selection_text(alloc, &m.name, names, offsets, &found)
+}
+
+fn system(alloc: Global, case: &Case) -> Result<(Incidence, Offsets), NoMemory> {
+    let unknowns = u32::try_from(case.unknowns.len()).unwrap_or(0);
+    let incidence = incidence_of(alloc, unknowns, case.rows);
+    both(incidence, offsets_of(alloc, case.c, case.d, case.pairs))
+}
+
+fn text_in(
+    alloc: Global,
+    case: &Case,
+    incidence: &Incidence,
+    offsets: &Offsets,
+) -> Result<Text, NoMemory> {
+    let m = model(alloc, case.name, case.unknowns);
+    let (m, names) = both(m, names(alloc, case.unknowns))?;
+    selected(alloc, &m, names.as_slice(), incidence, offsets)
 }
 
 /// The text of what is selected.
-fn text_of(alloc: Global, case: &Case) -> Result<Text, Fail> {
-    let unknowns = u32::try_from(case.unknowns.len()).ok().ok_or("unknowns")?;
-    let m = model(alloc, case.name, case.unknowns)?;
-    let names = names(alloc, case.unknowns)?;
-    let incidence = incidence_of(alloc, unknowns, case.rows)?;
-    let offsets = offsets_of(alloc, case)?;
-    selected(alloc, &m, names.as_slice(), &incidence, &offsets)
+fn text_of(alloc: Global, case: &Case) -> Result<Text, NoMemory> {
+    let (incidence, offsets) = system(alloc, case)?;
+    text_in(alloc, case, &incidence, &offsets)
+}
+
+fn is_told(rt: &impl Abort, alloc: Global, case: &Case) -> Result<(), NoMemory> {
+    let text = text_of(alloc, case)?;
+    assert_eq!(rt; text.as_str(), case.text);
+    Ok(())
 }
 
 #[test]
-fn states_by_state_select(rt: HostRuntime) -> Result<(), Fail> {
+fn states_by_state_select(rt: HostRuntime) -> Result<(), NoMemory> {
     for case in &CASES {
-        let text = text_of(rt.alloc(), case)?;
-        assert_eq!(rt; text.as_str(), case.text);
+        is_told(&rt, rt.alloc(), case)?;
     }
     Ok(())
 }

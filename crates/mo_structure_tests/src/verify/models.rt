@@ -1,7 +1,6 @@
 use mo_flat::{FlatEquation, FlatExpr, FlatModel, FlatVar};
-use mo_syntax::{Kind, List, Place, Role, Text};
+use mo_syntax::{Kind, List, NoMemory, Place, Role, Text, both, pushed};
 use std::alloc::Global;
-use std::test::Fail;
 
 /// A model by the entries of its equations, each an unknown and the order at which it stands there.
 #[derive(Clone, Copy)]
@@ -11,11 +10,12 @@ pub(crate) struct Given<'a> {
     pub(crate) rows: &'a [&'a [(u32, u32)]],
 }
 
-fn unknown(alloc: Global, name: &str) -> Result<FlatVar, Fail> {
+fn unknown(alloc: Global, name: &str) -> Result<FlatVar, NoMemory> {
+    let (name, kind_text) = both(Text::from_str(alloc, name), Text::from_str(alloc, "Real"))?;
     Ok(FlatVar {
-        name: Text::from_str(alloc, name)?,
+        name,
         kind: Kind::Real,
-        kind_text: Text::from_str(alloc, "Real")?,
+        kind_text,
         role: Role::Unknown,
         attributes: List::new(alloc),
         binding: None,
@@ -24,7 +24,7 @@ fn unknown(alloc: Global, name: &str) -> Result<FlatVar, Fail> {
 }
 
 // The sum of the entries is 0.
-fn equation(alloc: Global, row: &[(u32, u32)]) -> Result<FlatEquation, Fail> {
+fn equation(alloc: Global, row: &[(u32, u32)]) -> Result<FlatEquation, NoMemory> {
     let mut terms = List::new(alloc);
     for (unknown, order) in row {
         terms.push((false, FlatExpr::Var(*unknown, *order)))?;
@@ -36,17 +36,28 @@ fn equation(alloc: Global, row: &[(u32, u32)]) -> Result<FlatEquation, Fail> {
     })
 }
 
-pub(crate) fn model_of(alloc: Global, given: Given) -> Result<FlatModel, Fail> {
+fn unknowns_of(alloc: Global, names: &[&str]) -> Result<List<FlatVar>, NoMemory> {
     let mut vars = List::new(alloc);
-    for name in given.unknowns {
-        vars.push(unknown(alloc, name)?)?;
+    for name in names {
+        pushed(&mut vars, unknown(alloc, name))?;
     }
+    Ok(vars)
+}
+
+fn equations_of(alloc: Global, rows: &[&[(u32, u32)]]) -> Result<List<FlatEquation>, NoMemory> {
     let mut equations = List::new(alloc);
-    for row in given.rows {
-        equations.push(equation(alloc, row)?)?;
+    for row in rows {
+        pushed(&mut equations, equation(alloc, row))?;
     }
+    Ok(equations)
+}
+
+pub(crate) fn model_of(alloc: Global, given: &Given) -> Result<FlatModel, NoMemory> {
+    let vars = unknowns_of(alloc, given.unknowns);
+    let parts = both(vars, equations_of(alloc, given.rows));
+    let ((vars, equations), name) = both(parts, Text::from_str(alloc, given.name))?;
     Ok(FlatModel {
-        name: Text::from_str(alloc, given.name)?,
+        name,
         place: Place { file: 1, byte: 0 },
         vars,
         first: List::new(alloc),

@@ -2,9 +2,10 @@ use crate::verify::models::{Given, model_of};
 use crate::verify::sound::is_sound_model;
 use mo_flat::FlatModel;
 use mo_incidence::incidence;
+use mo_syntax::NoMemory;
 use mo_verify::{Verdict, verify};
 use std::alloc::Global;
-use std::test::Fail;
+use std::process::Abort;
 
 /// The pendulum: x, y, vx, vy and the force.
 const PENDULUM: Given = Given {
@@ -56,7 +57,7 @@ const ONE_REPORT: &str =
     "report M\nequations 1 unknowns 2\nequation 1 c 0 pairs x order 0\nunknown x d 0\nunknown y d 0\nundetermined x\nundetermined y\n";
 
 // What is answered, in words.
-fn shown(alloc: Global, verdict: &Verdict) -> Result<String, Fail> {
+fn shown(alloc: Global, verdict: &Verdict) -> Result<String, NoMemory> {
     Ok(match verdict {
         Verdict::Yes => format!(in alloc; "yes")?,
         Verdict::Admissible => format!(in alloc; "admissible")?,
@@ -81,7 +82,7 @@ fn shown(alloc: Global, verdict: &Verdict) -> Result<String, Fail> {
     })
 }
 
-fn numbers_shown(alloc: Global, verdict: &Verdict) -> Result<String, Fail> {
+fn numbers_shown(alloc: Global, verdict: &Verdict) -> Result<String, NoMemory> {
     Ok(match verdict {
         Verdict::Order {
             equation,
@@ -208,38 +209,56 @@ const CASES: [Case; 18] = [
 ];
 
 // What is answered on a text, in words. Models that are not sound or have no incidence get none.
-fn verdict_on(alloc: Global, model: &FlatModel, text: &str) -> Result<String, Fail> {
+fn verdict_on(alloc: Global, model: &FlatModel, text: &str) -> Result<String, NoMemory> {
     if !is_sound_model(model) || text.len() > 67_108_864 {
         return Ok(format!(in alloc; "no sound model")?);
     }
     match incidence(alloc, model) {
-        Ok(_) => shown(alloc, &verify(alloc, model, text.as_bytes())?),
+        Ok(_) => {
+            let verdict = verify(alloc, model, text.as_bytes())?;
+            shown(alloc, &verdict)
+        }
         Err(_) => Ok(format!(in alloc; "no incidence")?),
     }
 }
 
-#[test]
-fn verdicts_on_reports(rt: HostRuntime) -> Result<(), Fail> {
-    let alloc = rt.alloc();
-    for (given, report, old, new, wanted) in CASES {
-        let model = model_of(alloc, given)?;
-        let text = report.replacen(alloc, old, new, 1)?;
-        assert_eq!(rt; verdict_on(alloc, &model, text.as_str())?.as_str(), wanted);
-    }
+fn verdict_of(alloc: Global, given: &Given, text: &str) -> Result<String, NoMemory> {
+    let model = model_of(alloc, given)?;
+    verdict_on(alloc, &model, text)
+}
+
+fn found_of(alloc: Global, case: &Case) -> Result<String, NoMemory> {
+    let text = case.1.replacen(alloc, case.2, case.3, 1)?;
+    verdict_of(alloc, &case.0, text.as_str())
+}
+
+fn is_told(rt: &impl Abort, alloc: Global, case: &Case) -> Result<(), NoMemory> {
+    let found = found_of(alloc, case)?;
+    assert_eq!(rt; found.as_str(), case.4);
     Ok(())
 }
 
 #[test]
-fn two_equations_with_one_unknown(rt: HostRuntime) -> Result<(), Fail> {
-    let alloc = rt.alloc();
-    let given = Given {
-        name: "M",
-        unknowns: &["x", "y"],
-        rows: &[&[(1, 0), (2, 0)], &[(1, 0), (2, 0)]],
-    };
-    let report =
-        "report M\nequations 2 unknowns 2\nequation 1 c 0 pairs y order 0\nequation 2 c 0 pairs y order 0\nunknown x d 0\nunknown y d 0\n";
-    let model = model_of(alloc, given)?;
-    assert_eq!(rt; verdict_on(alloc, &model, report)?.as_str(), "twice 1 2: 2");
+fn verdicts_on_reports(rt: HostRuntime) -> Result<(), NoMemory> {
+    for case in &CASES {
+        is_told(&rt, rt.alloc(), case)?;
+    }
+    Ok(())
+}
+
+/// Two equations in two unknowns.
+const TWICE: Given = Given {
+    name: "M",
+    unknowns: &["x", "y"],
+    rows: &[&[(1, 0), (2, 0)], &[(1, 0), (2, 0)]],
+};
+
+const TWICE_REPORT: &str =
+    "report M\nequations 2 unknowns 2\nequation 1 c 0 pairs y order 0\nequation 2 c 0 pairs y order 0\nunknown x d 0\nunknown y d 0\n";
+
+#[test]
+fn two_equations_with_one_unknown(rt: HostRuntime) -> Result<(), NoMemory> {
+    let found = verdict_of(rt.alloc(), &TWICE, TWICE_REPORT)?;
+    assert_eq!(rt; found.as_str(), "twice 1 2: 2");
     Ok(())
 }
