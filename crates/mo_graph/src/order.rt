@@ -9,11 +9,11 @@ ghost use Rattle.mo_graph.specs.steps.Placing.{IsLed, HasRanks, AreOrdered};
 
 use crate::edges::Edges;
 use crate::finish::finish_order;
-use crate::gather::gather;
+use crate::gather::{Finished, gather};
 use crate::leaders::{find_leaders, replace};
 use crate::list::list_blocks;
 use crate::place::place_all;
-use crate::threads::thread;
+use crate::threads::{Incoming, Outgoing, thread};
 use mo_syntax::NoMemory;
 use std::alloc::Global;
 
@@ -33,9 +33,12 @@ fn find_order(
     let mut path = vec![in alloc; 0; m]?;
     let mut mark = vec![in alloc; 0; m]?;
     let mut order = vec![in alloc; 0; m]?;
-    let count = finish_order(
-        sources, targets, &before, &mut path, &mut mark, &mut last, &mut order,
-    );
+    let edges = Outgoing {
+        sources,
+        targets,
+        before: &before,
+    };
+    let count = finish_order(&edges, &mut path, &mut mark, &mut last, &mut order);
     Ok((order, count))
 }
 
@@ -55,9 +58,17 @@ fn find_classes(
     thread(targets, &mut last, &mut before);
     let mut class = vec![in alloc; 0; m]?;
     let mut queue = vec![in alloc; 0; m]?;
-    gather(
-        sources, targets, &last, &before, &order, count, &mut class, &mut queue,
-    );
+    let edges = Incoming {
+        sources,
+        targets,
+        last: &last,
+        before: &before,
+    };
+    let finished = Finished {
+        order: &order,
+        count,
+    };
+    gather(&edges, &finished, &mut class, &mut queue);
     Ok(class)
 }
 
@@ -103,17 +114,13 @@ fn place(
     let mut order = vec![in alloc; 0; m]?;
     let mut placed = vec![in alloc; 0; m]?;
     let mut waits = vec![in alloc; 0; m]?;
-    let count = place_all(
-        alloc,
+    let edges = Incoming {
         sources,
         targets,
-        &last,
-        &before,
-        leader,
-        &mut order,
-        &mut placed,
-        &mut waits,
-    )?;
+        last: &last,
+        before: &before,
+    };
+    let count = place_all(alloc, &edges, leader, &mut order, &mut placed, &mut waits)?;
     Ok((placed, count))
 }
 

@@ -20,21 +20,21 @@ pub bounds-path-top-then-mark-target-eq0 : goal.bounds-path-top-then-mark-target
 bounds-path-top-then-mark-target-eq0 c =
     let next = slice_index_or c.loop-top.cursor (slice_index_or c.loop-top.path (c.loop-top.top - 1) 0) 0 in
     let edge = next_edge _ _ _ _ _ _ _ _ c.loop-top.invariant.walk _ c.if-next-eq0.false in
-    let wm : slice_index_or c.args.targets.now (next - 1) 0 < length c.loop-top.mark = omega (arith, c.requires.graph.target (next - 1) edge.0) in
+    let wm : slice_index_or c.args.edges.now.targets.now (next - 1) 0 < length c.loop-top.mark = omega (arith, c.requires.graph.target (next - 1) edge.0) in
     omega (arith, path_room _ _ _ _ _ _ _ _ c.loop-top.invariant.walk _ wm c.if-mark-target-eq0.true)
 
 pub loop-top-smaller-then-mark-target-eq0 : goal.loop-top-smaller-then-mark-target-eq0
 loop-top-smaller-then-mark-target-eq0 c =
     let next = slice_index_or c.loop-top.cursor (slice_index_or c.loop-top.path (c.loop-top.top - 1) 0) 0 in
     let edge = next_edge _ _ _ _ _ _ _ _ c.loop-top.invariant.walk _ c.if-next-eq0.false in
-    let wm : slice_index_or c.args.targets.now (next - 1) 0 < length c.loop-top.mark = omega (arith, c.requires.graph.target (next - 1) edge.0) in
+    let wm : slice_index_or c.args.edges.now.targets.now (next - 1) 0 < length c.loop-top.mark = omega (arith, c.requires.graph.target (next - 1) edge.0) in
     enter_less _ _ _ _ _ _ _ _ c.loop-top.invariant.walk _ wm c.if-mark-target-eq0.true
 
 pub loop-top-preserved-then-mark-target-eq0 : goal.loop-top-preserved-then-mark-target-eq0
 loop-top-preserved-then-mark-target-eq0 c =
     let next = slice_index_or c.loop-top.cursor (slice_index_or c.loop-top.path (c.loop-top.top - 1) 0) 0 in
     let edge = next_edge _ _ _ _ _ _ _ _ c.loop-top.invariant.walk _ c.if-next-eq0.false in
-    let wm : slice_index_or c.args.targets.now (next - 1) 0 < length c.loop-top.mark = omega (arith, c.requires.graph.target (next - 1) edge.0) in
+    let wm : slice_index_or c.args.edges.now.targets.now (next - 1) 0 < length c.loop-top.mark = omega (arith, c.requires.graph.target (next - 1) edge.0) in
     record {
       walk = walks_enter _ _ _ _ _ _ _ _ c.loop-top.invariant.walk _ wm c.if-mark-target-eq0.true (λ _. edge.1);
       root = kept_by c.loop-top.mark _ c.args.root wm c.loop-top.invariant.root;

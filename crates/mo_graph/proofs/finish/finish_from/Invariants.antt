@@ -4,7 +4,7 @@ use Rattle.mo_graph.proofs.finish.finish_from.Given as goal
 
 abbrev pub invariant-loop-top : goal.invariant-loop-top
 invariant-loop-top l = record {
-  walk : Walks (length l.mark) l._sources l.targets l.path l.mark l.cursor l.order l.top l.count;
+  walk : Walks (length l.mark) l.edges.sources.now l.edges.targets.now l.path l.mark l.cursor l.order l.top l.count;
   root : slice_index l.mark l.root ≢ 0;
   kept : (v : ℕ) → slice_index l.fn.mark v ≢ 0 → slice_index l.mark v ≢ 0;
 }

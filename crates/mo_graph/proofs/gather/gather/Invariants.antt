@@ -4,8 +4,8 @@ use Rattle.mo_graph.proofs.gather.gather.Given as goal
 
 abbrev pub invariant-loop-left : goal.invariant-loop-left
 invariant-loop-left l = record {
-  gathered : IsGathered (length l.class) l.sources l.targets l.order l.count l.class l.queue l.tail l.tail l.tail l.number l.left;
-  left : l.left ≤ l.count;
+  gathered : IsGathered (length l.class) l.edges.sources.now l.edges.targets.now l.finished.order.now l.finished.count l.class l.queue l.tail l.tail l.tail l.number l.left;
+  left : l.left ≤ l.finished.count;
 }
 
 abbrev pub decreases-loop-left : goal.decreases-loop-left

@@ -4,8 +4,8 @@ use Rattle.mo_graph.proofs.gather.gather_from.Given as goal
 
 abbrev pub invariant-loop-head : goal.invariant-loop-head
 invariant-loop-head l = record {
-  gathered : IsGathered (length l.class) l.sources l.targets l.order l.count l.class l.queue l.base l.head l.tail l.number l.place;
-  some : l.base < l.tail;
+  gathered : IsGathered (length l.class) l.edges.sources.now l.edges.targets.now l.finished.order.now l.finished.count l.class l.queue l.turn.base l.head l.tail l.turn.number l.turn.place;
+  some : l.turn.base < l.tail;
 }
 
 abbrev pub decreases-loop-head : goal.decreases-loop-head

@@ -33,4 +33,4 @@ returns-clause-gathered c =
     let finished = rw same at c.requires.finished in
     let zero_here : c.loop-cursor.cursor ≡ 0 = omega arith in
     let seen = rw zero_here at w.seen in
-    gather_next _ _ _ _ _ finished _ _ _ _ _ _ _ w.gathered (omega arith) (λ u there. seen_all c.args.sources.now c.args._targets.now _ _ u c.requires.graph.same seen (rw w.head at there))
+    gather_next _ _ _ _ _ finished _ _ _ _ _ _ _ w.gathered (omega arith) (λ u there. seen_all c.args.edges.now.sources.now c.args.edges.now.targets.now _ _ u c.requires.graph.same seen (rw w.head at there))
