@@ -51,72 +51,72 @@ module _ (said : List (Option Alias)) where
   first_colours e new root sign marked = (
     within root (root new.alias.left),
     record {
-      kept = λ f u v minus below s ne. kept-by f u v minus s ne below;
-      turned = λ u v minus s. ends_of e new.alias new.is (λ p q. within root (root new.alias.left) p ≡ not (within root (root new.alias.left) q)) (left-is ∙ ap not (sym right-is)) (right-is ∙ ap not (sym left-is)) u v minus s;
+      kept = λ f u v minus below s ne. kept_by f u v minus s ne below;
+      turned = λ u v minus s. ends_of e new.alias new.is (λ p q. within root (root new.alias.left) p ≡ not (within root (root new.alias.left) q)) (left_is ∙ ap not (sym right_is)) (right_is ∙ ap not (sym left_is)) u v minus s;
     },
   )
     where
       apart : root new.alias.right ≡ root new.alias.left → ⊥
       apart same = let j = root_joins said e root sign marked new.alias.left new.alias.right (sym same) in new.apart _ j.0 j.1
 
-      left-is : within root (root new.alias.left) new.alias.left ≡ true
-      left-is = eq-eqb (root new.alias.left) (root new.alias.left) refl
+      left_is : within root (root new.alias.left) new.alias.left ≡ true
+      left_is = eq-eqb (root new.alias.left) (root new.alias.left) refl
 
-      right-is : within root (root new.alias.left) new.alias.right ≡ false
-      right-is = ne_eqb (root new.alias.right) (root new.alias.left) apart
+      right_is : within root (root new.alias.left) new.alias.right ≡ false
+      right_is = ne_eqb (root new.alias.right) (root new.alias.left) apart
 
-      kept-by : (f u v : ℕ) (minus : Bool) → Says said f u v minus → (f ≡ e → ⊥) → IsLinkBelow said e f ⊎ (f ≡ e) × IsNew said (IsLinkBelow said e) e
+      kept_by : (f u v : ℕ) (minus : Bool) → Says said f u v minus → (f ≡ e → ⊥) → IsLinkBelow said e f ⊎ (f ≡ e) × IsNew said (IsLinkBelow said e) e
           → within root (root new.alias.left) u ≡ within root (root new.alias.left) v
-      kept-by f u v minus s ne (inl below) = ap (λ w. eqb w (root new.alias.left)) (marked.links f u v minus below s).0
-      kept-by f u v minus s ne (inr at) = absurd (ne at.0)
+      kept_by f u v minus s ne (inl below) = ap (λ w. eqb w (root new.alias.left)) (marked.links f u v minus below s).0
+      kept_by f u v minus s ne (inr at) = absurd (ne at.0)
 
   module _ (e k : ℕ) (low : e < k) (colour : ℕ → Bool) (colours : AreColours said k e colour) where
     -- an equation that is no link changes nothing
-    still-colours : (IsNew said (IsLinkBelow said k) k → ⊥) → AreColours said (suc k) e colour
-    still-colours never = record { kept = λ f u v minus below s ne. kept-by f u v minus s ne below; turned = colours.turned }
+    still_colours : (IsNew said (IsLinkBelow said k) k → ⊥) → AreColours said (suc k) e colour
+    still_colours never = record { kept = λ f u v minus below s ne. kept_by f u v minus s ne below; turned = colours.turned }
       where
-        kept-by : (f u v : ℕ) (minus : Bool) → Says said f u v minus → (f ≡ e → ⊥) → IsLinkBelow said k f ⊎ (f ≡ k) × IsNew said (IsLinkBelow said k) k → colour u ≡ colour v
-        kept-by f u v minus s ne (inl below) = colours.kept f u v minus below s ne
-        kept-by f u v minus s ne (inr at) = absurd (never at.1)
+        kept_by : (f u v : ℕ) (minus : Bool) → Says said f u v minus → (f ≡ e → ⊥) → IsLinkBelow said k f ⊎ (f ≡ k) × IsNew said (IsLinkBelow said k) k → colour u ≡ colour v
+        kept_by f u v minus s ne (inl below) = colours.kept f u v minus below s ne
+        kept_by f u v minus s ne (inr at) = absurd (never at.1)
 
     -- a later link: the tree of its right unknown is turned where the colours differ
     module _ (is-link : IsLinkBelow said k e) (root : ℕ → ℕ) (sign : ℕ → Bool) (marked : IsMarked said k root sign) (a : Alias) (is : get_or said k None ≡ Some a) (apart : root a.left ≡ root a.right → ⊥) where
       abbrev after : ℕ → Bool
       after = flipped root colour (sign_product (colour a.left) (colour a.right)) (root a.right)
 
-      after-in : (u : ℕ) → root u ≡ root a.right → after u ≡ sign_product (sign_product (colour a.left) (colour a.right)) (colour u)
-      after-in u same = rw (eq-eqb (root u) (root a.right) same) refl
+      after_in : (u : ℕ) → root u ≡ root a.right → after u ≡ sign_product (sign_product (colour a.left) (colour a.right)) (colour u)
+      after_in u same = rw (eq-eqb (root u) (root a.right) same) refl
 
-      after-out : (u : ℕ) → (root u ≡ root a.right → ⊥) → after u ≡ colour u
-      after-out u ne = rw (ne_eqb (root u) (root a.right) ne) refl
+      after_out : (u : ℕ) → (root u ≡ root a.right → ⊥) → after u ≡ colour u
+      after_out u ne = rw (ne_eqb (root u) (root a.right) ne) refl
 
-      one-place : (f u v : ℕ) (minus : Bool) → IsLinkBelow said k f → Says said f u v minus → root u ≡ root v
-      one-place f u v minus below s = (marked.links f u v minus below s).0
+      one_place : (f u v : ℕ) (minus : Bool) → IsLinkBelow said k f → Says said f u v minus → root u ≡ root v
+      one_place f u v minus below s = (marked.links f u v minus below s).0
 
-      same-after : (u v : ℕ) → root u ≡ root v → colour u ≡ colour v → after u ≡ after v
-      same-after u v r c = elim (cases_eq (root u) (root a.right)) [
-        | inl here ↦ after-in u here ∙ flip_same (sign_product (colour a.left) (colour a.right)) (colour u) (colour v) c ∙ sym (after-in v (sym r ∙ here))
-        | inr out ↦ after-out u out ∙ c ∙ sym (after-out v (λ f. out (r ∙ f)))
+      same_after : (u v : ℕ) → root u ≡ root v → colour u ≡ colour v → after u ≡ after v
+      same_after u v r c = elim (cases_eq (root u) (root a.right)) [
+        | inl here ↦ after_in u here ∙ flip_same (sign_product (colour a.left) (colour a.right)) (colour u) (colour v) c ∙ sym (after_in v (sym r ∙ here))
+        | inr out ↦ after_out u out ∙ c ∙ sym (after_out v (λ f. out (r ∙ f)))
       ]
 
-      not-after : (u v : ℕ) → root u ≡ root v → colour u ≡ not (colour v) → after u ≡ not (after v)
-      not-after u v r c = elim (cases_eq (root u) (root a.right)) [
-        | inl here ↦ after-in u here ∙ flip_not (sign_product (colour a.left) (colour a.right)) (colour u) (colour v) c ∙ ap not (sym (after-in v (sym r ∙ here)))
-        | inr out ↦ after-out u out ∙ c ∙ ap not (sym (after-out v (λ f. out (r ∙ f))))
+      not_after : (u v : ℕ) → root u ≡ root v → colour u ≡ not (colour v) → after u ≡ not (after v)
+      not_after u v r c = elim (cases_eq (root u) (root a.right)) [
+        | inl here ↦ after_in u here ∙ flip_not (sign_product (colour a.left) (colour a.right)) (colour u) (colour v) c ∙ ap not (sym (after_in v (sym r ∙ here)))
+        | inr out ↦ after_out u out ∙ c ∙ ap not (sym (after_out v (λ f. out (r ∙ f))))
       ]
 
-      ends-after : after a.left ≡ after a.right
-      ends-after = after-out a.left apart ∙ difference (colour a.left) (colour a.right) ∙ sym (after-in a.right refl)
+      ends_after : after a.left ≡ after a.right
+      ends_after = after_out a.left apart ∙ difference (colour a.left) (colour a.right) ∙ sym (after_in a.right refl)
 
-      next-colours : AreColours said (suc k) e after
-      next-colours = record {
-        kept = λ f u v minus below s ne. kept-by f u v minus s ne below;
-        turned = λ u v minus s. not-after u v (one-place e u v minus is-link s) (colours.turned u v minus s);
+      next_colours : AreColours said (suc k) e after
+      next_colours = record {
+        kept = λ f u v minus below s ne. kept_by f u v minus s ne below;
+        turned = λ u v minus s. not_after u v (one_place e u v minus is-link s) (colours.turned u v minus s);
       }
         where
-          kept-by : (f u v : ℕ) (minus : Bool) → Says said f u v minus → (f ≡ e → ⊥) → IsLinkBelow said k f ⊎ (f ≡ k) × IsNew said (IsLinkBelow said k) k → after u ≡ after v
-          kept-by f u v minus s ne (inl below) = same-after u v (one-place f u v minus below s) (colours.kept f u v minus below s ne)
-          kept-by f u v minus s ne (inr at) = ends_of k a is (λ p q. after p ≡ after q) ends-after (sym ends-after) u v minus (subst (λ w. Says said w u v minus) at.0 s)
+          kept_by : (f u v : ℕ) (minus : Bool) → Says said f u v minus → (f ≡ e → ⊥) → IsLinkBelow said k f ⊎ (f ≡ k) × IsNew said (IsLinkBelow said k) k → after u ≡ after v
+          kept_by f u v minus s ne (inl below) = same_after u v (one_place f u v minus below s) (colours.kept f u v minus below s ne)
+          kept_by f u v minus s ne (inr at) = ends_of k a is (λ p q. after p ≡ after q) ends_after (sym ends_after) u v minus (subst (λ w. Says said w u v minus) at.0 s)
 
   -- two colours for each link
   pub colours_at : (n e : ℕ) → IsLinkBelow said n e → (colour : ℕ → Bool) × AreColours said n e colour
@@ -132,29 +132,29 @@ module _ (said : List (Option Alias)) where
 
       joining : (colour : ℕ → Bool) → AreColours said k e colour → (root : ℕ → ℕ) (sign : ℕ → Bool) → IsMarked said k root sign → (a : Alias) → get_or said k None ≡ Some a
           → (root a.left ≡ root a.right) ⊎ (root a.left ≡ root a.right → ⊥) → (colour : ℕ → Bool) × AreColours said (suc k) e colour
-      joining colour colours root sign marked a is (inl same) = (colour, still-colours e k low colour colours (closed_apart said k root sign marked a is same))
-      joining colour colours root sign marked a is (inr apart) = (_, next-colours e k low colour colours below root sign marked a is apart)
+      joining colour colours root sign marked a is (inl same) = (colour, still_colours e k low colour colours (closed_apart said k root sign marked a is same))
+      joining colour colours root sign marked a is (inr apart) = (_, next_colours e k low colour colours below root sign marked a is apart)
 
       next : (colour : ℕ → Bool) → AreColours said k e colour → (root : ℕ → ℕ) (sign : ℕ → Bool) → IsMarked said k root sign → (o : Option Alias) → get_or said k None ≡ o
           → (colour : ℕ → Bool) × AreColours said (suc k) e colour
-      next colour colours root sign marked None is = (colour, still-colours e k low colour colours (no_alias said k is))
+      next colour colours root sign marked None is = (colour, still_colours e k low colour colours (no_alias said k is))
       next colour colours root sign marked (Some a) is = joining colour colours root sign marked a is (cases_eq (root a.left) (root a.right))
 
   module _ (n e : ℕ) (colour : ℕ → Bool) (colours : AreColours said n e colour) where
     -- along a chain without the link
-    colour-kept : (u v : ℕ) (minus : Bool) (es : List ℕ) → Chain said (IsLinkBelow said n) u v minus es → (Contains es e → ⊥) → colour u ≡ colour v
-    colour-kept u v minus es none not-in = refl
-    colour-kept u v minus es (link {v = w} {minus = m} {rest = r} {es = rs} g p s c) not-in =
-        colours.kept g u w m p s (λ same. not-in (0, omega arith, same)) ∙ colour-kept w v r rs c (λ h. not-in (suc h.0, omega (arith, h.1), h.2))
+    colour_kept : (u v : ℕ) (minus : Bool) (es : List ℕ) → Chain said (IsLinkBelow said n) u v minus es → (Contains es e → ⊥) → colour u ≡ colour v
+    colour_kept u v minus es none not-in = refl
+    colour_kept u v minus es (link {v = w} {minus = m} {rest = r} {es = rs} g p s c) not-in =
+        colours.kept g u w m p s (λ same. not-in (0, omega arith, same)) ∙ colour_kept w v r rs c (λ h. not-in (suc h.0, omega (arith, h.1), h.2))
 
     -- along a chain that has it once
-    colour-turned : (u v : ℕ) (minus : Bool) (es : List ℕ) → Chain said (IsLinkBelow said n) u v minus es → AreDistinct es → Contains es e → colour u ≡ not (colour v)
-    colour-turned u v minus es none d h = absurd (let l = h.1 in omega (arith, l))
-    colour-turned u v minus es (link {v = w} {minus = m} {rest = r} {es = rs} g p s c) d (zero, l, same) =
-        colours.turned u w m (subst (λ z. Says said z u w m) same s) ∙ ap not (colour-kept w v r rs c (λ h. distinct_head g rs d (subst (λ z. Contains rs z) (sym same) h)))
-    colour-turned u v minus es (link {v = w} {minus = m} {rest = r} {es = rs} g p s c) d (suc k, l, same) =
+    colour_turned : (u v : ℕ) (minus : Bool) (es : List ℕ) → Chain said (IsLinkBelow said n) u v minus es → AreDistinct es → Contains es e → colour u ≡ not (colour v)
+    colour_turned u v minus es none d h = absurd (let l = h.1 in omega (arith, l))
+    colour_turned u v minus es (link {v = w} {minus = m} {rest = r} {es = rs} g p s c) d (zero, l, same) =
+        colours.turned u w m (subst (λ z. Says said z u w m) same s) ∙ ap not (colour_kept w v r rs c (λ h. distinct_head g rs d (subst (λ z. Contains rs z) (sym same) h)))
+    colour_turned u v minus es (link {v = w} {minus = m} {rest = r} {es = rs} g p s c) d (suc k, l, same) =
         colours.kept g u w m p s (λ f. distinct_head g rs d (subst (λ z. Contains rs z) (sym f) (k, omega (arith, l), same)))
-        ∙ colour-turned w v r rs c (distinct_tail g rs d) (k, omega (arith, l), same)
+        ∙ colour_turned w v r rs c (distinct_tail g rs d) (k, omega (arith, l), same)
 
   has_or : (xs : List ℕ) (x : ℕ) → Contains xs x ⊎ (Contains xs x → ⊥)
   has_or [] x = inr (λ h. let l = h.1 in omega (arith, l))
@@ -177,14 +177,14 @@ module _ (said : List (Option Alias)) where
   same_links n u v minus other es fs c d g e h = elim (has_or fs e) [
     | inl there ↦ there
     | inr absent ↦ absurd (
-        let below = chain-below n u v minus es c e h in
+        let below = chain_below n u v minus es c e h in
         let k = colours_at n e below in
-        let turned = colour-turned n e k.0 k.1 u v minus es c d h in
-        let kept = colour-kept n e k.0 k.1 u v other fs g absent in
+        let turned = colour_turned n e k.0 k.1 u v minus es c d h in
+        let kept = colour_kept n e k.0 k.1 u v other fs g absent in
         not_itself (k.0 v) (sym kept ∙ turned))
   ]
     where
-      chain-below : (n u v : ℕ) (minus : Bool) (es : List ℕ) → Chain said (IsLinkBelow said n) u v minus es → (e : ℕ) → Contains es e → IsLinkBelow said n e
-      chain-below n u v minus es none e h = absurd (let l = h.1 in omega (arith, l))
-      chain-below n u v minus es (link {v = w} {minus = m} {rest = r} {es = rs} g p s c) e (zero, l, same) = subst (λ z. IsLinkBelow said n z) same p
-      chain-below n u v minus es (link {v = w} {minus = m} {rest = r} {es = rs} g p s c) e (suc k, l, same) = chain-below n w v r rs c e (k, omega (arith, l), same)
+      chain_below : (n u v : ℕ) (minus : Bool) (es : List ℕ) → Chain said (IsLinkBelow said n) u v minus es → (e : ℕ) → Contains es e → IsLinkBelow said n e
+      chain_below n u v minus es none e h = absurd (let l = h.1 in omega (arith, l))
+      chain_below n u v minus es (link {v = w} {minus = m} {rest = r} {es = rs} g p s c) e (zero, l, same) = subst (λ z. IsLinkBelow said n z) same p
+      chain_below n u v minus es (link {v = w} {minus = m} {rest = r} {es = rs} g p s c) e (suc k, l, same) = chain_below n w v r rs c e (k, omega (arith, l), same)

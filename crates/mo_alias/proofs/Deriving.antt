@@ -216,23 +216,23 @@ module _ (place : ℕ → Bool × ℕ) where
     still : (e : FlatExpr) → is_still new (replaced place e) ≡ is_still vars e
     still = still_same place vars new same
 
-    moving-same : (ts : List (Bool × Part)) → moving_terms new (map (λ (t : Bool × Part). (t.0, (replaced place t.1.0, replaced place t.1.1))) ts) ≡ map (λ t. (t.0, replaced place t.1)) (moving_terms vars ts)
-    moving-same [] = refl
-    moving-same (t ∷ ts) = rw (still t.1.0, moving-same ts) (by (is_still vars t.1.0))
+    moving_same : (ts : List (Bool × Part)) → moving_terms new (map (λ (t : Bool × Part). (t.0, (replaced place t.1.0, replaced place t.1.1))) ts) ≡ map (λ t. (t.0, replaced place t.1)) (moving_terms vars ts)
+    moving_same [] = refl
+    moving_same (t ∷ ts) = rw (still t.1.0, moving_same ts) (by (is_still vars t.1.0))
       where
         by : (b : Bool) → (if b then map {B = Bool × FlatExpr} (λ u. (u.0, replaced place u.1)) (moving_terms vars ts) else (t.0, replaced place t.1.1) ∷ map {B = Bool × FlatExpr} (λ u. (u.0, replaced place u.1)) (moving_terms vars ts))
             ≡ map {B = Bool × FlatExpr} (λ u. (u.0, replaced place u.1)) (if b then moving_terms vars ts else (t.0, t.1.1) ∷ moving_terms vars ts)
         by true = refl
         by false = refl
 
-    product-same : (before : List (Bool × FlatExpr)) (fs : List (Bool × Part))
+    product_same : (before : List (Bool × FlatExpr)) (fs : List (Bool × Part))
         → product_terms new (map (λ t. (t.0, replaced place t.1)) before) (map (λ (t : Bool × Part). (t.0, (replaced place t.1.0, replaced place t.1.1))) fs)
         ≡ map (λ t. (t.0, replaced place t.1)) (product_terms vars before fs)
-    product-same before [] = refl
-    product-same before (f ∷ fs) =
+    product_same before [] = refl
+    product_same before (f ∷ fs) =
         let more : map (λ t. (t.0, replaced place t.1)) before ++ (f.0, replaced place f.1.0) ∷ [] ≡ map (λ t. (t.0, replaced place t.1)) (before ++ (f.0, f.1.0) ∷ []) =
         sym (map-append (λ t. (t.0, replaced place t.1)) before ((f.0, f.1.0) ∷ [])) in
-        let rest = ap (λ l. product_terms new l (map (λ (t : Bool × Part). (t.0, (replaced place t.1.0, replaced place t.1.1))) fs)) more ∙ product-same (before ++ (f.0, f.1.0) ∷ []) fs in
+        let rest = ap (λ l. product_terms new l (map (λ (t : Bool × Part). (t.0, (replaced place t.1.0, replaced place t.1.1))) fs)) more ∙ product_same (before ++ (f.0, f.1.0) ∷ []) fs in
         let here = ap (λ l. replaced_factor (map (λ t. (t.0, replaced place t.1)) before) (f.0, (replaced place f.1.0, replaced place f.1.1)) l) (plain_same fs) ∙ factor_same before (plain_factors fs) f in
         rw (still f.1.0) (by (is_still vars f.1.0) _ _ _ _ rest here)
       where
@@ -241,80 +241,80 @@ module _ (place : ℕ → Bool × ℕ) where
         by true xs ys x y p q = p
         by false xs ys x y p q = ap₂ (λ u us. u ∷ us) q p
 
-    general-same : (a d b s : FlatExpr) → general_power new (replaced place a, replaced place d) (replaced place b, replaced place s) ≡ replaced place (general_power vars (a, d) (b, s))
-    general-same a d b s =
+    general_same : (a d b s : FlatExpr) → general_power new (replaced place a, replaced place d) (replaced place b, replaced place s) ≡ replaced place (general_power vars (a, d) (b, s))
+    general_same a d b s =
         row_by (is_still vars b) (is_still new (replaced place b)) (still b) _ _ _ _ (base_same a d b)
         (row_by (is_still vars a) (is_still new (replaced place a)) (still a) _ _ _ _ (exponent_same a b s)
         (sym (at_plus (base_term (a, d) b) (exponent_term a (b, s)) ∙ ap₂ plus (sym (base_same a d b)) (sym (exponent_same a b s)))))
 
-    power-by-same : (o : Option ℤ) (a d b s : FlatExpr) → power_by new o (replaced place a, replaced place d) (replaced place b, replaced place s) ≡ replaced place (power_by vars o (a, d) (b, s))
-    power-by-same None a d b s = general-same a d b s
-    power-by-same (Some n) a d b s = literal_power_same n a d
+    power_by_same : (o : Option ℤ) (a d b s : FlatExpr) → power_by new o (replaced place a, replaced place d) (replaced place b, replaced place s) ≡ replaced place (power_by vars o (a, d) (b, s))
+    power_by_same None a d b s = general_same a d b s
+    power_by_same (Some n) a d b s = literal_power_same n a d
 
-    power-same : (a d b s : FlatExpr) → power_slope new (replaced place a, replaced place d) (replaced place b, replaced place s) ≡ replaced place (power_slope vars (a, d) (b, s))
-    power-same a d b s =
-        ap (λ o. power_by new o (replaced place a, replaced place d) (replaced place b, replaced place s)) (literal_same b) ∙ power-by-same (literal_at (out-FlatExpr b)) a d b s
+    power_same : (a d b s : FlatExpr) → power_slope new (replaced place a, replaced place d) (replaced place b, replaced place s) ≡ replaced place (power_slope vars (a, d) (b, s))
+    power_same a d b s =
+        ap (λ o. power_by new o (replaced place a, replaced place d) (replaced place b, replaced place s)) (literal_same b) ∙ power_by_same (literal_at (out-FlatExpr b)) a d b s
 
     -- ---- a node that is no variable
 
-    slope-same : (n : FlatExpr-F Part) → IsOther n → slope_node new (map-FlatExpr Part Part (λ p. (replaced place p.0, replaced place p.1)) n) ≡ replaced place (slope_node vars n)
-    slope-same (FlatExpr-F.Var v k) other = absurd other
-    slope-same (FlatExpr-F.Whole i) other = sym (at_Whole (pos 0))
-    slope-same (FlatExpr-F.Decimal x) other = sym (at_Whole (pos 0))
-    slope-same (FlatExpr-F.Str x) other = sym (at_Whole (pos 0))
-    slope-same (FlatExpr-F.Truth b) other = sym (at_Whole (pos 0))
-    slope-same (FlatExpr-F.Literal x) other = sym (at_Whole (pos 0))
-    slope-same FlatExpr-F.Time other = sym (at_Whole (pos 1))
-    slope-same (FlatExpr-F.Der a) other = sym (at_Der a.1)
-    slope-same (FlatExpr-F.Sum ts) other = ap sum_of (moving-same ts) ∙ sum_same (moving_terms vars ts)
-    slope-same (FlatExpr-F.Product ts) other = ap sum_of (product-same [] ts) ∙ sum_same (product_terms vars [] ts)
-    slope-same (FlatExpr-F.Power a b) other = power-same a.0 a.1 b.0 b.1
-    slope-same (FlatExpr-F.Call k es) other = args_same k es
-    slope-same (FlatExpr-F.Relation op a b) other = sym (at_Relation op a.1 b.1)
-    slope-same (FlatExpr-F.Not a) other = sym (at_Not a.1)
-    slope-same (FlatExpr-F.All es) other =
+    slope_same : (n : FlatExpr-F Part) → IsOther n → slope_node new (map-FlatExpr Part Part (λ p. (replaced place p.0, replaced place p.1)) n) ≡ replaced place (slope_node vars n)
+    slope_same (FlatExpr-F.Var v k) other = absurd other
+    slope_same (FlatExpr-F.Whole i) other = sym (at_Whole (pos 0))
+    slope_same (FlatExpr-F.Decimal x) other = sym (at_Whole (pos 0))
+    slope_same (FlatExpr-F.Str x) other = sym (at_Whole (pos 0))
+    slope_same (FlatExpr-F.Truth b) other = sym (at_Whole (pos 0))
+    slope_same (FlatExpr-F.Literal x) other = sym (at_Whole (pos 0))
+    slope_same FlatExpr-F.Time other = sym (at_Whole (pos 1))
+    slope_same (FlatExpr-F.Der a) other = sym (at_Der a.1)
+    slope_same (FlatExpr-F.Sum ts) other = ap sum_of (moving_same ts) ∙ sum_same (moving_terms vars ts)
+    slope_same (FlatExpr-F.Product ts) other = ap sum_of (product_same [] ts) ∙ sum_same (product_terms vars [] ts)
+    slope_same (FlatExpr-F.Power a b) other = power_same a.0 a.1 b.0 b.1
+    slope_same (FlatExpr-F.Call k es) other = args_same k es
+    slope_same (FlatExpr-F.Relation op a b) other = sym (at_Relation op a.1 b.1)
+    slope_same (FlatExpr-F.Not a) other = sym (at_Not a.1)
+    slope_same (FlatExpr-F.All es) other =
         ap (λ l. All l) (map_map (λ (p : Part). p.1) (λ (p : Part). (replaced place p.0, replaced place p.1)) es ∙ sym (map_map (replaced place) (λ (p : Part). p.1) es)) ∙ sym (at_All (map (λ (p : Part). p.1) es))
-    slope-same (FlatExpr-F.Any es) other =
+    slope_same (FlatExpr-F.Any es) other =
         ap (λ l. Any l) (map_map (λ (p : Part). p.1) (λ (p : Part). (replaced place p.0, replaced place p.1)) es ∙ sym (map_map (replaced place) (λ (p : Part). p.1) es)) ∙ sym (at_Any (map (λ (p : Part). p.1) es))
-    slope-same (FlatExpr-F.If bs o) other =
+    slope_same (FlatExpr-F.If bs o) other =
         ap (λ l. If l (replaced place o.1)) (map_map (λ (b : Part × Part). (b.0.0, b.1.1)) (λ (b : Part × Part). ((replaced place b.0.0, replaced place b.0.1), (replaced place b.1.0, replaced place b.1.1))) bs
         ∙ sym (map_map (λ (b : FlatExpr × FlatExpr). (replaced place b.0, replaced place b.1)) (λ (b : Part × Part). (b.0.0, b.1.1)) bs))
         ∙ sym (at_If (map (λ (b : Part × Part). (b.0.0, b.1.1)) bs) o.1)
 
-    derive-same : (n : FlatExpr-F Part) → IsOther n → IsOther (map-FlatExpr Part Bool (λ p. is_still vars p.0) n) → derive_node new (map-FlatExpr Part Part (λ p. (replaced place p.0, replaced place p.1)) n) ≡ replaced place (derive_node vars n)
-    derive-same n other also =
+    derive_same : (n : FlatExpr-F Part) → IsOther n → IsOther (map-FlatExpr Part Bool (λ p. is_still vars p.0) n) → derive_node new (map-FlatExpr Part Part (λ p. (replaced place p.0, replaced place p.1)) n) ≡ replaced place (derive_node vars n)
+    derive_same n other also =
         row_by (still_node vars (map-FlatExpr Part Bool (λ p. is_still vars p.0) n)) (still_node new (map-FlatExpr Part Bool (λ p. is_still new p.0) (map-FlatExpr Part Part (λ p. (replaced place p.0, replaced place p.1)) n)))
         (ap (still_node new) (mapped Part Part Bool (λ p. is_still new p.0) (λ p. (replaced place p.0, replaced place p.1)) n ∙ same_node Part Bool (λ p. is_still new (replaced place p.0)) (λ p. is_still vars p.0) (λ p. still p.0) n)
         ∙ other_still vars new (map-FlatExpr Part Bool (λ p. is_still vars p.0) n) also)
-        (Whole (pos 0)) (slope_node vars n) (Whole (pos 0)) (slope_node new (map-FlatExpr Part Part (λ p. (replaced place p.0, replaced place p.1)) n)) (sym (at_Whole (pos 0))) (slope-same n other)
+        (Whole (pos 0)) (slope_node vars n) (Whole (pos 0)) (slope_node new (map-FlatExpr Part Part (λ p. (replaced place p.0, replaced place p.1)) n)) (sym (at_Whole (pos 0))) (slope_same n other)
 
     module _ (moves : (v k : ℕ) → (place v).0 ≡ true → still_node vars (FlatExpr-F.Var v k) ≡ false) where
       -- a variable
-      derived-var : (vs : List FlatVar) (n k : ℕ) → derived vs (Var n k) ≡ (if still_node vs (FlatExpr-F.Var n k) then Whole (pos 0) else Var n (next_order k))
-      derived-var vs n k = ap (derived vs) (sym (rolls-Var n k)) ∙ para-roll-FlatExpr FlatExpr (derive_node vs) (FlatExpr-F.Var n k)
+      derived_var : (vs : List FlatVar) (n k : ℕ) → derived vs (Var n k) ≡ (if still_node vs (FlatExpr-F.Var n k) then Whole (pos 0) else Var n (next_order k))
+      derived_var vs n k = ap (derived vs) (sym (rolls-Var n k)) ∙ para-roll-FlatExpr FlatExpr (derive_node vs) (FlatExpr-F.Var n k)
 
-      still-var : (vs : List FlatVar) (n k : ℕ) → is_still vs (Var n k) ≡ still_node vs (FlatExpr-F.Var n k)
-      still-var vs n k = ap (is_still vs) (sym (rolls-Var n k)) ∙ fold-roll-FlatExpr Bool (still_node vs) (FlatExpr-F.Var n k)
+      still_var : (vs : List FlatVar) (n k : ℕ) → is_still vs (Var n k) ≡ still_node vs (FlatExpr-F.Var n k)
+      still_var vs n k = ap (is_still vs) (sym (rolls-Var n k)) ∙ fold-roll-FlatExpr Bool (still_node vs) (FlatExpr-F.Var n k)
 
-      still-minus : (n k : ℕ) → is_still new (Sum ((true, Var n k) ∷ [])) ≡ (if is_still new (Var n k) then true else false)
-      still-minus n k = ap (is_still new) (sym (rolls-Sum ((true, Var n k) ∷ []))) ∙ fold-roll-FlatExpr Bool (still_node new) (FlatExpr-F.Sum ((true, Var n k) ∷ [])) ∙ by (is_still new (Var n k))
+      still_minus : (n k : ℕ) → is_still new (Sum ((true, Var n k) ∷ [])) ≡ (if is_still new (Var n k) then true else false)
+      still_minus n k = ap (is_still new) (sym (rolls-Sum ((true, Var n k) ∷ []))) ∙ fold-roll-FlatExpr Bool (still_node new) (FlatExpr-F.Sum ((true, Var n k) ∷ [])) ∙ by (is_still new (Var n k))
         where
           by : (b : Bool) → still_node new (FlatExpr-F.Sum ((true, b) ∷ [])) ≡ (if b then true else false)
           by true = refl
           by false = refl
 
-      at-choice : (b : Bool) (v k : ℕ) → replaced place (if b then Whole (pos 0) else Var v (next_order k)) ≡ (if b then Whole (pos 0) else order_of (place v) (next_order k))
-      at-choice true v k = at_Whole (pos 0)
-      at-choice false v k = at_Var v (next_order k)
+      at_choice : (b : Bool) (v k : ℕ) → replaced place (if b then Whole (pos 0) else Var v (next_order k)) ≡ (if b then Whole (pos 0) else order_of (place v) (next_order k))
+      at_choice true v k = at_Whole (pos 0)
+      at_choice false v k = at_Var v (next_order k)
 
-      derived-place : (at : Bool × ℕ) (v k : ℕ) → place v ≡ at → derived new (order_of at k) ≡ (if still_node vars (FlatExpr-F.Var v k) then Whole (pos 0) else order_of at (next_order k))
-      derived-place (false, n) v k is =
-          derived-var new n k
-          ∙ ap (λ b. if b then Whole (pos 0) else Var n (next_order k)) (sym (still-var new n k) ∙ subst (λ at. is_still new (order_of at k) ≡ still_node vars (FlatExpr-F.Var v k)) is (same v k))
-      derived-place (true, n) v k is =
+      derived_place : (at : Bool × ℕ) (v k : ℕ) → place v ≡ at → derived new (order_of at k) ≡ (if still_node vars (FlatExpr-F.Var v k) then Whole (pos 0) else order_of at (next_order k))
+      derived_place (false, n) v k is =
+          derived_var new n k
+          ∙ ap (λ b. if b then Whole (pos 0) else Var n (next_order k)) (sym (still_var new n k) ∙ subst (λ at. is_still new (order_of at k) ≡ still_node vars (FlatExpr-F.Var v k)) is (same v k))
+      derived_place (true, n) v k is =
           let not-still : still_node vars (FlatExpr-F.Var v k) ≡ false = moves v k (ap (λ at. at.0) is) in
-          let inner : is_still new (Var n k) ≡ false = by (is_still new (Var n k)) (sym (still-minus n k) ∙ subst (λ at. is_still new (order_of at k) ≡ still_node vars (FlatExpr-F.Var v k)) is (same v k) ∙ not-still) in
-          let var : derived new (Var n k) ≡ Var n (next_order k) = derived-var new n k ∙ ap (λ b. if b then Whole (pos 0) else Var n (next_order k)) (sym (still-var new n k) ∙ inner) in
+          let inner : is_still new (Var n k) ≡ false = by (is_still new (Var n k)) (sym (still_minus n k) ∙ subst (λ at. is_still new (order_of at k) ≡ still_node vars (FlatExpr-F.Var v k)) is (same v k) ∙ not-still) in
+          let var : derived new (Var n k) ≡ Var n (next_order k) = derived_var new n k ∙ ap (λ b. if b then Whole (pos 0) else Var n (next_order k)) (sym (still_var new n k) ∙ inner) in
           ap (derived new) (sym (rolls-Sum ((true, Var n k) ∷ []))) ∙ para-roll-FlatExpr FlatExpr (derive_node new) (FlatExpr-F.Sum ((true, Var n k) ∷ []))
           ∙ step (is_still new (Var n k)) (derived new (Var n k)) inner ∙ ap (λ x. Sum ((true, x) ∷ [])) var
           ∙ ap (λ b. if b then Whole (pos 0) else Sum ((true, Var n (next_order k)) ∷ [])) (sym not-still)
@@ -327,10 +327,10 @@ module _ (place : ℕ → Bool × ℕ) where
           step true x e = absurd (true≢false e)
           step false x e = refl
 
-      var-same : (v k : ℕ) → derived new (replaced place (roll-FlatExpr (FlatExpr-F.Var v k))) ≡ replaced place (derived vars (roll-FlatExpr (FlatExpr-F.Var v k)))
-      var-same v k =
-          ap (derived new) (fold-roll-FlatExpr FlatExpr (replace_node place) (FlatExpr-F.Var v k)) ∙ derived-place (place v) v k refl
-          ∙ sym (ap (replaced place) (para-roll-FlatExpr FlatExpr (derive_node vars) (FlatExpr-F.Var v k)) ∙ at-choice (still_node vars (FlatExpr-F.Var v k)) v k)
+      var_same : (v k : ℕ) → derived new (replaced place (roll-FlatExpr (FlatExpr-F.Var v k))) ≡ replaced place (derived vars (roll-FlatExpr (FlatExpr-F.Var v k)))
+      var_same v k =
+          ap (derived new) (fold-roll-FlatExpr FlatExpr (replace_node place) (FlatExpr-F.Var v k)) ∙ derived_place (place v) v k refl
+          ∙ sym (ap (replaced place) (para-roll-FlatExpr FlatExpr (derive_node vars) (FlatExpr-F.Var v k)) ∙ at_choice (still_node vars (FlatExpr-F.Var v k)) v k)
 
       -- ---- the whole
 
@@ -340,11 +340,11 @@ module _ (place : ℕ → Bool × ℕ) where
       abbrev Known : Type 0
       Known = (e : FlatExpr) × (derived new (replaced place e) ≡ replaced place (derived vars e))
 
-      node-same : (y : FlatExpr-F ((e : FlatExpr) × (derived new (replaced place e) ≡ replaced place (derived vars e))))
+      node_same : (y : FlatExpr-F ((e : FlatExpr) × (derived new (replaced place e) ≡ replaced place (derived vars e))))
           → IsOther (map-FlatExpr FlatExpr FlatExpr (replaced place) (map-FlatExpr Known FlatExpr (λ t. t.0) y)) → IsOther (map-FlatExpr Known Part (λ t. (t.0, derived vars t.0)) y)
           → IsOther (map-FlatExpr Part Bool (λ p. is_still vars p.0) (map-FlatExpr Known Part (λ t. (t.0, derived vars t.0)) y))
           → derived new (replaced place (roll-FlatExpr (map-FlatExpr Known FlatExpr (λ t. t.0) y))) ≡ replaced place (derived vars (roll-FlatExpr (map-FlatExpr Known FlatExpr (λ t. t.0) y)))
-      node-same y first other also =
+      node_same y first other also =
           let x : FlatExpr-F FlatExpr = map-FlatExpr Known FlatExpr (λ t. t.0) y in
           let n : FlatExpr-F Part = map-FlatExpr Known Part (λ t. (t.0, derived vars t.0)) y in
           ap (derived new) (fold-roll-FlatExpr FlatExpr (replace_node place) x ∙ other_node place (map-FlatExpr FlatExpr FlatExpr (replaced place) x) first)
@@ -354,100 +354,100 @@ module _ (place : ℕ → Bool × ℕ) where
           ∙ mapped Known FlatExpr Part (λ e. (replaced place e, derived new (replaced place e))) (λ t. t.0) y
           ∙ same_node Known Part (λ t. (replaced place t.0, derived new (replaced place t.0))) (λ t. (replaced place t.0, replaced place (derived vars t.0))) (λ t. ap (λ d. (replaced place t.0, d)) t.1) y
           ∙ sym (mapped Known Part Part (λ p. (replaced place p.0, replaced place p.1)) (λ t. (t.0, derived vars t.0)) y))
-          ∙ derive-same n other also
+          ∙ derive_same n other also
           ∙ ap (replaced place) (sym (para-roll-FlatExpr FlatExpr (derive_node vars) x ∙ ap (derive_node vars) (mapped Known FlatExpr Part (λ e. (e, derived vars e)) (λ t. t.0) y)))
 
-      known-same : (y : FlatExpr-F ((e : FlatExpr) × (derived new (replaced place e) ≡ replaced place (derived vars e))))
+      known_same : (y : FlatExpr-F ((e : FlatExpr) × (derived new (replaced place e) ≡ replaced place (derived vars e))))
           → derived new (replaced place (roll-FlatExpr (map-FlatExpr Known FlatExpr (λ t. t.0) y))) ≡ replaced place (derived vars (roll-FlatExpr (map-FlatExpr Known FlatExpr (λ t. t.0) y)))
-      known-same (FlatExpr-F.Var v k) = var-same v k
-      known-same (FlatExpr-F.Whole i) = node-same (FlatExpr-F.Whole i) tt tt tt
-      known-same (FlatExpr-F.Decimal x) = node-same (FlatExpr-F.Decimal x) tt tt tt
-      known-same (FlatExpr-F.Str x) = node-same (FlatExpr-F.Str x) tt tt tt
-      known-same (FlatExpr-F.Truth b) = node-same (FlatExpr-F.Truth b) tt tt tt
-      known-same (FlatExpr-F.Literal x) = node-same (FlatExpr-F.Literal x) tt tt tt
-      known-same FlatExpr-F.Time = node-same FlatExpr-F.Time tt tt tt
-      known-same (FlatExpr-F.Der a) = node-same (FlatExpr-F.Der a) tt tt tt
-      known-same (FlatExpr-F.Sum ts) = node-same (FlatExpr-F.Sum ts) tt tt tt
-      known-same (FlatExpr-F.Product ts) = node-same (FlatExpr-F.Product ts) tt tt tt
-      known-same (FlatExpr-F.Power a b) = node-same (FlatExpr-F.Power a b) tt tt tt
-      known-same (FlatExpr-F.Call k es) = node-same (FlatExpr-F.Call k es) tt tt tt
-      known-same (FlatExpr-F.Relation op a b) = node-same (FlatExpr-F.Relation op a b) tt tt tt
-      known-same (FlatExpr-F.Not a) = node-same (FlatExpr-F.Not a) tt tt tt
-      known-same (FlatExpr-F.All es) = node-same (FlatExpr-F.All es) tt tt tt
-      known-same (FlatExpr-F.Any es) = node-same (FlatExpr-F.Any es) tt tt tt
-      known-same (FlatExpr-F.If bs o) = node-same (FlatExpr-F.If bs o) tt tt tt
+      known_same (FlatExpr-F.Var v k) = var_same v k
+      known_same (FlatExpr-F.Whole i) = node_same (FlatExpr-F.Whole i) tt tt tt
+      known_same (FlatExpr-F.Decimal x) = node_same (FlatExpr-F.Decimal x) tt tt tt
+      known_same (FlatExpr-F.Str x) = node_same (FlatExpr-F.Str x) tt tt tt
+      known_same (FlatExpr-F.Truth b) = node_same (FlatExpr-F.Truth b) tt tt tt
+      known_same (FlatExpr-F.Literal x) = node_same (FlatExpr-F.Literal x) tt tt tt
+      known_same FlatExpr-F.Time = node_same FlatExpr-F.Time tt tt tt
+      known_same (FlatExpr-F.Der a) = node_same (FlatExpr-F.Der a) tt tt tt
+      known_same (FlatExpr-F.Sum ts) = node_same (FlatExpr-F.Sum ts) tt tt tt
+      known_same (FlatExpr-F.Product ts) = node_same (FlatExpr-F.Product ts) tt tt tt
+      known_same (FlatExpr-F.Power a b) = node_same (FlatExpr-F.Power a b) tt tt tt
+      known_same (FlatExpr-F.Call k es) = node_same (FlatExpr-F.Call k es) tt tt tt
+      known_same (FlatExpr-F.Relation op a b) = node_same (FlatExpr-F.Relation op a b) tt tt tt
+      known_same (FlatExpr-F.Not a) = node_same (FlatExpr-F.Not a) tt tt tt
+      known_same (FlatExpr-F.All es) = node_same (FlatExpr-F.All es) tt tt tt
+      known_same (FlatExpr-F.Any es) = node_same (FlatExpr-F.Any es) tt tt tt
+      known_same (FlatExpr-F.If bs o) = node_same (FlatExpr-F.If bs o) tt tt tt
 
       pub derived_same : (e : FlatExpr) → derived new (replaced place e) ≡ replaced place (derived vars e)
       derived_same = ind-FlatExpr (λ e. derived new (replaced place e) ≡ replaced place (derived vars e)) (λ x y is.
-          subst (λ z. derived new (replaced place (roll-FlatExpr z)) ≡ replaced place (derived vars (roll-FlatExpr z))) is (known-same y))
+          subst (λ z. derived new (replaced place (roll-FlatExpr z)) ≡ replaced place (derived vars (roll-FlatExpr z))) is (known_same y))
 
       -- ---- with all derivatives carried out
 
-      carried-var : (n k : ℕ) → carried new (Var n k) ≡ Var n k
-      carried-var n k = ap (carried new) (sym (rolls-Var n k)) ∙ fold-roll-FlatExpr FlatExpr (carry_node new) (FlatExpr-F.Var n k) ∙ rolls-Var n k
+      carried_var : (n k : ℕ) → carried new (Var n k) ≡ Var n k
+      carried_var n k = ap (carried new) (sym (rolls-Var n k)) ∙ fold-roll-FlatExpr FlatExpr (carry_node new) (FlatExpr-F.Var n k) ∙ rolls-Var n k
 
-      carried-order : (at : Bool × ℕ) (k : ℕ) → carried new (order_of at k) ≡ order_of at k
-      carried-order (false, n) k = carried-var n k
-      carried-order (true, n) k =
+      carried_order : (at : Bool × ℕ) (k : ℕ) → carried new (order_of at k) ≡ order_of at k
+      carried_order (false, n) k = carried_var n k
+      carried_order (true, n) k =
           ap (carried new) (sym (rolls-Sum ((true, Var n k) ∷ []))) ∙ fold-roll-FlatExpr FlatExpr (carry_node new) (FlatExpr-F.Sum ((true, Var n k) ∷ []))
-          ∙ rolls-Sum ((true, carried new (Var n k)) ∷ []) ∙ ap (λ x. Sum ((true, x) ∷ [])) (carried-var n k)
+          ∙ rolls-Sum ((true, carried new (Var n k)) ∷ []) ∙ ap (λ x. Sum ((true, x) ∷ [])) (carried_var n k)
 
       abbrev Carries : Type 0
       Carries = Related FlatExpr FlatExpr (λ x c. carried new x ≡ replaced place c)
 
-      other-carry : (vs : List FlatVar) (n : FlatExpr-F FlatExpr) → IsOther n → (IsDer n → ⊥) → carry_node vs n ≡ roll-FlatExpr n
-      other-carry vs (FlatExpr-F.Var v k) other not = absurd other
-      other-carry vs (FlatExpr-F.Der a) other not = absurd (not tt)
-      other-carry vs (FlatExpr-F.Whole i) other not = refl
-      other-carry vs (FlatExpr-F.Decimal x) other not = refl
-      other-carry vs (FlatExpr-F.Str x) other not = refl
-      other-carry vs (FlatExpr-F.Truth b) other not = refl
-      other-carry vs (FlatExpr-F.Literal x) other not = refl
-      other-carry vs FlatExpr-F.Time other not = refl
-      other-carry vs (FlatExpr-F.Sum ts) other not = refl
-      other-carry vs (FlatExpr-F.Product ts) other not = refl
-      other-carry vs (FlatExpr-F.Power a b) other not = refl
-      other-carry vs (FlatExpr-F.Call k es) other not = refl
-      other-carry vs (FlatExpr-F.Relation op a b) other not = refl
-      other-carry vs (FlatExpr-F.Not a) other not = refl
-      other-carry vs (FlatExpr-F.All es) other not = refl
-      other-carry vs (FlatExpr-F.Any es) other not = refl
-      other-carry vs (FlatExpr-F.If bs o) other not = refl
+      other_carry : (vs : List FlatVar) (n : FlatExpr-F FlatExpr) → IsOther n → (IsDer n → ⊥) → carry_node vs n ≡ roll-FlatExpr n
+      other_carry vs (FlatExpr-F.Var v k) other not = absurd other
+      other_carry vs (FlatExpr-F.Der a) other not = absurd (not tt)
+      other_carry vs (FlatExpr-F.Whole i) other not = refl
+      other_carry vs (FlatExpr-F.Decimal x) other not = refl
+      other_carry vs (FlatExpr-F.Str x) other not = refl
+      other_carry vs (FlatExpr-F.Truth b) other not = refl
+      other_carry vs (FlatExpr-F.Literal x) other not = refl
+      other_carry vs FlatExpr-F.Time other not = refl
+      other_carry vs (FlatExpr-F.Sum ts) other not = refl
+      other_carry vs (FlatExpr-F.Product ts) other not = refl
+      other_carry vs (FlatExpr-F.Power a b) other not = refl
+      other_carry vs (FlatExpr-F.Call k es) other not = refl
+      other_carry vs (FlatExpr-F.Relation op a b) other not = refl
+      other_carry vs (FlatExpr-F.Not a) other not = refl
+      other_carry vs (FlatExpr-F.All es) other not = refl
+      other_carry vs (FlatExpr-F.Any es) other not = refl
+      other_carry vs (FlatExpr-F.If bs o) other not = refl
 
-      carry-other : (n : FlatExpr-F (Related FlatExpr FlatExpr (λ x c. carried new x ≡ replaced place c)))
+      carry_other : (n : FlatExpr-F (Related FlatExpr FlatExpr (λ x c. carried new x ≡ replaced place c)))
           → IsOther (map-FlatExpr Carries FlatExpr (λ r. r.0) n) → IsOther (map-FlatExpr Carries FlatExpr (λ r. r.1) n) → IsOther (map-FlatExpr Carries FlatExpr (λ r. carried new r.0) n)
           → (IsDer (map-FlatExpr Carries FlatExpr (λ r. carried new r.0) n) → ⊥) → (IsDer (map-FlatExpr Carries FlatExpr (λ r. r.1) n) → ⊥)
           → IsOther (map-FlatExpr FlatExpr FlatExpr (replaced place) (map-FlatExpr Carries FlatExpr (λ r. r.1) n))
           → carried new (replace_node place (map-FlatExpr Carries FlatExpr (λ r. r.0) n)) ≡ replaced place (carry_node vars (map-FlatExpr Carries FlatExpr (λ r. r.1) n))
-      carry-other n first other third der never last =
+      carry_other n first other third der never last =
           ap (carried new) (other_node place (map-FlatExpr Carries FlatExpr (λ r. r.0) n) first) ∙ fold-roll-FlatExpr FlatExpr (carry_node new) (map-FlatExpr Carries FlatExpr (λ r. r.0) n)
-          ∙ ap (carry_node new) (mapped Carries FlatExpr FlatExpr (carried new) (λ r. r.0) n) ∙ other-carry new (map-FlatExpr Carries FlatExpr (λ r. carried new r.0) n) third der
+          ∙ ap (carry_node new) (mapped Carries FlatExpr FlatExpr (carried new) (λ r. r.0) n) ∙ other_carry new (map-FlatExpr Carries FlatExpr (λ r. carried new r.0) n) third der
           ∙ ap roll-FlatExpr (same_node Carries FlatExpr (λ r. carried new r.0) (λ r. replaced place r.1) (λ r. r.2) n ∙ sym (mapped Carries FlatExpr FlatExpr (replaced place) (λ r. r.1) n))
           ∙ sym (other_node place (map-FlatExpr FlatExpr FlatExpr (replaced place) (map-FlatExpr Carries FlatExpr (λ r. r.1) n)) last)
           ∙ sym (fold-roll-FlatExpr FlatExpr (replace_node place) (map-FlatExpr Carries FlatExpr (λ r. r.1) n))
-          ∙ ap (replaced place) (sym (other-carry vars (map-FlatExpr Carries FlatExpr (λ r. r.1) n) other never))
+          ∙ ap (replaced place) (sym (other_carry vars (map-FlatExpr Carries FlatExpr (λ r. r.1) n) other never))
 
-      carry-step : (n : FlatExpr-F (Related FlatExpr FlatExpr (λ x c. carried new x ≡ replaced place c)))
+      carry_step : (n : FlatExpr-F (Related FlatExpr FlatExpr (λ x c. carried new x ≡ replaced place c)))
           → carried new (replace_node place (map-FlatExpr Carries FlatExpr (λ r. r.0) n)) ≡ replaced place (carry_node vars (map-FlatExpr Carries FlatExpr (λ r. r.1) n))
-      carry-step (FlatExpr-F.Var v k) = carried-order (place v) k ∙ sym (fold-roll-FlatExpr FlatExpr (replace_node place) (FlatExpr-F.Var v k))
-      carry-step (FlatExpr-F.Der r) =
+      carry_step (FlatExpr-F.Var v k) = carried_order (place v) k ∙ sym (fold-roll-FlatExpr FlatExpr (replace_node place) (FlatExpr-F.Var v k))
+      carry_step (FlatExpr-F.Der r) =
           fold-roll-FlatExpr FlatExpr (carry_node new) (FlatExpr-F.Der r.0) ∙ ap (derived new) r.2 ∙ derived_same r.1
-      carry-step (FlatExpr-F.Whole i) = carry-other (FlatExpr-F.Whole i) tt tt tt (λ d. d) (λ d. d) tt
-      carry-step (FlatExpr-F.Decimal x) = carry-other (FlatExpr-F.Decimal x) tt tt tt (λ d. d) (λ d. d) tt
-      carry-step (FlatExpr-F.Str x) = carry-other (FlatExpr-F.Str x) tt tt tt (λ d. d) (λ d. d) tt
-      carry-step (FlatExpr-F.Truth b) = carry-other (FlatExpr-F.Truth b) tt tt tt (λ d. d) (λ d. d) tt
-      carry-step (FlatExpr-F.Literal x) = carry-other (FlatExpr-F.Literal x) tt tt tt (λ d. d) (λ d. d) tt
-      carry-step FlatExpr-F.Time = carry-other FlatExpr-F.Time tt tt tt (λ d. d) (λ d. d) tt
-      carry-step (FlatExpr-F.Sum ts) = carry-other (FlatExpr-F.Sum ts) tt tt tt (λ d. d) (λ d. d) tt
-      carry-step (FlatExpr-F.Product ts) = carry-other (FlatExpr-F.Product ts) tt tt tt (λ d. d) (λ d. d) tt
-      carry-step (FlatExpr-F.Power a b) = carry-other (FlatExpr-F.Power a b) tt tt tt (λ d. d) (λ d. d) tt
-      carry-step (FlatExpr-F.Call k es) = carry-other (FlatExpr-F.Call k es) tt tt tt (λ d. d) (λ d. d) tt
-      carry-step (FlatExpr-F.Relation op a b) = carry-other (FlatExpr-F.Relation op a b) tt tt tt (λ d. d) (λ d. d) tt
-      carry-step (FlatExpr-F.Not a) = carry-other (FlatExpr-F.Not a) tt tt tt (λ d. d) (λ d. d) tt
-      carry-step (FlatExpr-F.All es) = carry-other (FlatExpr-F.All es) tt tt tt (λ d. d) (λ d. d) tt
-      carry-step (FlatExpr-F.Any es) = carry-other (FlatExpr-F.Any es) tt tt tt (λ d. d) (λ d. d) tt
-      carry-step (FlatExpr-F.If bs o) = carry-other (FlatExpr-F.If bs o) tt tt tt (λ d. d) (λ d. d) tt
+      carry_step (FlatExpr-F.Whole i) = carry_other (FlatExpr-F.Whole i) tt tt tt (λ d. d) (λ d. d) tt
+      carry_step (FlatExpr-F.Decimal x) = carry_other (FlatExpr-F.Decimal x) tt tt tt (λ d. d) (λ d. d) tt
+      carry_step (FlatExpr-F.Str x) = carry_other (FlatExpr-F.Str x) tt tt tt (λ d. d) (λ d. d) tt
+      carry_step (FlatExpr-F.Truth b) = carry_other (FlatExpr-F.Truth b) tt tt tt (λ d. d) (λ d. d) tt
+      carry_step (FlatExpr-F.Literal x) = carry_other (FlatExpr-F.Literal x) tt tt tt (λ d. d) (λ d. d) tt
+      carry_step FlatExpr-F.Time = carry_other FlatExpr-F.Time tt tt tt (λ d. d) (λ d. d) tt
+      carry_step (FlatExpr-F.Sum ts) = carry_other (FlatExpr-F.Sum ts) tt tt tt (λ d. d) (λ d. d) tt
+      carry_step (FlatExpr-F.Product ts) = carry_other (FlatExpr-F.Product ts) tt tt tt (λ d. d) (λ d. d) tt
+      carry_step (FlatExpr-F.Power a b) = carry_other (FlatExpr-F.Power a b) tt tt tt (λ d. d) (λ d. d) tt
+      carry_step (FlatExpr-F.Call k es) = carry_other (FlatExpr-F.Call k es) tt tt tt (λ d. d) (λ d. d) tt
+      carry_step (FlatExpr-F.Relation op a b) = carry_other (FlatExpr-F.Relation op a b) tt tt tt (λ d. d) (λ d. d) tt
+      carry_step (FlatExpr-F.Not a) = carry_other (FlatExpr-F.Not a) tt tt tt (λ d. d) (λ d. d) tt
+      carry_step (FlatExpr-F.All es) = carry_other (FlatExpr-F.All es) tt tt tt (λ d. d) (λ d. d) tt
+      carry_step (FlatExpr-F.Any es) = carry_other (FlatExpr-F.Any es) tt tt tt (λ d. d) (λ d. d) tt
+      carry_step (FlatExpr-F.If bs o) = carry_other (FlatExpr-F.If bs o) tt tt tt (λ d. d) (λ d. d) tt
 
       -- derivatives are carried out alike
       pub carried_same : (e : FlatExpr) → carried new (replaced place e) ≡ replaced place (carried vars e)
-      carried_same = folds_related FlatExpr FlatExpr (replace_node place) (carry_node vars) (λ x c. carried new x ≡ replaced place c) carry-step
+      carried_same = folds_related FlatExpr FlatExpr (replace_node place) (carry_node vars) (λ x c. carried new x ≡ replaced place c) carry_step

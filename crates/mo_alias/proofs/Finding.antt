@@ -29,27 +29,27 @@ module _ (P : ℕ → Type 0) where
   lists_skip n xs l not = record {
     ascending = l.ascending;
     only = λ x c. let h = l.only x c in (h.0, omega (arith, h.1), h.2);
-    all = λ x p low h. all-by x p low h (cases_eq x (n + 1));
+    all = λ x p low h. all_by x p low h (cases_eq x (n + 1));
   }
     where
-      all-by : (x : ℕ) → 0 < x → x ≤ n + 1 → P x → (x ≡ n + 1) ⊎ (x ≡ n + 1 → ⊥) → Contains xs x
-      all-by x p low h (inl e) = absurd (not (subst P e h))
-      all-by x p low h (inr e) = l.all x p (omega (arith, low, e)) h
+      all_by : (x : ℕ) → 0 < x → x ≤ n + 1 → P x → (x ≡ n + 1) ⊎ (x ≡ n + 1 → ⊥) → Contains xs x
+      all_by x p low h (inl e) = absurd (not (subst P e h))
+      all_by x p low h (inr e) = l.all x p (omega (arith, low, e)) h
 
   pub lists_put : (n : ℕ) (xs : List ℕ) → ListsWhere P n xs → P (n + 1) → ListsWhere P (n + 1) (xs ++ (n + 1) ∷ [])
   lists_put n xs l is = record {
     ascending = ascend_put xs (n + 1) l.ascending (λ y c. let h = l.only y c in omega (arith, h.1));
-    only = λ x c. only-by x (contains_put xs (n + 1) x c);
-    all = λ x p low h. all-by x p low h (cases_eq x (n + 1));
+    only = λ x c. only_by x (contains_put xs (n + 1) x c);
+    all = λ x p low h. all_by x p low h (cases_eq x (n + 1));
   }
     where
-      only-by : (x : ℕ) → Contains xs x ⊎ (n + 1 ≡ x) → (0 < x) × (x ≤ n + 1) × P x
-      only-by x (inl c) = let h = l.only x c in (h.0, omega (arith, h.1), h.2)
-      only-by x (inr e) = (omega (arith, e), omega (arith, e), subst P e is)
+      only_by : (x : ℕ) → Contains xs x ⊎ (n + 1 ≡ x) → (0 < x) × (x ≤ n + 1) × P x
+      only_by x (inl c) = let h = l.only x c in (h.0, omega (arith, h.1), h.2)
+      only_by x (inr e) = (omega (arith, e), omega (arith, e), subst P e is)
 
-      all-by : (x : ℕ) → 0 < x → x ≤ n + 1 → P x → (x ≡ n + 1) ⊎ (x ≡ n + 1 → ⊥) → Contains (xs ++ (n + 1) ∷ []) x
-      all-by x p low h (inl e) = subst (λ w. Contains (xs ++ (n + 1) ∷ []) w) (sym e) (contains_last xs (n + 1))
-      all-by x p low h (inr e) = contains_kept xs (n + 1) x (l.all x p (omega (arith, low, e)) h)
+      all_by : (x : ℕ) → 0 < x → x ≤ n + 1 → P x → (x ≡ n + 1) ⊎ (x ≡ n + 1 → ⊥) → Contains (xs ++ (n + 1) ∷ []) x
+      all_by x p low h (inl e) = subst (λ w. Contains (xs ++ (n + 1) ∷ []) w) (sym e) (contains_last xs (n + 1))
+      all_by x p low h (inr e) = contains_kept xs (n + 1) x (l.all x p (omega (arith, low, e)) h)
 
 -- ---- each equation is one thing
 
@@ -128,16 +128,16 @@ module _ (said : List (Option Alias)) (n : ℕ) where
     contradicting = to.contradicting ++ (n + 1) ∷ [];
     all = lists_put (λ i. Contradicts said (i - 1)) n to.contradicting to.all (contradicts_at c);
     count = (let a = length-append loops (one ∷ []) in let b = length-append to.contradicting ((n + 1) ∷ []) in let h = to.count in omega (arith, a, b, h));
-    loop = λ k l. loop-by k l (cases_eq k (length loops));
+    loop = λ k l. loop_by k l (cases_eq k (length loops));
   }
     where
-      loop-by : (k : ℕ) → k < length (loops ++ one ∷ []) → (k ≡ length loops) ⊎ (k ≡ length loops → ⊥) → IsLoop said (get_or (to.contradicting ++ (n + 1) ∷ []) k 0) (get_or (loops ++ one ∷ []) k [])
-      loop-by k l (inl e) =
+      loop_by : (k : ℕ) → k < length (loops ++ one ∷ []) → (k ≡ length loops) ⊎ (k ≡ length loops → ⊥) → IsLoop said (get_or (to.contradicting ++ (n + 1) ∷ []) k 0) (get_or (loops ++ one ∷ []) k [])
+      loop_by k l (inl e) =
           let e' : k ≡ length to.contradicting = e ∙ to.count in
           let a : get_or (loops ++ one ∷ []) k [] ≡ one = rw e (get_or-append_seam loops one [] []) in
           let b : get_or (to.contradicting ++ (n + 1) ∷ []) k 0 ≡ n + 1 = rw e' (get_or-append_seam to.contradicting (n + 1) [] 0) in
           rw (a, b) is
-      loop-by k l (inr e) =
+      loop_by k l (inr e) =
           let s = length-append loops (one ∷ []) in
           let small : k < length loops = omega (arith, l, e, s) in
           let a : get_or (loops ++ one ∷ []) k [] ≡ get_or loops k [] = get_or-append loops (one ∷ []) [] k small in

@@ -60,16 +60,16 @@ module _ (root : ℕ → ℕ) (sign : ℕ → Bool) where
       least : (u : ℕ) → u < n + 1 → root u ≡ r → n ≤ u
       least u less e = elim (cases_lt u n) [ inl small ↦ absurd (alone u small e) | inr high ↦ high ]
 
-      put-at : (q : ℕ) → q < length firsts → (q ≡ r) ⊎ (q ≡ r → ⊥) → IsFirst root sign (n + 1) q (get_or (set firsts r (Some (n, minus))) q None)
-      put-at q l (inl e) =
+      put_at : (q : ℕ) → q < length firsts → (q ≡ r) ⊎ (q ≡ r → ⊥) → IsFirst root sign (n + 1) q (get_or (set firsts r (Some (n, minus))) q None)
+      put_at q l (inl e) =
           let at : get_or (set firsts r (Some (n, minus))) q None ≡ Some (n, minus) = rw e (get_or-set_same firsts r (Some (n, minus)) None inside) in
           subst (λ o. IsFirst root sign (n + 1) q o) (sym at) (omega arith, here ∙ sym e, sign-here, λ u less f. least u less (f ∙ e))
-      put-at q l (inr e) =
+      put_at q l (inr e) =
           let at : get_or (set firsts r (Some (n, minus))) q None ≡ get_or firsts q None = get_or-set_other firsts r q (Some (n, minus)) None e in
           subst (λ o. IsFirst root sign (n + 1) q o) (sym at) (weak q e (get_or firsts q None) (to q l))
 
       pub first_put : AreFirst root sign (n + 1) (set firsts r (Some (n, minus)))
-      first_put q l = put-at q (let s = length-set firsts r (Some (n, minus)) in omega (arith, s, l)) (cases_eq q r)
+      first_put q l = put_at q (let s = length-set firsts r (Some (n, minus)) in omega (arith, s, l)) (cases_eq q r)
 
       pub gone_skip : (gone : List Gone) → AreGoneBelow root sign n gone → AreGoneBelow root sign (n + 1) gone
       gone_skip gone g = record {
@@ -93,21 +93,21 @@ module _ (root : ℕ → ℕ) (sign : ℕ → Bool) where
         | inr other ↦ before.3 u (omega (arith, less, other)) e
       ]
 
-      kept-at : (q : ℕ) → q < length firsts → (q ≡ r) ⊎ (q ≡ r → ⊥) → IsFirst root sign (n + 1) q (get_or firsts q None)
-      kept-at q l (inl e) =
+      kept_at : (q : ℕ) → q < length firsts → (q ≡ r) ⊎ (q ≡ r → ⊥) → IsFirst root sign (n + 1) q (get_or firsts q None)
+      kept_at q l (inl e) =
           subst (λ z. IsFirst root sign (n + 1) z (get_or firsts z None)) (sym e)
           (subst (λ o. IsFirst root sign (n + 1) r o) (sym some) (let b = before.0 in omega (arith, b), before.1, before.2, still))
-      kept-at q l (inr e) = weak q e (get_or firsts q None) (to q l)
+      kept_at q l (inr e) = weak q e (get_or firsts q None) (to q l)
 
       pub first_kept : AreFirst root sign (n + 1) firsts
-      first_kept q l = kept-at q l (cases_eq q r)
+      first_kept q l = kept_at q l (cases_eq q r)
 
       module _ (gone : List Gone) (g : AreGoneBelow root sign n gone) (one : Gone) (number : one.unknown ≡ n) (its : one.of ≡ of) (product : one.minus ≡ sign_product s minus) where
         numbers : map (λ (z : Gone). z.unknown) (gone ++ one ∷ []) ≡ map (λ (z : Gone). z.unknown) gone ++ n ∷ []
         numbers = map-append (λ (z : Gone). z.unknown) gone (one ∷ []) ∙ ap (λ w. map (λ (z : Gone). z.unknown) gone ++ w ∷ []) number
 
-        new-gone : IsGoneFrom root sign one
-        new-gone = record {
+        new_gone : IsGoneFrom root sign one
+        new_gone = record {
           lesser = (let b = before.0 in omega (arith, b, number, its));
           together = ap root number ∙ here ∙ sym before.1 ∙ ap root (sym its);
           signs = product ∙ ap (λ w. sign_product w minus) (sym before.2) ∙ ap (sign_product (sign of)) (sym sign-here) ∙ product_swap (sign of) (sign n)
@@ -115,24 +115,24 @@ module _ (root : ℕ → ℕ) (sign : ℕ → Bool) where
           least = λ v less same. let h = before.3 v (omega (arith, less, number)) (same ∙ ap root number ∙ here) in omega (arith, h, its);
         }
 
-        only-by : (h : Gone) → Contains gone h ⊎ (one ≡ h) → IsGoneFrom root sign h
-        only-by h (inl c) = g.only h c
-        only-by h (inr e) = subst (λ w. IsGoneFrom root sign w) e new-gone
+        only_by : (h : Gone) → Contains gone h ⊎ (one ≡ h) → IsGoneFrom root sign h
+        only_by h (inl c) = g.only h c
+        only_by h (inr e) = subst (λ w. IsGoneFrom root sign w) e new_gone
 
-        below-by : (u : ℕ) → Contains (map (λ (z : Gone). z.unknown) gone) u ⊎ (n ≡ u) → u < n + 1
-        below-by u (inl c) = let h = g.below u c in omega (arith, h)
-        below-by u (inr e) = omega (arith, e)
+        below_by : (u : ℕ) → Contains (map (λ (z : Gone). z.unknown) gone) u ⊎ (n ≡ u) → u < n + 1
+        below_by u (inl c) = let h = g.below u c in omega (arith, h)
+        below_by u (inr e) = omega (arith, e)
 
-        all-by : (u v : ℕ) → v < u → u < n + 1 → root u ≡ root v → (u ≡ n) ⊎ (u ≡ n → ⊥) → Contains (map (λ (z : Gone). z.unknown) gone ++ n ∷ []) u
-        all-by u v less low same (inl e) = subst (λ w. Contains (map (λ (z : Gone). z.unknown) gone ++ n ∷ []) w) (sym e) (contains_last (map (λ (z : Gone). z.unknown) gone) n)
-        all-by u v less low same (inr e) = contains_kept (map (λ (z : Gone). z.unknown) gone) n u (g.all u v less (omega (arith, low, e)) same)
+        all_by : (u v : ℕ) → v < u → u < n + 1 → root u ≡ root v → (u ≡ n) ⊎ (u ≡ n → ⊥) → Contains (map (λ (z : Gone). z.unknown) gone ++ n ∷ []) u
+        all_by u v less low same (inl e) = subst (λ w. Contains (map (λ (z : Gone). z.unknown) gone ++ n ∷ []) w) (sym e) (contains_last (map (λ (z : Gone). z.unknown) gone) n)
+        all_by u v less low same (inr e) = contains_kept (map (λ (z : Gone). z.unknown) gone) n u (g.all u v less (omega (arith, low, e)) same)
 
         pub gone_put : AreGoneBelow root sign (n + 1) (gone ++ one ∷ [])
         gone_put = record {
           ascending = subst (λ w. IsStrictlyIncreasing w) (sym numbers) (ascend_put (map (λ (z : Gone). z.unknown) gone) n g.ascending g.below);
-          below = λ u c. below-by u (contains_put (map (λ (z : Gone). z.unknown) gone) n u (subst (λ w. Contains w u) numbers c));
-          only = λ h c. only-by h (contains_put gone one h c);
-          all = λ u v less low same. subst (λ w. Contains w u) (sym numbers) (all-by u v less low same (cases_eq u n));
+          below = λ u c. below_by u (contains_put (map (λ (z : Gone). z.unknown) gone) n u (subst (λ w. Contains w u) numbers c));
+          only = λ h c. only_by h (contains_put gone one h c);
+          all = λ u v less low same. subst (λ w. Contains w u) (sym numbers) (all_by u v less low same (cases_eq u n));
         }
 
 -- ---- the turns of the loop
@@ -183,19 +183,19 @@ module _ (said : List (Option Alias)) (t : Trees) (forest : IsForest said t (len
       let g = below r.root r.sign (roots_now r) in
       record {
         ascending = g.ascending;
-        only = λ z c. only-by r z (g.only z c);
+        only = λ z c. only_by r z (g.only z c);
         all = λ u v minus less j. let same = (one_root said (length said) r.root r.sign r.marked u v minus j).0 in g.all u v less (inside_by r u v less same) same;
       }
     where
-      only-by : (r : AreRooted said t (length said)) (z : Gone) → IsGoneFrom r.root r.sign z → IsGone said z
-      only-by r z h = record {
+      only_by : (r : AreRooted said t (length said)) (z : Gone) → IsGoneFrom r.root r.sign z → IsGone said z
+      only_by r z h = record {
         lesser = h.lesser;
         joined = joined_signed said (length said) z.unknown z.of (sign_product (r.sign z.unknown) (r.sign z.of)) z.minus (sym h.signs) (root_joins said (length said) r.root r.sign r.marked z.unknown z.of h.together);
-        least = λ v minus j. least-by v (sym (one_root said (length said) r.root r.sign r.marked z.unknown v minus j).0);
+        least = λ v minus j. least_by v (sym (one_root said (length said) r.root r.sign r.marked z.unknown v minus j).0);
       }
         where
-          least-by : (v : ℕ) → r.root v ≡ r.root z.unknown → z.of ≤ v
-          least-by v same = elim (cases_lt v z.unknown) [
+          least_by : (v : ℕ) → r.root v ≡ r.root z.unknown → z.of ≤ v
+          least_by v same = elim (cases_lt v z.unknown) [
             | inl l ↦ h.least v l same
             | inr l ↦ let k = h.lesser in omega (arith, k, l)
           ]

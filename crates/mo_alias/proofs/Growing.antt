@@ -25,10 +25,10 @@ contradicts_by true true e = absurd (true≢false (sym e))
 
 module _ (said : List (Option Alias)) (t : Trees) (n : ℕ) (forest : IsForest said t n) where
   pub no_later : (u : ℕ) → n ≤ since_in t u → 18446744073709551615 ≤ since_in t u
-  no_later u l = elim (low-or u) [ inl less ↦ absurd (let b = forest.before u less in omega (arith, b, l)) | inr high ↦ high ]
+  no_later u l = elim (low_or u) [ inl less ↦ absurd (let b = forest.before u less in omega (arith, b, l)) | inr high ↦ high ]
     where
-      low-or : (u : ℕ) → (since_in t u < 18446744073709551615) ⊎ (18446744073709551615 ≤ since_in t u)
-      low-or u = by (cases_eq (since_in t u) 18446744073709551615) (forest.trees.low u)
+      low_or : (u : ℕ) → (since_in t u < 18446744073709551615) ⊎ (18446744073709551615 ≤ since_in t u)
+      low_or u = by (cases_eq (since_in t u) 18446744073709551615) (forest.trees.low u)
         where
           by : (since_in t u ≡ 18446744073709551615) ⊎ (since_in t u ≡ 18446744073709551615 → ⊥) → since_in t u ≤ 18446744073709551615 → (since_in t u < 18446744073709551615) ⊎ (18446744073709551615 ≤ since_in t u)
           by (inl e) l = inr (omega (arith, e))
@@ -54,11 +54,11 @@ module _ (said : List (Option Alias)) (t : Trees) (n : ℕ) (forest : IsForest s
       once = forest.once;
       before = λ u l. let b = forest.before u l in omega (arith, b);
       linked = forest.linked;
-      rooted = rooted-to;
+      rooted = rooted_to;
     }
       where
-        rooted-to : (at : ℕ) → at ≤ suc n → AreRooted said t at
-        rooted-to at l = by (cases_eq at (suc n))
+        rooted_to : (at : ℕ) → at ≤ suc n → AreRooted said t at
+        rooted_to at l = by (cases_eq at (suc n))
           where
             last : AreRooted said t (suc n)
             last =

@@ -47,27 +47,27 @@ positive_is (suc x) u e = (omega arith, let f : Some (suc x) ≡ Some u = e in c
 sign_is : (b : Bool) (o : Option ℕ) (p : Bool × ℕ) → with_sign b o ≡ Some p → (u : ℕ) × (o ≡ Some u) × (b ≡ p.0) × (u ≡ p.1)
 sign_is b None p e = let f : None ≡ Some p = e in cc
 sign_is b (Some u) p e =
-    let same : (b, u) ≡ p = some-same (b, u) p e in
+    let same : (b, u) ≡ p = some_same (b, u) p e in
     (u, refl, ap (λ x. x.0) same, ap (λ x. x.1) same)
   where
-    some-same : (x y : Bool × ℕ) → Some x ≡ Some y → x ≡ y
-    some-same x y f = cc
+    some_same : (x y : Bool × ℕ) → Some x ≡ Some y → x ≡ y
+    some_same x y f = cc
 
 pair_is : (x y : Option (Bool × ℕ)) (p : (Bool × ℕ) × (Bool × ℕ)) → pair_of x y ≡ Some p → (x ≡ Some p.0) × (y ≡ Some p.1)
 pair_is None None p e = let f : None ≡ Some p = e in cc
 pair_is None (Some b) p e = let f : None ≡ Some p = e in cc
 pair_is (Some a) None p e = let f : None ≡ Some p = e in cc
-pair_is (Some a) (Some b) p e = let same = some-same (a, b) p e in (ap (λ x. Some x.0) same, ap (λ x. Some x.1) same)
+pair_is (Some a) (Some b) p e = let same = some_same (a, b) p e in (ap (λ x. Some x.0) same, ap (λ x. Some x.1) same)
   where
-    some-same : (x y : (Bool × ℕ) × (Bool × ℕ)) → Some x ≡ Some y → x ≡ y
-    some-same x y f = cc
+    some_same : (x y : (Bool × ℕ) × (Bool × ℕ)) → Some x ≡ Some y → x ≡ y
+    some_same x y f = cc
 
 said_is : (b : Bool) (x : Option ((Bool × ℕ) × (Bool × ℕ))) (a : Alias) → option_map (said_by b) x ≡ Some a → (p : (Bool × ℕ) × (Bool × ℕ)) × (x ≡ Some p) × (said_by b p ≡ a)
 said_is b None a e = let f : None ≡ Some a = e in cc
-said_is b (Some p) a e = (p, refl, some-same (said_by b p) a e)
+said_is b (Some p) a e = (p, refl, some_same (said_by b p) a e)
   where
-    some-same : (x y : Alias) → Some x ≡ Some y → x ≡ y
-    some-same x y f = cc
+    some_same : (x y : Alias) → Some x ≡ Some y → x ≡ y
+    some_same x y f = cc
 
 -- ---- values
 

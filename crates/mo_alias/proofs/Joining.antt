@@ -61,62 +61,62 @@ module _ (said : List (Option Alias)) (t new : Trees) (n : ℕ) (forest : IsFore
   far_high = reaches_now said t n forest (omega (arith, early)) far high z here
 
   module _ (r : AreRooted said t n) where
-    near-root : (r.root near ≡ low) × (r.sign near ≡ s)
-    near-root = climbs_one (parent_in t) (since_in t) (minus_in t) n near (r.root near) low (r.sign near) s (r.climbs near) near_low
+    near_root : (r.root near ≡ low) × (r.sign near ≡ s)
+    near_root = climbs_one (parent_in t) (since_in t) (minus_in t) n near (r.root near) low (r.sign near) s (r.climbs near) near_low
 
-    far-root : (r.root far ≡ high) × (r.sign far ≡ z)
-    far-root = climbs_one (parent_in t) (since_in t) (minus_in t) n far (r.root far) high (r.sign far) z (r.climbs far) far_high
+    far_root : (r.root far ≡ high) × (r.sign far ≡ z)
+    far_root = climbs_one (parent_in t) (since_in t) (minus_in t) n far (r.root far) high (r.sign far) z (r.climbs far) far_high
 
-    roots-apart : r.root far ≡ r.root near → ⊥
-    roots-apart e = apart (sym near-root.0 ∙ sym e ∙ far-root.0)
+    roots_apart : r.root far ≡ r.root near → ⊥
+    roots_apart e = apart (sym near_root.0 ∙ sym e ∙ far_root.0)
 
     pub new_link : IsLink said n
-    new_link = fresh said n r.root r.sign r.marked near far m says roots-apart
+    new_link = fresh said n r.root r.sign r.marked near far m says roots_apart
 
-    high-still : suc n ≤ since_in new high
-    high-still = let h = same high (λ e. apart (sym e)) in omega (arith, h.1, high_root, early)
+    high_still : suc n ≤ since_in new high
+    high_still = let h = same high (λ e. apart (sym e)) in omega (arith, h.1, high_root, early)
 
-    turned-sign : minus_in new low ≡ sign_product (sign_product (r.sign near) (r.sign far)) m
-    turned-sign =
+    turned_sign : minus_in new low ≡ sign_product (sign_product (r.sign near) (r.sign far)) m
+    turned_sign =
         minus_at t new low high minus n near far put forest.trees inside ∙ sign
-        ∙ ap (λ w. sign_product (sign_product w z) m) (sym near-root.1) ∙ ap (λ w. sign_product (sign_product (r.sign near) w) m) (sym far-root.1)
+        ∙ ap (λ w. sign_product (sign_product w z) m) (sym near_root.1) ∙ ap (λ w. sign_product (sign_product (r.sign near) w) m) (sym far_root.1)
 
     -- from the root that was put below
-    low-climbs : Reaches new (suc n) low high (sign_product (minus_in new low) false)
-    low-climbs = up (omega (arith, since_new)) (subst (λ p. Reaches new (suc n) p high false) (sym (parent_at t new low high minus n near far put forest.trees inside)) (top high-still))
+    low_climbs : Reaches new (suc n) low high (sign_product (minus_in new low) false)
+    low_climbs = up (omega (arith, since_new)) (subst (λ p. Reaches new (suc n) p high false) (sym (parent_at t new low high minus n near far put forest.trees inside)) (top high_still))
 
-    moved-climbs : (u : ℕ) → r.root u ≡ r.root near → Reaches new (suc n) u (r.root far) (sign_product (r.sign u) (sign_product (r.sign near) (sign_product m (r.sign far))))
-    moved-climbs u e =
-        let way : Reaches new n u low (r.sign u) = kept n (omega arith) u low (r.sign u) (subst (λ w. Reaches t n u w (r.sign u)) (e ∙ near-root.0) (r.climbs u)) in
+    moved_climbs : (u : ℕ) → r.root u ≡ r.root near → Reaches new (suc n) u (r.root far) (sign_product (r.sign u) (sign_product (r.sign near) (sign_product m (r.sign far))))
+    moved_climbs u e =
+        let way : Reaches new n u low (r.sign u) = kept n (omega arith) u low (r.sign u) (subst (λ w. Reaches t n u w (r.sign u)) (e ∙ near_root.0) (r.climbs u)) in
         let on : Reaches new (suc n) u high (sign_product (r.sign u) (sign_product (minus_in new low) false)) =
-        climbs_on (parent_in new) (since_in new) (minus_in new) n (suc n) (omega arith) u low high (r.sign u) (sign_product (minus_in new low) false) way low-climbs in
-        subst (λ w. Reaches new (suc n) u w (sign_product (r.sign u) (sign_product (r.sign near) (sign_product m (r.sign far))))) (sym far-root.0)
-        (subst (λ w. Reaches new (suc n) u high w) (ap (λ w. sign_product (r.sign u) (sign_product w false)) turned-sign ∙ between_roots (r.sign u) (r.sign near) (r.sign far) m) on)
+        climbs_on (parent_in new) (since_in new) (minus_in new) n (suc n) (omega arith) u low high (r.sign u) (sign_product (minus_in new low) false) way low_climbs in
+        subst (λ w. Reaches new (suc n) u w (sign_product (r.sign u) (sign_product (r.sign near) (sign_product m (r.sign far))))) (sym far_root.0)
+        (subst (λ w. Reaches new (suc n) u high w) (ap (λ w. sign_product (r.sign u) (sign_product w false)) turned_sign ∙ between_roots (r.sign u) (r.sign near) (r.sign far) m) on)
 
-    stayed-climbs : (u : ℕ) → (r.root u ≡ r.root near → ⊥) → Reaches new (suc n) u (r.root u) (r.sign u)
-    stayed-climbs u e =
-        let ne : r.root u ≡ low → ⊥ = λ f. e (f ∙ sym near-root.0) in
+    stayed_climbs : (u : ℕ) → (r.root u ≡ r.root near → ⊥) → Reaches new (suc n) u (r.root u) (r.sign u)
+    stayed_climbs u e =
+        let ne : r.root u ≡ low → ⊥ = λ f. e (f ∙ sym near_root.0) in
         let h = same (r.root u) ne in
         let root : n ≤ since_in t (r.root u) = climbs_top (parent_in t) (since_in t) (minus_in t) n u (r.root u) (r.sign u) (r.climbs u) in
         let never : 18446744073709551615 ≤ since_in t (r.root u) = no_later said t n forest (r.root u) root in
         climbs_still (parent_in new) (since_in new) (minus_in new) n (suc n) (omega arith) u (r.root u) (r.sign u) (omega (arith, h.1, never, early)) (kept n (omega arith) u (r.root u) (r.sign u) (r.climbs u))
 
-    after-climbs : (u : ℕ) → Reaches new (suc n) u (root_after said n r.root r.sign r.marked near far m says roots-apart u) (sign_after said n r.root r.sign r.marked near far m says roots-apart u)
-    after-climbs u = elim (cases_eq (r.root u) (r.root near)) [
+    after_climbs : (u : ℕ) → Reaches new (suc n) u (root_after said n r.root r.sign r.marked near far m says roots_apart u) (sign_after said n r.root r.sign r.marked near far m says roots_apart u)
+    after_climbs u = elim (cases_eq (r.root u) (r.root near)) [
       | inl e ↦
-          subst (λ w. Reaches new (suc n) u w (sign_after said n r.root r.sign r.marked near far m says roots-apart u)) (sym (root_in said n r.root r.sign r.marked near far m says roots-apart u e))
-          (subst (λ w. Reaches new (suc n) u (r.root far) w) (sym (sign_in said n r.root r.sign r.marked near far m says roots-apart u e)) (moved-climbs u e))
+          subst (λ w. Reaches new (suc n) u w (sign_after said n r.root r.sign r.marked near far m says roots_apart u)) (sym (root_in said n r.root r.sign r.marked near far m says roots_apart u e))
+          (subst (λ w. Reaches new (suc n) u (r.root far) w) (sym (sign_in said n r.root r.sign r.marked near far m says roots_apart u e)) (moved_climbs u e))
       | inr e ↦
-          subst (λ w. Reaches new (suc n) u w (sign_after said n r.root r.sign r.marked near far m says roots-apart u)) (sym (root_out said n r.root r.sign r.marked near far m says roots-apart u e))
-          (subst (λ w. Reaches new (suc n) u (r.root u) w) (sym (sign_out said n r.root r.sign r.marked near far m says roots-apart u e)) (stayed-climbs u e))
+          subst (λ w. Reaches new (suc n) u w (sign_after said n r.root r.sign r.marked near far m says roots_apart u)) (sym (root_out said n r.root r.sign r.marked near far m says roots_apart u e))
+          (subst (λ w. Reaches new (suc n) u (r.root u) w) (sym (sign_out said n r.root r.sign r.marked near far m says roots_apart u e)) (stayed_climbs u e))
     ]
 
     pub rooted_after : AreRooted said new (suc n)
     rooted_after = record {
-      root = root_after said n r.root r.sign r.marked near far m says roots-apart;
-      sign = sign_after said n r.root r.sign r.marked near far m says roots-apart;
-      marked = marked_link said n r.root r.sign r.marked near far m says roots-apart;
-      climbs = after-climbs;
+      root = root_after said n r.root r.sign r.marked near far m says roots_apart;
+      sign = sign_after said n r.root r.sign r.marked near far m says roots_apart;
+      marked = marked_link said n r.root r.sign r.marked near far m says roots_apart;
+      climbs = after_climbs;
     }
 
   rooted_before : (at : ℕ) → at ≤ n → AreRooted said t at → AreRooted said new at

@@ -40,8 +40,8 @@ module _ (t : Trees) (trees : AreTrees t) where
       latest = λ e. absurd (ne e);
     }
 
-    not-both : (a b : ℕ) → (a ≡ b → ⊥) → HaveRoot t 18446744073709551615 a b → 18446744073709551615 ≤ since_in t a → 18446744073709551615 ≤ since_in t b → ⊥
-    not-both a b ne h la lb =
+    not_both : (a b : ℕ) → (a ≡ b → ⊥) → HaveRoot t 18446744073709551615 a b → 18446744073709551615 ≤ since_in t a → 18446744073709551615 ≤ since_in t b → ⊥
+    not_both a b ne h la lb =
         let x = climbs_one (parent_in t) (since_in t) (minus_in t) 18446744073709551615 a a h.root false h.sign (top la) h.above in
         let y = climbs_one (parent_in t) (since_in t) (minus_in t) 18446744073709551615 b b h.root false h.other_sign (top lb) h.other_above in
         ne (x.0 ∙ sym y.0)
@@ -50,7 +50,7 @@ module _ (t : Trees) (trees : AreTrees t) where
     pub second_early : (a b : ℕ) (last : Latest) → LatestTo t one other a b last → (a ≡ b → ⊥) → since_in t b ≤ since_in t a → since_in t b < 18446744073709551615
     second_early a b last h ne less = elim (cases_lt (since_in t b) 18446744073709551615) [
       | inl l ↦ l
-      | inr l ↦ absurd (not-both a b ne h.joined (omega (arith, l, less)) l)
+      | inr l ↦ absurd (not_both a b ne h.joined (omega (arith, l, less)) l)
     ]
 
     -- past the first one
@@ -74,11 +74,11 @@ module _ (t : Trees) (trees : AreTrees t) where
           one_side = climbs_on (parent_in t) (since_in t) (minus_in t) (since_in t a) (suc (since_in t a)) (omega arith) one a (parent_in t a) h.sign _ up-to over;
           other_side = climbs_still (parent_in t) (since_in t) (minus_in t) h.at (suc (since_in t a)) (omega (arith, h.one_low)) other b h.other_sign (omega (arith, less)) h.other_side;
           joined = record { root = h.joined.root; sign = way.0; other_sign = h.joined.other_sign; above = way.1; other_above = h.joined.other_above };
-          latest = λ e. latest-at e;
+          latest = λ e. latest_at e;
         }
       where
-        latest-at : parent_in t a ≡ b → IsLatest t one other next
-        latest-at e =
+        latest_at : parent_in t a ≡ b → IsLatest t one other next
+        latest_at e =
             let low = trees.low b in
             let early : since_in t a < 18446744073709551615 = omega (arith, less, low) in
             first a h.sign h.other_sign (sym at) (omega (arith, at, early)) (sym near) (sym far)
@@ -107,7 +107,7 @@ module _ (t : Trees) (trees : AreTrees t) where
           one_side = climbs_still (parent_in t) (since_in t) (minus_in t) h.at (suc (since_in t b)) (omega (arith, h.other_low)) one a h.sign (omega (arith, less')) h.one_side;
           other_side = climbs_on (parent_in t) (since_in t) (minus_in t) (since_in t b) (suc (since_in t b)) (omega arith) other b (parent_in t b) h.other_sign _ up-to over;
           joined = record { root = h.joined.root; sign = h.joined.sign; other_sign = way.0; above = h.joined.above; other_above = way.1 };
-          latest = λ e. latest-at early e;
+          latest = λ e. latest_at early e;
         }
       where
         strict : since_in t b < 18446744073709551615 → since_in t b < since_in t a
@@ -116,8 +116,8 @@ module _ (t : Trees) (trees : AreTrees t) where
           | inr e ↦ omega (arith, e, less)
         ]
 
-        latest-at : since_in t b < 18446744073709551615 → a ≡ parent_in t b → IsLatest t one other next
-        latest-at early e =
+        latest_at : since_in t b < 18446744073709551615 → a ≡ parent_in t b → IsLatest t one other next
+        latest_at early e =
             second b h.sign h.other_sign (sym at) (omega (arith, at, early)) (sym near) (sym far)
             (subst (λ w. Reaches t w one (parent_in t b) h.sign) (sym at)
             (subst (λ w. Reaches t (since_in t b) one w h.sign) e (climbs_still (parent_in t) (since_in t) (minus_in t) h.at (since_in t b) h.other_low one a h.sign less h.one_side)))

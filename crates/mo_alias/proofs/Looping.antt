@@ -37,14 +37,14 @@ forest_begin said t trees roots = record {
   once = λ u v l e. absurd (let r = roots u in omega (arith, r, l));
   before = λ u l. absurd (let r = roots u in omega (arith, r, l));
   linked = λ u l. absurd (let r = roots u in omega (arith, r, l));
-  rooted = λ at l. rooted-to at l;
+  rooted = λ at l. rooted_to at l;
 }
   where
     none : AreRooted said t 0
     none = record { root = λ u. u; sign = λ u. false; marked = marked_nothing said; climbs = λ u. top (omega arith) }
 
-    rooted-to : (at : ℕ) → at ≤ 0 → AreRooted said t at
-    rooted-to at l = let e : 0 ≡ at = omega (arith, l) in subst (λ w. AreRooted said t w) e none
+    rooted_to : (at : ℕ) → at ≤ 0 → AreRooted said t at
+    rooted_to at l = let e : 0 ≡ at = omega (arith, l) in subst (λ w. AreRooted said t w) e none
 
 pub findings_none : (said : List (Option Alias)) (fs : List Finding) → fs ≡ [] → AreFindings said 0 fs
 findings_none said fs e = (ap length e, λ k l. absurd (omega (arith, l)))
@@ -100,8 +100,8 @@ module _ (said : List (Option Alias)) (t : Trees) (n : ℕ) (forest : IsForest s
       once = put.1.once;
       members = record {
         ascending = ascending;
-        only = λ x c. only-by x ((put.2 x).0 ((members x).1 c));
-        all = λ x p l h. (members x).0 ((put.2 x).1 (all-by x p h));
+        only = λ x c. only_by x ((put.2 x).0 ((members x).1 c));
+        all = λ x p l h. (members x).0 ((put.2 x).1 (all_by x p h));
       };
     }
       where
@@ -111,16 +111,16 @@ module _ (said : List (Option Alias)) (t : Trees) (n : ℕ) (forest : IsForest s
         sign : put.1.minus ≡ not a.minus
         sign = let r = forest.rooted at (omega (arith, low)) in one_sign said at r.root r.sign r.marked a.left a.right put.1.minus (not a.minus) (put.0, put.1.chain) loop_chain
 
-        first-by : (x : ℕ) → Has empty x ⊎ (x ≡ number) → (0 < x) × (x ≤ length said) × ((x ≡ at + 1) ⊎ Contains put.0 (x - 1))
-        first-by x (inl h) = absurd (has_none empty x none h)
-        first-by x (inr e) = (omega (arith, e, numbered), omega (arith, e, numbered, low, size), inl (e ∙ numbered))
+        first_by : (x : ℕ) → Has empty x ⊎ (x ≡ number) → (0 < x) × (x ≤ length said) × ((x ≡ at + 1) ⊎ Contains put.0 (x - 1))
+        first_by x (inl h) = absurd (has_none empty x none h)
+        first_by x (inr e) = (omega (arith, e, numbered), omega (arith, e, numbered, low, size), inl (e ∙ numbered))
 
-        only-by : (x : ℕ) → IsListed before put.0 x → (0 < x) × (x ≤ length said) × ((x ≡ at + 1) ⊎ Contains put.0 (x - 1))
-        only-by x (inl h) = first-by x (has_either empty before number up x h)
-        only-by x (inr (p, m)) =
+        only_by : (x : ℕ) → IsListed before put.0 x → (0 < x) × (x ≤ length said) × ((x ≡ at + 1) ⊎ Contains put.0 (x - 1))
+        only_by x (inl h) = first_by x (has_either empty before number up x h)
+        only_by x (inr (p, m)) =
             let less = chain_low said at a.left a.right put.1.minus put.0 put.1.chain (x - 1) m in
             (p, omega (arith, less, low, size), inr m)
 
-        all-by : (x : ℕ) → 0 < x → (x ≡ at + 1) ⊎ Contains put.0 (x - 1) → IsListed before put.0 x
-        all-by x p (inl e) = inl (subst (λ w. Has before w) (numbered ∙ sym e) (has_new empty before number up))
-        all-by x p (inr m) = inr (p, m)
+        all_by : (x : ℕ) → 0 < x → (x ≡ at + 1) ⊎ Contains put.0 (x - 1) → IsListed before put.0 x
+        all_by x p (inl e) = inl (subst (λ w. Has before w) (numbered ∙ sym e) (has_new empty before number up))
+        all_by x p (inr m) = inr (p, m)

@@ -47,12 +47,12 @@ module _ (t new : Trees) (low high : ℕ) (minus : Bool) (at near far : ℕ) (pu
 
   module _ (early : at < 18446744073709551615) (root : 18446744073709551615 ≤ since_in t low) (above : 18446744073709551615 ≤ since_in t high) (apart : high ≡ low → ⊥) (within : high < length t.parent.items)
       (before : (u : ℕ) → since_in t u < 18446744073709551615 → since_in t u < at) where
-    since-high : 18446744073709551615 ≤ since_in new high
-    since-high = let h = others high apart in omega (arith, h.1, above)
+    since_high : 18446744073709551615 ≤ since_in new high
+    since_high = let h = others high apart in omega (arith, h.1, above)
 
-    rises-new : (u : ℕ) → since_in new u < 18446744073709551615 → since_in new u < since_in new (parent_in new u)
-    rises-new u l = elim (cases_eq u low) [
-      | inl e ↦ rw e (let p = parent_at in let s = since_at in rw (p, s) (omega (arith, since-high, early)))
+    rises_new : (u : ℕ) → since_in new u < 18446744073709551615 → since_in new u < since_in new (parent_in new u)
+    rises_new u l = elim (cases_eq u low) [
+      | inl e ↦ rw e (let p = parent_at in let s = since_at in rw (p, s) (omega (arith, since_high, early)))
       | inr e ↦
           let h = others u e in
           let l' : since_in t u < 18446744073709551615 = omega (arith, h.1, l) in
@@ -64,14 +64,14 @@ module _ (t new : Trees) (low high : ℕ) (minus : Bool) (at near far : ℕ) (pu
           subst (λ w. since_in new u < since_in new w) (sym h.0) up'
     ]
 
-    inside-new : (u : ℕ) → u < length new.parent.items → parent_in new u < length new.parent.items
-    inside-new u l = elim (cases_eq u low) [
+    inside_new : (u : ℕ) → u < length new.parent.items → parent_in new u < length new.parent.items
+    inside_new u l = elim (cases_eq u low) [
       | inl e ↦ rw e (let p = parent_at in omega (arith, p, size_same, within))
       | inr e ↦ let h = others u e in let i = trees.inside u (omega (arith, l, size_same)) in omega (arith, h.0, i, size_same)
     ]
 
-    low-new : (u : ℕ) → since_in new u ≤ 18446744073709551615
-    low-new u = elim (cases_eq u low) [
+    low_new : (u : ℕ) → since_in new u ≤ 18446744073709551615
+    low_new u = elim (cases_eq u low) [
       | inl e ↦ rw e (let s = since_at in omega (arith, s, early))
       | inr e ↦ let h = others u e in let l = trees.low u in omega (arith, h.1, l)
     ]
@@ -82,9 +82,9 @@ module _ (t new : Trees) (low high : ℕ) (minus : Bool) (at near far : ℕ) (pu
       since_size = ap length put.places ∙ length-set t.since.items low at ∙ trees.since_size ∙ sym size_same;
       ends_size = ap length put.sides ∙ length-set t.ends.items low (near, far) ∙ trees.ends_size ∙ sym size_same;
       height_size = put.heights ∙ trees.height_size ∙ sym size_same;
-      inside = inside-new;
-      rises = rises-new;
-      low = low-new;
+      inside = inside_new;
+      rises = rises_new;
+      low = low_new;
     }
 
     pub before_new : (u : ℕ) → since_in new u < 18446744073709551615 → since_in new u < suc at

@@ -49,12 +49,12 @@ any_member : (i : ℕ) (xs : List ℕ) → list_any (nat_eq i) xs ≡ true → C
 any_member i [] e = let f : false ≡ true = e in cc
 any_member i (x ∷ xs) e = elim (cases_eq i x) [
   | inl same ↦ (0, omega arith, sym same)
-  | inr other ↦ (let h = any_member i xs (drop-first (nat_eq i x) (list_any (nat_eq i) xs) (ne_eqb i x other) e) in (suc h.0, (let m = h.1 in omega (arith, m)), h.2))
+  | inr other ↦ (let h = any_member i xs (drop_first (nat_eq i x) (list_any (nat_eq i) xs) (ne_eqb i x other) e) in (suc h.0, (let m = h.1 in omega (arith, m)), h.2))
 ]
   where
-    drop-first : (b c : Bool) → b ≡ false → (b || c) ≡ true → c ≡ true
-    drop-first true c f g = absurd (true≢false f)
-    drop-first false c f g = g
+    drop_first : (b c : Bool) → b ≡ false → (b || c) ≡ true → c ≡ true
+    drop_first true c f g = absurd (true≢false f)
+    drop_first false c f g = g
 
 module _ (m : FlatModel) (a : Aliases) (found : AreAliases m a) (I : Interpretation) where
   -- ---- numbers of unknowns

@@ -134,11 +134,11 @@ module _ (said : List (Option Alias)) where
     pub apart : (r : AreRooted said t latest.at) → r.root latest.near ≡ r.root latest.far → ⊥
 
   module _ (t : Trees) (n : ℕ) (forest : IsForest said t n) (one other below : ℕ) (joined : HaveRoot t below one other) (latest : Latest) where
-    not-above : (u : ℕ) → since_in t u < 18446744073709551615 → u ≡ parent_in t u → ⊥
-    not-above u l e = let r = forest.trees.rises u l in let same : since_in t u ≡ since_in t (parent_in t u) = ap (since_in t) e in omega (arith, r, same)
+    not_above : (u : ℕ) → since_in t u < 18446744073709551615 → u ≡ parent_in t u → ⊥
+    not_above u l e = let r = forest.trees.rises u l in let same : since_in t u ≡ since_in t (parent_in t u) = ap (since_in t) e in omega (arith, r, same)
 
-    before-below : (u v : ℕ) (s z : Bool) → (u ≡ v → ⊥) → latest.at < 18446744073709551615 → Reaches t latest.at one u s → Reaches t latest.at other v z → latest.at < below
-    before-below u v s z ne l c d = elim (cases_lt latest.at below) [
+    before_below : (u v : ℕ) (s z : Bool) → (u ≡ v → ⊥) → latest.at < 18446744073709551615 → Reaches t latest.at one u s → Reaches t latest.at other v z → latest.at < below
+    before_below u v s z ne l c d = elim (cases_lt latest.at below) [
       | inl less ↦ less
       | inr high ↦ absurd (
           let h = later_root t forest.trees below latest.at one other high (omega (arith, l)) joined in
@@ -147,57 +147,57 @@ module _ (said : List (Option Alias)) where
           ne (x.0 ∙ sym y.0))
     ]
 
-    two-roots : (u v near far : ℕ) (s z : Bool) → (u ≡ v → ⊥) → Reaches t latest.at near u s → Reaches t latest.at far v z → (r : AreRooted said t latest.at) → r.root near ≡ r.root far → ⊥
-    two-roots u v near far s z ne c d r e =
+    two_roots : (u v near far : ℕ) (s z : Bool) → (u ≡ v → ⊥) → Reaches t latest.at near u s → Reaches t latest.at far v z → (r : AreRooted said t latest.at) → r.root near ≡ r.root far → ⊥
+    two_roots u v near far s z ne c d r e =
         let x = climbs_one (parent_in t) (since_in t) (minus_in t) latest.at near u (r.root near) s (r.sign near) c (r.climbs near) in
         let y = climbs_one (parent_in t) (since_in t) (minus_in t) latest.at far v (r.root far) z (r.sign far) d (r.climbs far) in
         ne (x.0 ∙ e ∙ sym y.0)
 
-    pub is-split : IsLatest t one other latest → IsSplit t one other below latest
-    is-split (first u s z at l near far c d) =
+    pub is_split : IsLatest t one other latest → IsSplit t one other below latest
+    is_split (first u s z at l near far c d) =
         let k = forest.linked u (omega (arith, at, l)) in
-        let ne : u ≡ parent_in t u → ⊥ = not-above u (omega (arith, at, l)) in
+        let ne : u ≡ parent_in t u → ⊥ = not_above u (omega (arith, at, l)) in
         let nu : Reaches t latest.at latest.near u k.sign = subst (λ w. Reaches t w latest.near u k.sign) at (subst (λ w. Reaches t (since_in t u) w u k.sign) near k.near) in
         let fu : Reaches t latest.at latest.far (parent_in t u) k.other_sign = subst (λ w. Reaches t w latest.far (parent_in t u) k.other_sign) at (subst (λ w. Reaches t (since_in t u) w (parent_in t u) k.other_sign) far k.far) in
         record {
-          low = before-below u (parent_in t u) s z ne l c d;
+          low = before_below u (parent_in t u) s z ne l c d;
           link = subst (λ w. IsLink said w) at k.link;
           minus = k.minus;
           says = subst (λ w. Says said w latest.near latest.far k.minus) at (subst (λ w. Says said (since_in t u) w latest.far k.minus) near (subst (λ w. Says said (since_in t u) (ends_in t u).0 w k.minus) far k.says));
           near_joined = record { root = u; sign = s; other_sign = k.sign; above = c; other_above = nu };
           far_joined = record { root = parent_in t u; sign = k.other_sign; other_sign = z; above = fu; other_above = d };
-          apart = two-roots u (parent_in t u) latest.near latest.far k.sign k.other_sign ne nu fu;
+          apart = two_roots u (parent_in t u) latest.near latest.far k.sign k.other_sign ne nu fu;
         }
-    is-split (second u s z at l near far c d) =
+    is_split (second u s z at l near far c d) =
         let k = forest.linked u (omega (arith, at, l)) in
-        let ne : parent_in t u ≡ u → ⊥ = λ e. not-above u (omega (arith, at, l)) (sym e) in
+        let ne : parent_in t u ≡ u → ⊥ = λ e. not_above u (omega (arith, at, l)) (sym e) in
         let fu : Reaches t latest.at latest.far u k.sign = subst (λ w. Reaches t w latest.far u k.sign) at (subst (λ w. Reaches t (since_in t u) w u k.sign) far k.near) in
         let nu : Reaches t latest.at latest.near (parent_in t u) k.other_sign = subst (λ w. Reaches t w latest.near (parent_in t u) k.other_sign) at (subst (λ w. Reaches t (since_in t u) w (parent_in t u) k.other_sign) near k.far) in
         record {
-          low = before-below (parent_in t u) u s z ne l c d;
+          low = before_below (parent_in t u) u s z ne l c d;
           link = subst (λ w. IsLink said w) at k.link;
           minus = k.minus;
           says = says_back said latest.at latest.far latest.near k.minus
               (subst (λ w. Says said w latest.far latest.near k.minus) at (subst (λ w. Says said (since_in t u) latest.far w k.minus) near (subst (λ w. Says said (since_in t u) w (ends_in t u).1 k.minus) far k.says)));
           near_joined = record { root = parent_in t u; sign = s; other_sign = k.other_sign; above = c; other_above = nu };
           far_joined = record { root = u; sign = k.sign; other_sign = z; above = fu; other_above = d };
-          apart = two-roots (parent_in t u) u latest.near latest.far k.other_sign k.sign ne nu fu;
+          apart = two_roots (parent_in t u) u latest.near latest.far k.other_sign k.sign ne nu fu;
         }
 
     module _ (split : IsSplit t one other below latest) (within : AreWithin said (length t.parent.items)) where
-      ends-inside : (e u v : ℕ) (m : Bool) → Says said e u v m → (u < length t.parent.items) × (v < length t.parent.items)
-      ends-inside e u v m (forth a is l r k) = let h = within e a is in (subst (λ w. w < length t.parent.items) l h.0, subst (λ w. w < length t.parent.items) r h.1)
-      ends-inside e u v m (back a is r l k) = let h = within e a is in (subst (λ w. w < length t.parent.items) r h.1, subst (λ w. w < length t.parent.items) l h.0)
+      ends_inside : (e u v : ℕ) (m : Bool) → Says said e u v m → (u < length t.parent.items) × (v < length t.parent.items)
+      ends_inside e u v m (forth a is l r k) = let h = within e a is in (subst (λ w. w < length t.parent.items) l h.0, subst (λ w. w < length t.parent.items) r h.1)
+      ends_inside e u v m (back a is r l k) = let h = within e a is in (subst (λ w. w < length t.parent.items) r h.1, subst (λ w. w < length t.parent.items) l h.0)
 
-      pub near-open : below ≤ n → one < length t.parent.items → IsOpen t n (record { one = one; other = latest.near; below = latest.at })
-      near-open low l = record { early = (let h = split.low in omega (arith, h, low)); one = l; other = (ends-inside latest.at latest.near latest.far split.minus split.says).0; joined = split.near_joined }
+      pub near_open : below ≤ n → one < length t.parent.items → IsOpen t n (record { one = one; other = latest.near; below = latest.at })
+      near_open low l = record { early = (let h = split.low in omega (arith, h, low)); one = l; other = (ends_inside latest.at latest.near latest.far split.minus split.says).0; joined = split.near_joined }
 
-      pub far-open : below ≤ n → other < length t.parent.items → IsOpen t n (record { one = latest.far; other = other; below = latest.at })
-      far-open low l = record { early = (let h = split.low in omega (arith, h, low)); one = (ends-inside latest.at latest.near latest.far split.minus split.says).1; other = l; joined = split.far_joined }
+      pub far_open : below ≤ n → other < length t.parent.items → IsOpen t n (record { one = latest.far; other = other; below = latest.at })
+      far_open low l = record { early = (let h = split.low in omega (arith, h, low)); one = (ends_inside latest.at latest.near latest.far split.minus split.says).1; other = l; joined = split.far_joined }
 
-      pub both-joined : below ≤ n → (xs ys : List ℕ) → IsStretch said (record { one = one; other = latest.near; below = latest.at }) xs
+      pub both_joined : below ≤ n → (xs ys : List ℕ) → IsStretch said (record { one = one; other = latest.near; below = latest.at }) xs
           → IsStretch said (record { one = latest.far; other = other; below = latest.at }) ys → IsStretch said (record { one = one; other = other; below = below }) (xs ++ latest.at ∷ ys)
-      both-joined l xs ys =
+      both_joined l xs ys =
           let low = split.low in
           let r = forest.rooted latest.at (omega (arith, low, l)) in
           stretch_joined said latest.at below split.low split.link one latest.near latest.far other split.minus split.says r.root r.sign r.marked (split.apart r) xs ys
@@ -209,11 +209,11 @@ module _ (said : List (Option Alias)) (t : Trees) (n : ℕ) (forest : IsForest s
   turn_begin items e o = subst (λ z. AreOpen t n z × AreLeft said whole old z old) (sym e) (stretches.AreOpen.more o stretches.AreOpen.none, left_init said whole old)
 
   module _ (items rest : List Stretch) (w : Stretch) (set : BTreeSet ℕ) (e : items ≡ rest ++ w ∷ []) (before : AreOpen t n items × AreLeft said whole old items set) where
-    before-last : AreOpen t n (rest ++ w ∷ []) × AreLeft said whole old (rest ++ w ∷ []) set
-    before-last = subst (λ z. AreOpen t n z × AreLeft said whole old z set) e before
+    before_last : AreOpen t n (rest ++ w ∷ []) × AreLeft said whole old (rest ++ w ∷ []) set
+    before_last = subst (λ z. AreOpen t n z × AreLeft said whole old z set) e before
 
     pub turn_open : IsOpen t n w
-    turn_open = (waiting_last t n rest w before-last.0).1
+    turn_open = (waiting_last t n rest w before_last.0).1
 
     pub turn_joined : HaveRoot t 18446744073709551615 w.one w.other
     turn_joined =
@@ -222,7 +222,7 @@ module _ (said : List (Option Alias)) (t : Trees) (n : ℕ) (forest : IsForest s
         later_root t forest.trees w.below 18446744073709551615 w.one w.other (omega (arith, low, high)) (omega arith) turn_open.joined
 
     pub turn_skip : w.one ≡ w.other → AreOpen t n rest × AreLeft said whole old rest set
-    turn_skip same = ((waiting_last t n rest w before-last.0).0, left_skip said whole old rest w set same before-last.1)
+    turn_skip same = ((waiting_last t n rest w before_last.0).0, left_skip said whole old rest w set same before_last.1)
 
     pub turn_skip_less : weight rest < weight items
     turn_skip_less =
@@ -234,17 +234,17 @@ module _ (said : List (Option Alias)) (t : Trees) (n : ℕ) (forest : IsForest s
     module _ (latest : Latest) (is-latest : IsLatest t w.one w.other latest) (after : List Stretch)
         (f : after ≡ (rest ++ (record { one = w.one; other = latest.near; below = latest.at }) ∷ []) ++ (record { one = latest.far; other = w.other; below = latest.at }) ∷ []) where
       split : IsSplit said t w.one w.other w.below latest
-      split = is-split said t n forest w.one w.other w.below turn_open.joined latest is-latest
+      split = is_split said t n forest w.one w.other w.below turn_open.joined latest is-latest
 
       pub turn_split : (next : BTreeSet ℕ) (number : ℕ) → number ≡ latest.at + 1 → Updates nat_cmp set next number true → AreOpen t n after × AreLeft said whole old after next
       turn_split next number is up = subst (λ z. AreOpen t n z × AreLeft said whole old z next) (sym f) (
         waiting_put t n (rest ++ (record { one = w.one; other = latest.near; below = latest.at }) ∷ []) (record { one = latest.far; other = w.other; below = latest.at })
-            (waiting_put t n rest (record { one = w.one; other = latest.near; below = latest.at }) (waiting_last t n rest w before-last.0).0
-            (near-open said t n forest w.one w.other w.below turn_open.joined latest split within turn_open.early turn_open.one))
-            (far-open said t n forest w.one w.other w.below turn_open.joined latest split within turn_open.early turn_open.other),
+            (waiting_put t n rest (record { one = w.one; other = latest.near; below = latest.at }) (waiting_last t n rest w before_last.0).0
+            (near_open said t n forest w.one w.other w.below turn_open.joined latest split within turn_open.early turn_open.one))
+            (far_open said t n forest w.one w.other w.below turn_open.joined latest split within turn_open.early turn_open.other),
         left_split said whole old rest w (record { one = w.one; other = latest.near; below = latest.at }) (record { one = latest.far; other = w.other; below = latest.at }) set next latest.at
             (subst (λ z. Updates nat_cmp set next z true) is up)
-            (both-joined said t n forest w.one w.other w.below turn_open.joined latest split within turn_open.early) before-last.1,
+            (both_joined said t n forest w.one w.other w.below turn_open.joined latest split within turn_open.early) before_last.1,
       )
 
       pub turn_split_less : weight after < weight items

@@ -111,8 +111,8 @@ module _ (said : List (Option Alias)) where
   -- two chains on the two sides of a link are one
   module _ (at below : ℕ) (low : at < below) (is : IsLink said at) (one near far other : ℕ) (minus : Bool) (says : Says said at near far minus)
       (root : ℕ → ℕ) (sign : ℕ → Bool) (marked : IsMarked said at root sign) (apart : root near ≡ root far → ⊥) where
-    one-saying-root : (e u v : ℕ) (m : Bool) → IsLinkBelow said at e → Says said e u v m → root u ≡ root v
-    one-saying-root e u v m below s = (marked.links e u v m below s).0
+    one_saying_root : (e u v : ℕ) (m : Bool) → IsLinkBelow said at e → Says said e u v m → root u ≡ root v
+    one_saying_root e u v m below s = (marked.links e u v m below s).0
 
     pub stretch_joined : (xs ys : List ℕ) → IsStretch said (record { one = one; other = near; below = at }) xs → IsStretch said (record { one = far; other = other; below = at }) ys
         → IsStretch said (record { one = one; other = other; below = below }) (xs ++ at ∷ ys)
@@ -121,29 +121,29 @@ module _ (said : List (Option Alias)) where
       chain = chain_append said (IsLinkBelow said below) one near other a.minus (sign_product minus b.minus) xs (at ∷ ys)
           (chain_more said (IsLinkBelow said at) (IsLinkBelow said below) (λ e h. below_more said at below e (omega (arith, low)) h) one near a.minus xs a.chain)
           (link at (below_link below at low is) says (chain_more said (IsLinkBelow said at) (IsLinkBelow said below) (λ e h. below_more said at below e (omega (arith, low)) h) far other b.minus ys b.chain));
-      once = distinct_append xs (at ∷ ys) a.once (distinct_more at ys b.once not-there) never-both;
+      once = distinct_append xs (at ∷ ys) a.once (distinct_more at ys b.once not_there) never_both;
     }
       where
-        not-there : Contains ys at → ⊥
-        not-there h =
-            let k = chain_member (IsLinkBelow said at) root one-saying-root far other b.minus ys b.chain at h in
+        not_there : Contains ys at → ⊥
+        not_there h =
+            let k = chain_member (IsLinkBelow said at) root one_saying_root far other b.minus ys b.chain at h in
             let l = below_less at at k.0 in
             omega (arith, l)
 
-        never-both : (x : ℕ) → Contains xs x → Contains (at ∷ ys) x → ⊥
-        never-both x h (zero, l, e) =
-            let k = chain_member (IsLinkBelow said at) root one-saying-root one near a.minus xs a.chain x h in
+        never_both : (x : ℕ) → Contains xs x → Contains (at ∷ ys) x → ⊥
+        never_both x h (zero, l, e) =
+            let k = chain_member (IsLinkBelow said at) root one_saying_root one near a.minus xs a.chain x h in
             let less = below_less at x k.0 in
             omega (arith, less, e)
-        never-both x h (suc j, l, e) =
-            let k = chain_member (IsLinkBelow said at) root one-saying-root one near a.minus xs a.chain x h in
-            let g = chain_member (IsLinkBelow said at) root one-saying-root far other b.minus ys b.chain x (j, omega (arith, l), e) in
+        never_both x h (suc j, l, e) =
+            let k = chain_member (IsLinkBelow said at) root one_saying_root one near a.minus xs a.chain x h in
+            let g = chain_member (IsLinkBelow said at) root one_saying_root far other b.minus ys b.chain x (j, omega (arith, l), e) in
             let side : root one ≡ root near = (one_root said at root sign marked one near a.minus (xs, a.chain)).0 in
-            apart (sym side ∙ sym k.1.4 ∙ same-ends k.1.0 k.1.1 g.1.0 g.1.1 k.1.2 g.1.2 k.0 k.1.3 g.1.3 ∙ g.1.4)
+            apart (sym side ∙ sym k.1.4 ∙ same_ends k.1.0 k.1.1 g.1.0 g.1.1 k.1.2 g.1.2 k.0 k.1.3 g.1.3 ∙ g.1.4)
           where
-            same-ends : (p q u v : ℕ) (m w : Bool) → IsLinkBelow said at x → Says said x p q m → Says said x u v w → root p ≡ root u
-            same-ends p q u v m w below s z = by (one_saying said x p q u v m w s z).0
+            same_ends : (p q u v : ℕ) (m w : Bool) → IsLinkBelow said at x → Says said x p q m → Says said x u v w → root p ≡ root u
+            same_ends p q u v m w below s z = by (one_saying said x p q u v m w s z).0
               where
                 by : ((p ≡ u) × (q ≡ v) ⊎ (p ≡ v) × (q ≡ u)) → root p ≡ root u
                 by (inl both) = ap root both.0
-                by (inr both) = ap root both.0 ∙ sym (one-saying-root x u v w below z)
+                by (inr both) = ap root both.0 ∙ sym (one_saying_root x u v w below z)

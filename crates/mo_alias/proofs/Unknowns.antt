@@ -63,14 +63,14 @@ module _ (vars : List FlatVar) where
         let number : number_among vars (suc i) ≡ suc h.0 = (let a = h.1 in omega (arith, a)) in
         (ap (variable_of vars) number ∙ (let a = h.2 in omega (arith, a)), h.4, omega (arith, l))
     | inr l ↦ absurd (
-        let s : length (numbers_from 0 vars) ≡ length vars = same-length 0 vars in
+        let s : length (numbers_from 0 vars) ≡ length vars = same_length 0 vars in
         let past : get_or (numbers_from 0 vars) i 0 ≡ 0 = get_or_past (numbers_from 0 vars) i 0 (omega (arith, s, l)) in
         omega (arith, past, p))
   ]
     where
-      same-length : (n : ℕ) (vs : List FlatVar) → length (numbers_from n vs) ≡ length vs
-      same-length n [] = refl
-      same-length n (x ∷ vs) = by (is_unknown_role (Some x.role)) (same-length (n + 1) vs) (same-length n vs)
+      same_length : (n : ℕ) (vs : List FlatVar) → length (numbers_from n vs) ≡ length vs
+      same_length n [] = refl
+      same_length n (x ∷ vs) = by (is_unknown_role (Some x.role)) (same_length (n + 1) vs) (same_length n vs)
         where
           by : (b : Bool) → length (numbers_from (n + 1) vs) ≡ length vs → length (numbers_from n vs) ≡ length vs
               → length (if b then (n + 1) ∷ numbers_from (n + 1) vs else 0 ∷ numbers_from n vs) ≡ suc (length vs)

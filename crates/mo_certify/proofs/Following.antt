@@ -136,14 +136,14 @@ module _ (c r : ℕ → ℕ) (m : ℕ) (marks : List ℕ) (start mark place : �
     off : (i : ℕ) → i ≢ place → get_or (set marks place mark) i 0 ≡ get_or marks i 0
     off i ne = get_or-set_other marks place i mark 0 ne
 
-    marked-on : (i : ℕ) → get_or marks i 0 ≡ mark → get_or (set marks place mark) i 0 ≡ mark
-    marked-on i e = elim (eqb_tells i place) [ inl p ↦ rw p.1 at | inr p ↦ off i p.1 ∙ e ]
+    marked_on : (i : ℕ) → get_or marks i 0 ≡ mark → get_or (set marks place mark) i 0 ≡ mark
+    marked_on i e = elim (eqb_tells i place) [ inl p ↦ rw p.1 at | inr p ↦ off i p.1 ∙ e ]
 
-    marked-before : (i : ℕ) → get_or (set marks place mark) i 0 ≡ mark → (get_or marks i 0 ≡ mark) ⊎ (i ≡ place)
-    marked-before i e = elim (eqb_tells i place) [ inl p ↦ inr p.1 | inr p ↦ inl (sym (off i p.1) ∙ e) ]
+    marked_before : (i : ℕ) → get_or (set marks place mark) i 0 ≡ mark → (get_or marks i 0 ≡ mark) ⊎ (i ≡ place)
+    marked_before i e = elim (eqb_tells i place) [ inl p ↦ inr p.1 | inr p ↦ inl (sym (off i p.1) ∙ e) ]
 
-    one-more : (i n : ℕ) → after_reasons r n i ≡ place → after_reasons r (suc n) i ≡ r place
-    one-more i n e = after_next r n i ∙ ap r e
+    one_more : (i n : ℕ) → after_reasons r n i ≡ place → after_reasons r (suc n) i ≡ r place
+    one_more i n e = after_next r n i ∙ ap r e
 
     pub following_next : IsFollowing c r m (set marks place mark) start mark (r place)
     following_next = record {
@@ -154,24 +154,24 @@ module _ (c r : ℕ → ℕ) (m : ℕ) (marks : List ℕ) (start mark place : �
         | inl p ↦ absurd (other (rw p.1 at))
         | inr p ↦ following.settled i (rw (off i p.1) at one) (rw (off i p.1) at other)
       ];
-      from_start = (suc following.from_start.0, one-more start following.from_start.0 following.from_start.1);
-      leads = λ i e. elim (marked-before i e) [
-        | inl h ↦ let there = following.leads i h in (suc there.0, one-more i there.0 there.1)
+      from_start = (suc following.from_start.0, one_more start following.from_start.0 following.from_start.1);
+      leads = λ i e. elim (marked_before i e) [
+        | inl h ↦ let there = following.leads i h in (suc there.0, one_more i there.0 there.1)
         | inr h ↦ (1, ap r h)
       ];
-      onward = λ i e. elim (marked-before i e) [
+      onward = λ i e. elim (marked_before i e) [
         | inl h ↦
             let there = following.onward i h in (
               there.0,
               elim there.1 [
-                | inl on ↦ inl (marked-on (r i) on)
+                | inl on ↦ inl (marked_on (r i) on)
                 | inr on ↦ inl (rw on at)
               ],
             )
         | inr h ↦ (rw h above, inr (ap r h))
       ];
       start_in = elim following.start_in [
-        | inl h ↦ inl (marked-on start h)
+        | inl h ↦ inl (marked_on start h)
         | inr h ↦ inl (rw (← h) at)
       ];
     }

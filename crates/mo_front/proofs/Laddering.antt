@@ -51,16 +51,16 @@ summed_up n m o r text accepted right given passed is = record {
 
 module _ (n : ℕ) (path texts : List (List ℕ)) (class : path ≡ ladder_path) where
   module _ (m : FlatModel) (gives : TextsGive path texts (flat m)) where
-    ladder-gives : TextsGive ladder_path texts (flat m)
-    ladder-gives = subst (λ (p : List (List ℕ)). TextsGive p texts (flat m)) class gives
+    ladder_gives : TextsGive ladder_path texts (flat m)
+    ladder_gives = subst (λ (p : List (List ℕ)). TextsGive p texts (flat m)) class gives
 
     pub sums_given : (t : Result (List ℕ) Stop) → IfOk t (IsSummary n m) → IfOk t (SumsUpGiven (TextsGive ladder_path texts) n)
-    sums_given (Ok text) sums = record { m = m; given = ladder-gives; sums = sums }
+    sums_given (Ok text) sums = record { m = m; given = ladder_gives; sums = sums }
     sums_given (Err s) sums = tt
 
     pub refused_given : (t : Result (List ℕ) Stop) → IfBroken t (λ b. Refuses emit.Report m b) → IfBroken t (λ b. Breaks (TextsGive ladder_path texts) emit.Report b)
     refused_given (Ok text) refuses = tt
-    refused_given (Err (broken_by b)) refuses = no_text m ladder-gives refuses
+    refused_given (Err (broken_by b)) refuses = no_text m ladder_gives refuses
     refused_given (Err no_memory) refuses = tt
 
   pub refused_before : (r : Result FlatModel Stop) (s : Stop) → r ≡ Err s → IfBroken r (λ b. TextsGive path texts (broken b))

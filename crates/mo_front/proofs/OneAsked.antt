@@ -42,28 +42,28 @@ module _ (words : List (List ℕ)) where
       a.asks.names_rungs.is ∙ sym named.is
 
   module _ (contents : Contents) (status other : Status) (text more : List ℕ) where
-    one-job : (path : List (List ℕ)) (emit : Emit) (files : List (List ℕ)) (verify : Option (List ℕ)) → TellsFiles path emit files verify contents status text → TellsFiles path emit files verify contents other more
+    one_job : (path : List (List ℕ)) (emit : Emit) (files : List (List ℕ)) (verify : Option (List ℕ)) → TellsFiles path emit files verify contents status text → TellsFiles path emit files verify contents other more
         → (status ≡ other) × (text ≡ more)
-    one-job path emit files None =
+    one_job path emit files None =
         one_told (FilesGive path files contents) (one_of_files path files contents) (line_of_broken files (bytes_of_all contents files)) emit status other text more
-    one-job path emit files (Some report) = one_verdict_told path files report contents status other text more
+    one_job path emit files (Some report) = one_verdict_told path files report contents status other text more
 
-    same-job : (path path' : List (List ℕ)) (emit emit' : Emit) (files files' : List (List ℕ)) (verify verify' : Option (List ℕ)) → path ≡ path' → emit ≡ emit' → files ≡ files' → verify ≡ verify'
+    same_job : (path path' : List (List ℕ)) (emit emit' : Emit) (files files' : List (List ℕ)) (verify verify' : Option (List ℕ)) → path ≡ path' → emit ≡ emit' → files ≡ files' → verify ≡ verify'
         → TellsFiles path' emit' files' verify' contents other more → TellsFiles path emit files verify contents other more
-    same-job path path' emit emit' files files' verify verify' p e f v tells =
+    same_job path path' emit emit' files files' verify verify' p e f v tells =
         subst (λ (x : List (List ℕ)). TellsFiles x emit files verify contents other more) (sym p)
         (subst (λ (x : Emit). TellsFiles path' x files verify contents other more) (sym e)
         (subst (λ (x : List (List ℕ)). TellsFiles path' emit' x verify contents other more) (sym f) (subst (λ (x : Option (List ℕ)). TellsFiles path' emit' files' x contents other more) (sym v) tells)))
 
-    told-of : (asked again : Words) → Names words asked → Names words again → TellsAsked asked contents status text → TellsAsked again contents other more → (status ≡ other) × (text ≡ more)
-    told-of (Job class emit files verify) (Job class' emit' files' verify') a b tells tells' =
-        one-job class.0 emit files verify tells
-        (same-job class.0 class'.0 emit emit' files files' verify verify' (one_path class class' emit emit' files files' verify verify' a b) (one_emit words class class' emit emit' files files' verify verify' a b)
+    told_of : (asked again : Words) → Names words asked → Names words again → TellsAsked asked contents status text → TellsAsked again contents other more → (status ≡ other) × (text ≡ more)
+    told_of (Job class emit files verify) (Job class' emit' files' verify') a b tells tells' =
+        one_job class.0 emit files verify tells
+        (same_job class.0 class'.0 emit emit' files files' verify verify' (one_path class class' emit emit' files files' verify verify' a b) (one_emit words class class' emit emit' files files' verify verify' a b)
         (same_files class class' emit emit' files files' verify verify' a b) (one_verify words class class' emit emit' files files' verify verify' a b) tells')
-    told-of (Job class emit files verify) (Make n) a b tells tells' = one_form words class emit files verify n a b
-    told-of (Make n) (Job class emit files verify) a b tells tells' = one_form words class emit files verify n b a
-    told-of (Make n) (Make m) a b tells tells' =
+    told_of (Job class emit files verify) (Make n) a b tells tells' = one_form words class emit files verify n a b
+    told_of (Make n) (Job class emit files verify) a b tells tells' = one_form words class emit files verify n b a
+    told_of (Make n) (Make m) a b tells tells' =
         one_ladder n (one_of_texts ladder_path (ladder_texts n)) status other text more tells (subst (λ (k : ℕ). TellsLadder k other more) (sym (same_rungs n m a b)) tells')
 
     pub one_of_words : TellsWords words contents status text → TellsWords words contents other more → (status ≡ other) × (text ≡ more)
-    one_of_words a b = told-of a.asked b.asked a.names b.names a.tells b.tells
+    one_of_words a b = told_of a.asked b.asked a.names b.names a.tells b.tells

@@ -83,15 +83,15 @@ module _ (m : FlatModel) where
   same_refusal o p e = ap (λ (n : ℕ). if nat_le n report_limit then None else Some (too_large m)) (same_size o p e)
 
   module _ (o p : Option Offsets) (same : offset_lists o ≡ offset_lists p) where
-    one-phase : (asked : Phase) (x y : Option Broken) → PhaseBreaks m o asked x → PhaseBreaks m p asked y → x ≡ y
-    one-phase phase.Size x y a b = sym a ∙ (same_refusal o p same ∙ b)
-    one-phase phase.Reduction x y a b = one_reduction o p x y same a b
+    one_phase : (asked : Phase) (x y : Option Broken) → PhaseBreaks m o asked x → PhaseBreaks m p asked y → x ≡ y
+    one_phase phase.Size x y a b = sym a ∙ (same_refusal o p same ∙ b)
+    one_phase phase.Reduction x y a b = one_reduction o p x y same a b
 
     pub one_break : (phases : List Phase) (x y : Option Broken) → PhasesBreak m o phases x → PhasesBreak m p phases y → x ≡ y
     one_break [] x y all_passed all_passed = refl
-    one_break (asked ∷ phases) x y (this_one {b = b} a) (this_one {b = c} a') = one-phase asked (Some b) (Some c) a a'
-    one_break (asked ∷ phases) x y (this_one {b = b} a) (later a' rest') = absurd (some_none b (one-phase asked (Some b) None a a'))
-    one_break (asked ∷ phases) x y (later a rest) (this_one {b = c} a') = absurd (some_none c (sym (one-phase asked None (Some c) a a')))
+    one_break (asked ∷ phases) x y (this_one {b = b} a) (this_one {b = c} a') = one_phase asked (Some b) (Some c) a a'
+    one_break (asked ∷ phases) x y (this_one {b = b} a) (later a' rest') = absurd (some_none b (one_phase asked (Some b) None a a'))
+    one_break (asked ∷ phases) x y (later a rest) (this_one {b = c} a') = absurd (some_none c (sym (one_phase asked None (Some c) a a')))
     one_break (asked ∷ phases) x y (later a rest) (later a' rest') = one_break phases x y rest rest'
 
   -- the least offsets leave no choice of what is broken
@@ -113,52 +113,52 @@ module _ (m : FlatModel) where
   module _ (r s : Report) (say : SaySame r s) where
     -- ---- the text and the status
 
-    same-test : (x y : Option Deficit) → deficit_lists x ≡ deficit_lists y → is_some x ≡ is_some y
-    same-test None None e = refl
-    same-test None (Some y) e = absurd (none_both y e)
-    same-test (Some x) None e = absurd (both_none x e)
-    same-test (Some x) (Some y) e = refl
+    same_test : (x y : Option Deficit) → deficit_lists x ≡ deficit_lists y → is_some x ≡ is_some y
+    same_test None None e = refl
+    same_test None (Some y) e = absurd (none_both y e)
+    same_test (Some x) None e = absurd (both_none x e)
+    same_test (Some x) (Some y) e = refl
 
-    same-singular : is_singular r ≡ is_singular s
-    same-singular = rw (same-test r.deficit s.deficit say.deficit, say.equations, say.unknowns) refl
+    same_singular : is_singular r ≡ is_singular s
+    same_singular = rw (same_test r.deficit s.deficit say.deficit, say.equations, say.unknowns) refl
 
-    one-selected : (x y : Option Selection) → IsSelected m r x → IsSelected m s y → selected_lines r x r.offsets ≡ selected_lines s y s.offsets
-    one-selected None None (no_selection holds) (no_selection holds') = same_lines r s say
-    one-selected None (Some b) (no_selection holds) (selection p fails p_is b_is) = let never : true ≡ false = sym holds ∙ same-singular ∙ fails in absurd cc
-    one-selected (Some a) None (selection o fails o_is a_is) (no_selection holds) = let never : true ≡ false = sym holds ∙ sym same-singular ∙ fails in absurd cc
-    one-selected (Some a) (Some b) (selection o fails o_is a_is) (selection p fails' p_is b_is) =
+    one_selected : (x y : Option Selection) → IsSelected m r x → IsSelected m s y → selected_lines r x r.offsets ≡ selected_lines s y s.offsets
+    one_selected None None (no_selection holds) (no_selection holds') = same_lines r s say
+    one_selected None (Some b) (no_selection holds) (selection p fails p_is b_is) = let never : true ≡ false = sym holds ∙ same_singular ∙ fails in absurd cc
+    one_selected (Some a) None (selection o fails o_is a_is) (no_selection holds) = let never : true ≡ false = sym holds ∙ sym same_singular ∙ fails in absurd cc
+    one_selected (Some a) (Some b) (selection o fails o_is a_is) (selection p fails' p_is b_is) =
         let lists : offset_lists (Some o) ≡ offset_lists (Some p) = rw (o_is, p_is) at say.offsets in
         let are = offsets_are o p lists in
         let there : IsSelectionOf m o b = rw (are.0, are.1) b_is in
         let same = one_selection_holds (incidence_of m) (c_of o) (d_of o) (by_number (levels_of m.vars)) a b (levels_low m.vars) a_is there in
         rw (o_is, p_is, say.name, say.unknowns) (same_text s.name s.unknowns o p a b are.0 are.1 same)
 
-    none-selected : (x y : Option Selection) → x ≡ None → y ≡ None → selected_lines r x r.offsets ≡ selected_lines s y s.offsets
-    none-selected x y e e' = rw (e, e') (same_lines r s say)
+    none_selected : (x y : Option Selection) → x ≡ None → y ≡ None → selected_lines r x r.offsets ≡ selected_lines s y s.offsets
+    none_selected x y e e' = rw (e, e') (same_lines r s say)
 
-    one-selects : (emit : Emit) (x y : Option Selection) → Selects emit m r x → Selects emit m s y → selected_lines r x r.offsets ≡ selected_lines s y s.offsets
-    one-selects emit.Flat x y a b = none-selected x y a b
-    one-selects emit.Reduced x y a b = none-selected x y a b
-    one-selects emit.Report x y a b = none-selected x y a b
-    one-selects emit.All x y a b = none-selected x y a b
-    one-selects emit.Json x y a b = none-selected x y a b
-    one-selects emit.States x y a b = one-selected x y a b
-    one-selects emit.Alias x y a b = none-selected x y a b
+    one_selects : (emit : Emit) (x y : Option Selection) → Selects emit m r x → Selects emit m s y → selected_lines r x r.offsets ≡ selected_lines s y s.offsets
+    one_selects emit.Flat x y a b = none_selected x y a b
+    one_selects emit.Reduced x y a b = none_selected x y a b
+    one_selects emit.Report x y a b = none_selected x y a b
+    one_selects emit.All x y a b = none_selected x y a b
+    one_selects emit.Json x y a b = none_selected x y a b
+    one_selects emit.States x y a b = one_selected x y a b
+    one_selects emit.Alias x y a b = none_selected x y a b
 
     module _ (x y : Option Selection) (lines : selected_lines r x r.offsets ≡ selected_lines s y s.offsets) where
-      same-part : (p : Part) → part_text m r x p ≡ part_text m s y p
-      same-part part.Flat = refl
-      same-part part.Reduced = ap (λ (t : Option (List ℕ)). unwrap_or t []) (same_reduced r.offsets s.offsets say.offsets)
-      same-part part.Report = same_lines r s say
-      same-part part.Json = same_line r s say
-      same-part part.StatesOrReport = lines
+      same_part : (p : Part) → part_text m r x p ≡ part_text m s y p
+      same_part part.Flat = refl
+      same_part part.Reduced = ap (λ (t : Option (List ℕ)). unwrap_or t []) (same_reduced r.offsets s.offsets say.offsets)
+      same_part part.Report = same_lines r s say
+      same_part part.Json = same_line r s say
+      same_part part.StatesOrReport = lines
 
-      same-parts : (parts : List Part) → flat_map (part_text m r x) parts ≡ flat_map (part_text m s y) parts
-      same-parts [] = refl
-      same-parts (p ∷ parts) = rw (same-part p, same-parts parts) refl
+      same_parts : (parts : List Part) → flat_map (part_text m r x) parts ≡ flat_map (part_text m s y) parts
+      same_parts [] = refl
+      same_parts (p ∷ parts) = rw (same_part p, same_parts parts) refl
 
-    same-status : status_of r ≡ status_of s
-    same-status = ap (λ (b : Bool). if b then Singular else Done) same-singular
+    same_status : status_of r ≡ status_of s
+    same_status = ap (λ (b : Bool). if b then Singular else Done) same_singular
 
   flat_no_alias : emit.Flat ≡ emit.Alias → ⊥
   flat_no_alias e = cc
@@ -177,51 +177,51 @@ module _ (m : FlatModel) where
   never_reduced o r they right none = offsets_none o (one_least m (Some o) r.offsets they (right_least m r right) ∙ ap offset_lists none)
 
   module _ (emit : Emit) where
-    one-written : (status other : Status) (text more : List ℕ) → Writes emit m status text → Writes emit m other more → (status ≡ other) × (text ≡ more)
-    one-written status other text more (flat_text is done whole) (flat_text is' done' whole') = (done ∙ sym done', whole ∙ sym whole')
-    one-written status other text more (flat_text is done whole) (without_aliases o alias accepted they passes status_is text_is) = absurd (flat_no_alias (sym is ∙ alias))
-    one-written status other text more (flat_text is done whole) (reduced_model o reduced accepted they passes status_is text_is) = absurd (flat_no_reduced (sym is ∙ reduced))
-    one-written status other text more (flat_text is done whole) (analysed r not also none accepted right passes status_is text_is) = absurd (not is)
-    one-written status other text more (without_aliases o alias accepted they passes status_is text_is) (flat_text is done whole) = absurd (flat_no_alias (sym is ∙ alias))
-    one-written status other text more (without_aliases o alias accepted they passes status_is text_is) (without_aliases p alias' accepted' they' passes' status_is' text_is') =
+    one_written : (status other : Status) (text more : List ℕ) → Writes emit m status text → Writes emit m other more → (status ≡ other) × (text ≡ more)
+    one_written status other text more (flat_text is done whole) (flat_text is' done' whole') = (done ∙ sym done', whole ∙ sym whole')
+    one_written status other text more (flat_text is done whole) (without_aliases o alias accepted they passes status_is text_is) = absurd (flat_no_alias (sym is ∙ alias))
+    one_written status other text more (flat_text is done whole) (reduced_model o reduced accepted they passes status_is text_is) = absurd (flat_no_reduced (sym is ∙ reduced))
+    one_written status other text more (flat_text is done whole) (analysed r not also none accepted right passes status_is text_is) = absurd (not is)
+    one_written status other text more (without_aliases o alias accepted they passes status_is text_is) (flat_text is done whole) = absurd (flat_no_alias (sym is ∙ alias))
+    one_written status other text more (without_aliases o alias accepted they passes status_is text_is) (without_aliases p alias' accepted' they' passes' status_is' text_is') =
         (status_is ∙ sym status_is', one_aliases text more text_is text_is')
-    one-written status other text more (without_aliases o alias accepted they passes status_is text_is) (reduced_model p reduced accepted' they' passes' status_is' text_is') = absurd (alias_no_reduced (sym alias ∙ reduced))
-    one-written status other text more (without_aliases o alias accepted they passes status_is text_is) (analysed s not also none accepted' right' passes' status_is' text_is') = absurd (also alias)
-    one-written status other text more (reduced_model o reduced accepted they passes status_is text_is) (flat_text is done whole) = absurd (flat_no_reduced (sym is ∙ reduced))
-    one-written status other text more (reduced_model o reduced accepted they passes status_is text_is) (without_aliases p alias accepted' they' passes' status_is' text_is') = absurd (alias_no_reduced (sym alias ∙ reduced))
-    one-written status other text more (reduced_model o reduced accepted they passes status_is text_is) (reduced_model p reduced' accepted' they' passes' status_is' text_is') =
+    one_written status other text more (without_aliases o alias accepted they passes status_is text_is) (reduced_model p reduced accepted' they' passes' status_is' text_is') = absurd (alias_no_reduced (sym alias ∙ reduced))
+    one_written status other text more (without_aliases o alias accepted they passes status_is text_is) (analysed s not also none accepted' right' passes' status_is' text_is') = absurd (also alias)
+    one_written status other text more (reduced_model o reduced accepted they passes status_is text_is) (flat_text is done whole) = absurd (flat_no_reduced (sym is ∙ reduced))
+    one_written status other text more (reduced_model o reduced accepted they passes status_is text_is) (without_aliases p alias accepted' they' passes' status_is' text_is') = absurd (alias_no_reduced (sym alias ∙ reduced))
+    one_written status other text more (reduced_model o reduced accepted they passes status_is text_is) (reduced_model p reduced' accepted' they' passes' status_is' text_is') =
         let lists = one_least m (Some o) (Some p) they they' in
         (status_is ∙ (same_reduced_status o p lists ∙ sym status_is'), text_is ∙ (same_reduced_text o p lists ∙ sym text_is'))
-    one-written status other text more (reduced_model o reduced accepted they passes status_is text_is) (analysed s not also none accepted' right' passes' status_is' text_is') = absurd (never_reduced o s they right' (none reduced))
-    one-written status other text more (analysed r not also none accepted right passes status_is text_is) (flat_text is done whole) = absurd (not is)
-    one-written status other text more (analysed r not also none accepted right passes status_is text_is) (without_aliases s alias accepted' they' passes' status_is' text_is') = absurd (also alias)
-    one-written status other text more (analysed r not also none accepted right passes status_is text_is) (reduced_model p reduced accepted' they' passes' status_is' text_is') = absurd (never_reduced p r they' right (none reduced))
-    one-written status other text more (analysed r not also none accepted right passes status_is text_is) (analysed s not' also' none' accepted' right' passes' status_is' text_is') =
+    one_written status other text more (reduced_model o reduced accepted they passes status_is text_is) (analysed s not also none accepted' right' passes' status_is' text_is') = absurd (never_reduced o s they right' (none reduced))
+    one_written status other text more (analysed r not also none accepted right passes status_is text_is) (flat_text is done whole) = absurd (not is)
+    one_written status other text more (analysed r not also none accepted right passes status_is text_is) (without_aliases s alias accepted' they' passes' status_is' text_is') = absurd (also alias)
+    one_written status other text more (analysed r not also none accepted right passes status_is text_is) (reduced_model p reduced accepted' they' passes' status_is' text_is') = absurd (never_reduced p r they' right (none reduced))
+    one_written status other text more (analysed r not also none accepted right passes status_is text_is) (analysed s not' also' none' accepted' right' passes' status_is' text_is') =
         let say = one_report m r s right right' in
-        let lines = one-selects r s say emit text_is.selected text_is'.selected text_is.selects text_is'.selects in
-        (status_is ∙ (same-status r s say ∙ sym status_is'), text_is.is ∙ (same-parts r s say text_is.selected text_is'.selected lines (asked_by emit).parts ∙ sym text_is'.is))
+        let lines = one_selects r s say emit text_is.selected text_is'.selected text_is.selects text_is'.selects in
+        (status_is ∙ (same_status r s say ∙ sym status_is'), text_is.is ∙ (same_parts r s say text_is.selected text_is'.selected lines (asked_by emit).parts ∙ sym text_is'.is))
 
-    one-refusal : (b c : Broken) → Refuses emit m b → Refuses emit m c → b ≡ c
-    one-refusal b c (no_incidence not is) (no_incidence not' is') = some_is b c (sym is ∙ is')
-    one-refusal b c (no_incidence not is) (no_part p not' accepted they breaks) = absurd (some_none b (sym is ∙ accepted))
-    one-refusal b c (no_part o not accepted they breaks) (no_incidence not' is') = absurd (some_none c (sym is' ∙ accepted))
-    one-refusal b c (no_part o not accepted they breaks) (no_part p not' accepted' they' breaks') =
+    one_refusal : (b c : Broken) → Refuses emit m b → Refuses emit m c → b ≡ c
+    one_refusal b c (no_incidence not is) (no_incidence not' is') = some_is b c (sym is ∙ is')
+    one_refusal b c (no_incidence not is) (no_part p not' accepted they breaks) = absurd (some_none b (sym is ∙ accepted))
+    one_refusal b c (no_part o not accepted they breaks) (no_incidence not' is') = absurd (some_none c (sym is' ∙ accepted))
+    one_refusal b c (no_part o not accepted they breaks) (no_part p not' accepted' they' breaks') =
         some_is b c (one_rule_by o p (asked_by emit).phases (Some b) (Some c) they they' breaks breaks')
 
     -- phases that passed break nothing
-    never-broken : (o p : Option Offsets) (b : Broken) → IsLeastOf m o → IsLeastOf m p → PhasesBreak m o (asked_by emit).phases None → PhasesBreak m p (asked_by emit).phases (Some b) → ⊥
-    never-broken o p b they they' passes breaks = some_none b (sym (one_rule_by o p (asked_by emit).phases None (Some b) they they' passes breaks))
+    never_broken : (o p : Option Offsets) (b : Broken) → IsLeastOf m o → IsLeastOf m p → PhasesBreak m o (asked_by emit).phases None → PhasesBreak m p (asked_by emit).phases (Some b) → ⊥
+    never_broken o p b they they' passes breaks = some_none b (sym (one_rule_by o p (asked_by emit).phases None (Some b) they they' passes breaks))
 
-    never-both : (status : Status) (text : List ℕ) (b : Broken) → Writes emit m status text → Refuses emit m b → ⊥
-    never-both status text b (flat_text is done whole) (no_incidence not is') = not is
-    never-both status text b (flat_text is done whole) (no_part p not accepted they breaks) = not is
-    never-both status text b (without_aliases o alias accepted they passes status_is text_is) (no_incidence not' is') = some_none b (sym is' ∙ accepted)
-    never-both status text b (without_aliases o alias accepted they passes status_is text_is) (no_part p not' accepted' they' breaks') = never-broken o p b they they' passes breaks'
-    never-both status text b (reduced_model o reduced accepted they passes status_is text_is) (no_incidence not' is') = some_none b (sym is' ∙ accepted)
-    never-both status text b (reduced_model o reduced accepted they passes status_is text_is) (no_part p not' accepted' they' breaks') = never-broken (Some o) p b they they' passes breaks'
-    never-both status text b (analysed r not also none accepted right passes status_is text_is) (no_incidence not' is') = some_none b (sym is' ∙ accepted)
-    never-both status text b (analysed r not also none accepted right passes status_is text_is) (no_part p not' accepted' they' breaks') =
-        never-broken r.offsets p b (right_least m r right) they' passes breaks'
+    never_both : (status : Status) (text : List ℕ) (b : Broken) → Writes emit m status text → Refuses emit m b → ⊥
+    never_both status text b (flat_text is done whole) (no_incidence not is') = not is
+    never_both status text b (flat_text is done whole) (no_part p not accepted they breaks) = not is
+    never_both status text b (without_aliases o alias accepted they passes status_is text_is) (no_incidence not' is') = some_none b (sym is' ∙ accepted)
+    never_both status text b (without_aliases o alias accepted they passes status_is text_is) (no_part p not' accepted' they' breaks') = never_broken o p b they they' passes breaks'
+    never_both status text b (reduced_model o reduced accepted they passes status_is text_is) (no_incidence not' is') = some_none b (sym is' ∙ accepted)
+    never_both status text b (reduced_model o reduced accepted they passes status_is text_is) (no_part p not' accepted' they' breaks') = never_broken (Some o) p b they they' passes breaks'
+    never_both status text b (analysed r not also none accepted right passes status_is text_is) (no_incidence not' is') = some_none b (sym is' ∙ accepted)
+    never_both status text b (analysed r not also none accepted right passes status_is text_is) (no_part p not' accepted' they' breaks') =
+        never_broken r.offsets p b (right_least m r right) they' passes breaks'
 
 -- ---- what is told
 
@@ -240,16 +240,16 @@ module _ (Gives : Outcome → Type 0) (once : (o p : Outcome) → Gives o → Gi
   one_break_of b c (no_model x) (no_text n y refuses) = absurd (no_model_broken n b y x)
   one_break_of b c (no_text m x refuses) (no_model y) = absurd (no_model_broken m c x y)
   one_break_of b c (no_text m x refuses) (no_text n y refuses') =
-      one-refusal m emit b c refuses (subst (λ (k : FlatModel). Refuses emit k c) (sym (one_model m n x y)) refuses')
+      one_refusal m emit b c refuses (subst (λ (k : FlatModel). Refuses emit k c) (sym (one_model m n x y)) refuses')
 
   written_and_broken : (status : Status) (text : List ℕ) (b : Broken) → WritesGiven Gives emit status text → Breaks Gives emit b → ⊥
   written_and_broken status text b w (no_model y) = no_model_broken w.m b w.given y
   written_and_broken status text b w (no_text n y refuses) =
-      never-both w.m emit status text b w.writes (subst (λ (k : FlatModel). Refuses emit k b) (sym (one_model w.m n w.given y)) refuses)
+      never_both w.m emit status text b w.writes (subst (λ (k : FlatModel). Refuses emit k b) (sym (one_model w.m n w.given y)) refuses)
 
   pub one_told : (status other : Status) (text more : List ℕ) → TellsOf Gives line emit status text → TellsOf Gives line emit other more → (status ≡ other) × (text ≡ more)
   one_told status other text more (written w) (written v) =
-      one-written w.m emit status other text more w.writes (subst (λ (k : FlatModel). Writes emit k other more) (sym (one_model w.m v.m w.given v.given)) v.writes)
+      one_written w.m emit status other text more w.writes (subst (λ (k : FlatModel). Writes emit k other more) (sym (one_model w.m v.m w.given v.given)) v.writes)
   one_told status other text more (written w) (refused b breaks is text_is) = absurd (written_and_broken status text b w breaks)
   one_told status other text more (refused b breaks is text_is) (written w) = absurd (written_and_broken other more b w breaks)
   one_told status other text more (refused b breaks is text_is) (refused c breaks' is' text_is') =

@@ -25,14 +25,14 @@ use Rattle.mo_front.specs.declared.structure.Found.{Found}
 use Rattle.mo_front.specs.steps.Structure.{order_by_offsets, IsEmptyReport, IsFoundOf, IsLeftOut, IsReportOn, as_many, fewer_equations, missing}
 use Rattle.mo_front.specs.Least.{IsLeastFor, least_offsets, left_out}
 
-mentions-known : (g : Signature) (i j : ℕ) → IsSound g → i < equations g → Mentions g i j → (0 < j) × (j ≤ g.unknowns)
+mentions_known : (g : Signature) (i j : ℕ) → IsSound g → i < equations g → Mentions g i j → (0 < j) × (j ≤ g.unknowns)
 unfolding Mentions
-mentions-known g i j sound l mentions = rw mentions.2 at (sound.known i mentions.0 l mentions.1)
+mentions_known g i j sound l mentions = rw mentions.2 at (sound.known i mentions.0 l mentions.1)
 
 -- where each equation has an unknown of its own, there are no more equations than unknowns
 pub few_equations : (g : Signature) (q : ℕ → ℕ) → IsSound g → IsAssignment g q → CoversAll g q → equations g ≤ g.unknowns
 few_equations g q sound assigns all =
-    let known = λ (i : ℕ) (l : i < equations g). mentions-known g i (q i) sound l (assigns.allowed i l (all i l)) in
+    let known = λ (i : ℕ) (l : i < equations g). mentions_known g i (q i) sound l (assigns.allowed i l (all i l)) in
     distinct_room (λ i. q i - 1) (equations g) g.unknowns
     (λ i l. let at = known i l in omega (arith, at.0, at.1))
     (λ i k il kl same. let one = known i il in let other = known k kl in assigns.apart i k il kl (all i il) (omega (arith, one.0, other.0)))
@@ -57,22 +57,22 @@ module _ (g : Signature) (offsets : Offsets) (i j : ℕ) (sound : IsSound g) (le
       (omega (arith, known.0), omega (arith, known.0, known.1))
 
   module _ (x y : ℕ) (x-is : x ≡ get_or offsets.c.items i x) (y-is : y ≡ get_or offsets.d.items (j - 1) y) where
-    offset-is : x ≡ c_of offsets i
-    offset-is =
+    offset_is : x ≡ c_of offsets i
+    offset_is =
         let inside : i < length offsets.c.items = omega (arith, least.equations_all) in
         x-is ∙ get_or_default_zero offsets.c.items i x inside
 
-    highest-is : y ≡ d_of offsets (pairs_of offsets i)
-    highest-is = y-is ∙ get_or_default_zero offsets.d.items (j - 1) y pair_known.1 ∙ ap (d_of offsets) pair_is
+    highest_is : y ≡ d_of offsets (pairs_of offsets i)
+    highest_is = y-is ∙ get_or_default_zero offsets.d.items (j - 1) y pair_known.1 ∙ ap (d_of offsets) pair_is
 
     pub order_low : x ≤ y
     order_low =
         let low : c_of offsets i ≤ d_of offsets (pairs_of offsets i) =
         tight_low g (c_of offsets) (d_of offsets) i (pairs_of offsets i) pair_tight in
-        omega (arith, offset-is, highest-is)
+        omega (arith, offset_is, highest_is)
 
     pub order_is : y - x ≡ order_by_offsets offsets i
-    order_is = omega (arith, offset-is, highest-is)
+    order_is = omega (arith, offset_is, highest_is)
 
 -- the differences of the offsets are the orders at the pairs
 pub orders_at : (g : Signature) (offsets : Offsets) (orders : List ℕ) → AreLeastOffsets g offsets → length orders ≡ equations g

@@ -79,31 +79,31 @@ module _ (Need : ℕ → ℕ → Type 0) (m : ℕ) (sources targets class leader
   mutual_place i k il kl p q = ap (λ (z : ℕ). get_or placed z 0) (mutual_leader i k il kl p q)
 
   module _ (bs : List (List ℕ)) (size : length bs ≡ count) (lists : (b : ℕ) → b < count → get_or bs b [] ≡ members (λ i. get_or placed (get_or leader i 0) 0) (suc b) m) where
-    contains-place : (b x : ℕ) → b < count → Contains (get_or bs b []) x → (0 < x) × (x ≤ m) × (place (x - 1) ≡ suc b)
+    contains_place : (b x : ℕ) → b < count → Contains (get_or bs b []) x → (0 < x) × (x ≤ m) × (place (x - 1) ≡ suc b)
     unfolding place
-    contains-place b x l has = members_contain (λ (i : ℕ). get_or placed (get_or leader i 0) 0) (suc b) m x (rw (lists b l) at has)
+    contains_place b x l has = members_contain (λ (i : ℕ). get_or placed (get_or leader i 0) 0) (suc b) m x (rw (lists b l) at has)
 
-    place-contains : (b i : ℕ) → b < count → i < m → place i ≡ suc b → Contains (get_or bs b []) (suc i)
+    place_contains : (b i : ℕ) → b < count → i < m → place i ≡ suc b → Contains (get_or bs b []) (suc i)
     unfolding place
-    place-contains b i l il e = rw (lists b l) (contain_members (λ (i : ℕ). get_or placed (get_or leader i 0) 0) (suc b) m i il e)
+    place_contains b i l il e = rw (lists b l) (contain_members (λ (i : ℕ). get_or placed (get_or leader i 0) 0) (suc b) m i il e)
 
     ascends : (b : ℕ) → b < count → (k : ℕ) → k + 1 < length (get_or bs b []) → get_or (get_or bs b []) k 0 < get_or (get_or bs b []) (k + 1) 0
     ascends b l = rw (lists b l) (members_ascend (λ (i : ℕ). get_or placed (get_or leader i 0) 0) (suc b) m)
 
     -- the leader of a block
-    order-in : (b : ℕ) → b < count → (get_or arranged.order b 0 < m) × (get_or leader (get_or arranged.order b 0) 0 ≡ get_or arranged.order b 0) × (place (get_or arranged.order b 0) ≡ suc b)
+    order_in_holds : (b : ℕ) → b < count → (get_or arranged.order b 0 < m) × (get_or leader (get_or arranged.order b 0) 0 ≡ get_or arranged.order b 0) × (place (get_or arranged.order b 0) ≡ suc b)
     unfolding place
-    order-in b l = let at = ordered.order_in b l in (at.0, at.1, rw at.1 at.2)
+    order_in_holds b l = let at = ordered.order_in b l in (at.0, at.1, rw at.1 at.2)
 
-    block-there : (b : ℕ) → b < count → IsBlock Need m (get_or bs b [])
-    block-there b l =
-        let at = order-in b l in (
+    block_there : (b : ℕ) → b < count → IsBlock Need m (get_or bs b [])
+    block_there b l =
+        let at = order_in_holds b l in (
           get_or arranged.order b 0,
           at.0,
           record {
             ascending = ascends b l;
             only = λ x has.
-                let known = contains-place b x l has in
+                let known = contains_place b x l has in
                 let inside : x - 1 < m = omega arith in
                 let chained = place_chained (get_or arranged.order b 0) (x - 1) at.0 inside (at.2 ∙ sym known.2) in
                 (known.0, known.1, (chained.0, chained.1));
@@ -111,61 +111,61 @@ module _ (Need : ℕ → ℕ → Type 0) (m : ℕ) (sources targets class leader
                 let inside : x - 1 < m = omega arith in
                 let same = mutual_place (get_or arranged.order b 0) (x - 1) at.0 inside there.0 there.1 in
                 let back : suc (x - 1) ≡ x = omega arith in
-                rw back at (place-contains b (x - 1) l inside (sym same ∙ at.2));
+                rw back at (place_contains b (x - 1) l inside (sym same ∙ at.2));
           },
         )
 
-    placed-place : (b x : ℕ) → b ≤ count → IsPlaced (take b bs) x → (0 < x) × (x ≤ m) × (place (x - 1) ≤ b)
-    placed-place b x l h =
+    placed_place : (b x : ℕ) → b ≤ count → IsPlaced (take b bs) x → (0 < x) × (x ≤ m) × (place (x - 1) ≤ b)
+    placed_place b x l h =
         let low : h.0 < b = omega (arith, h.1, length-take b bs) in
         let has : Contains (get_or bs h.0 []) x = rw (get_or-take b bs h.0 [] low) at h.2 in
-        let known = contains-place h.0 x (omega arith) has in
+        let known = contains_place h.0 x (omega arith) has in
         (known.0, known.1, omega (arith, known.2))
 
-    place-placed : (b i : ℕ) → b ≤ count → i < m → place i ≤ b → IsPlaced (take b bs) (suc i)
-    place-placed b i l il le =
+    place_placed : (b i : ℕ) → b ≤ count → i < m → place i ≤ b → IsPlaced (take b bs) (suc i)
+    place_placed b i l il le =
         let some = place_in i il in
         let low : place i - 1 < b = omega arith in
         let inside : place i - 1 < count = omega arith in
-        let has = place-contains (place i - 1) i inside il (omega arith) in
+        let has = place_contains (place i - 1) i inside il (omega arith) in
         (place i - 1, omega (arith, length-take b bs), rw (get_or-take b bs (place i - 1) [] low) has)
 
     -- an edge of the graph, between leaders
-    edge-between : (i k : ℕ) → Need i k → (x : ℕ) × (x < length arranged.new_sources) × (get_or arranged.new_sources x 0 ≡ get_or leader i 0) × (get_or arranged.new_targets x 0 ≡ get_or leader k 0) × (i < m) × (k < m)
-    edge-between i k need =
+    edge_between : (i k : ℕ) → Need i k → (x : ℕ) × (x < length arranged.new_sources) × (get_or arranged.new_sources x 0 ≡ get_or leader i 0) × (get_or arranged.new_targets x 0 ≡ get_or leader k 0) × (i < m) × (k < m)
+    edge_between i k need =
         let e = edge_where sources targets i k (need-edge i k need) in
         let inside : e.0 < length targets = omega (arith, e.1, graph.same) in
         let from = arranged.replaced_sources.at e.0 e.1 in
         let to = arranged.replaced_targets.at e.0 inside in
         (e.0, omega (arith, e.1, arranged.replaced_sources.size), rw e.2 at from, rw e.3 at to, rw e.2 at (graph.source e.0 e.1), rw e.3 at (graph.target e.0 e.1))
 
-    place-leader : (i k : ℕ) → get_or leader i 0 ≡ get_or leader k 0 → place k ≡ place i
+    place_leader : (i k : ℕ) → get_or leader i 0 ≡ get_or leader k 0 → place k ≡ place i
     unfolding place
-    place-leader i k e = ap (λ (z : ℕ). get_or placed z 0) (sym e)
+    place_leader i k e = ap (λ (z : ℕ). get_or placed z 0) (sym e)
 
-    place-low : (k b x : ℕ) → get_or arranged.new_targets x 0 ≡ get_or leader k 0 → get_or placed (get_or arranged.new_targets x 0) 0 ≤ b → place k ≤ b
+    place_low : (k b x : ℕ) → get_or arranged.new_targets x 0 ≡ get_or leader k 0 → get_or placed (get_or arranged.new_targets x 0) 0 ≤ b → place k ≤ b
     unfolding place
-    place-low k b x e le = rw e at le
+    place_low k b x e le = rw e at le
 
-    ready-there : (b : ℕ) → b < count → IsReady Need m (take b bs) (get_or bs b [])
-    ready-there b l = record {
-      is_block = block-there b l;
+    ready_there : (b : ℕ) → b < count → IsReady Need m (take b bs) (get_or bs b [])
+    ready_there b l = record {
+      is_block = block_there b l;
       unplaced = λ x has before.
-          let here = contains-place b x l has in
-          let there = placed-place b x (omega arith) before in
+          let here = contains_place b x l has in
+          let there = placed_place b x (omega arith) before in
           omega (arith, here.2, there.2);
       met = λ i k has need.
-          let x = edge-between i k need in
-          let here = contains-place b (suc i) l has in
+          let x = edge_between i k need in
+          let here = contains_place b (suc i) l has in
           let back : suc i - 1 ≡ i = omega arith in
           let at : place i ≡ suc b = rw back at here.2 in
           let from : get_or arranged.new_sources x.0 0 ≡ get_or arranged.order b 0 = x.2 ∙ sym (place_order i b x.4 at) in
           elim (eqb_tells (get_or leader i 0) (get_or leader k 0)) [
-            | inl e ↦ inl (place-contains b k l x.5 (place-leader i k e.1 ∙ at))
+            | inl e ↦ inl (place_contains b k l x.5 (place_leader i k e.1 ∙ at))
             | inr e ↦
                 let differ : get_or arranged.new_sources x.0 0 ≢ get_or arranged.new_targets x.0 0 = λ same. e.1 (sym x.2 ∙ same ∙ x.3) in
                 let done = ordered.met b x.0 l x.1 from differ in
-                inr (place-placed b k (omega arith) x.5 (place-low k b x.0 x.3 done.1))
+                inr (place_placed b k (omega arith) x.5 (place_low k b x.0 x.3 done.1))
           ];
     }
 
@@ -177,9 +177,9 @@ module _ (Need : ℕ → ℕ → Type 0) (m : ℕ) (sources targets class leader
       v : ℕ
       v = get_or leader ready.is_block.0 0
 
-      i-in : i < m
+      i_in : i < m
       unfolding i
-      i-in = ready.is_block.1
+      i_in = ready.is_block.1
 
       has : (k : ℕ) → k < m → Leads Need i k → Leads Need k i → Contains other (suc k)
       unfolding i
@@ -190,13 +190,13 @@ module _ (Need : ℕ → ℕ → Type 0) (m : ℕ) (sources targets class leader
       chained x there =
           let known = ready.is_block.2.only x there in
           let inside : x - 1 < m = omega arith in
-          (known.0, known.1, sym (mutual_leader i (x - 1) i-in inside known.2.0 known.2.1))
+          (known.0, known.1, sym (mutual_leader i (x - 1) i_in inside known.2.0 known.2.1))
 
       later : get_or placed v 0 ≢ 0 → b < get_or placed v 0
       unfolding i v place
       later some = elim (cases_lt b (get_or placed v 0)) [
         | inl h ↦ h
-        | inr h ↦ absurd (ready.unplaced (suc i) (has i i-in Leads.none Leads.none) (place-placed b i (omega arith) i-in h))
+        | inr h ↦ absurd (ready.unplaced (suc i) (has i i_in Leads.none Leads.none) (place_placed b i (omega arith) i_in h))
       ]
 
       needs : (x : ℕ) → x < length arranged.new_sources → get_or arranged.new_sources x 0 ≡ v → get_or arranged.new_sources x 0 ≢ get_or arranged.new_targets x 0
@@ -210,7 +210,7 @@ module _ (Need : ℕ → ℕ → Type 0) (m : ℕ) (sources targets class leader
           let sm : get_or sources x 0 < m = graph.source x xs in
           let tm : get_or targets x 0 < m = graph.target x xs in
           let same : place i ≡ place (get_or sources x 0) = ap (λ (z : ℕ). get_or placed z 0) (sym from ∙ s_is) in
-          let chains = place_chained i (get_or sources x 0) i-in sm same in
+          let chains = place_chained i (get_or sources x 0) i_in sm same in
           let here = has (get_or sources x 0) sm chains.0 chains.1 in
           elim (ready.met (get_or sources x 0) (get_or targets x 0) here (edge-need (get_or sources x 0) (get_or targets x 0) (edge_at sources targets x xs))) [
             | inl inside ↦
@@ -219,7 +219,7 @@ module _ (Need : ℕ → ℕ → Type 0) (m : ℕ) (sources targets class leader
                 let led : get_or leader (get_or targets x 0) 0 ≡ v = rw back at known.2 in
                 absurd (differ (from ∙ sym led ∙ sym t_is))
             | inr before ↦
-                let known = placed-place b (suc (get_or targets x 0)) (omega arith) before in
+                let known = placed_place b (suc (get_or targets x 0)) (omega arith) before in
                 let back : suc (get_or targets x 0) - 1 ≡ get_or targets x 0 = omega arith in
                 let low : place (get_or targets x 0) ≤ b = rw back at known.2 in
                 let some = (place_in (get_or targets x 0) tm).0 in
@@ -229,26 +229,26 @@ module _ (Need : ℕ → ℕ → Type 0) (m : ℕ) (sources targets class leader
       pub least_there : get_or (get_or bs b []) 0 0 ≤ get_or other 0 0
       unfolding i v
       least_there =
-          let at = order-in b l in
-          let head = (least_contained (get_or bs b []) (suc (get_or arranged.order b 0)) (ascends b l) (place-contains b (get_or arranged.order b 0) l at.0 at.2)).0 in
-          let lead : get_or arranged.order b 0 ≤ v = ordered.least b v l (leader_in i i-in) (leader_leads i i-in) later needs in
-          let some = (least_contained other (suc i) ready.is_block.2.ascending (has i i-in Leads.none Leads.none)).1 in
+          let at = order_in_holds b l in
+          let head = (least_contained (get_or bs b []) (suc (get_or arranged.order b 0)) (ascends b l) (place_contains b (get_or arranged.order b 0) l at.0 at.2)).0 in
+          let lead : get_or arranged.order b 0 ≤ v = ordered.least b v l (leader_in i i_in) (leader_leads i i_in) later needs in
+          let some = (least_contained other (suc i) ready.is_block.2.ascending (has i i_in Leads.none Leads.none)).1 in
           let first = chained (get_or other 0 0) (at_contains other (get_or other 0 0) 0 some refl) in
           let inside : get_or other 0 0 - 1 < m = omega arith in
           let low : get_or leader (get_or other 0 0 - 1) 0 ≤ get_or other 0 0 - 1 = leaders.low (get_or other 0 0 - 1) (omega (arith, classes.size)) in
           omega (arith, first.2)
 
-    next-there : (b : ℕ) → b < count → IsNext Need m (take b bs) (get_or bs b [])
-    next-there b l = record { ready = ready-there b l; least = λ other ready. least_there b l other ready }
+    next_there : (b : ℕ) → b < count → IsNext Need m (take b bs) (get_or bs b [])
+    next_there b l = record { ready = ready_there b l; least = λ other ready. least_there b l other ready }
 
     pub in_order : IsInOrder Need m bs
     in_order = record {
-      next = λ b l. next-there b (omega arith);
+      next = λ b l. next_there b (omega arith);
       all = λ x above below.
           let inside : x - 1 < m = omega arith in
           let some = place_in (x - 1) inside in
           let back : suc (x - 1) ≡ x = omega arith in
-          let has = place-contains (place (x - 1) - 1) (x - 1) (omega arith) inside (omega arith) in
+          let has = place_contains (place (x - 1) - 1) (x - 1) (omega arith) inside (omega arith) in
           (place (x - 1) - 1, omega arith, rw back at has);
     }
 

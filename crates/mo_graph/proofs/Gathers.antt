@@ -56,30 +56,30 @@ module _ (m : ℕ) (sources targets order : List ℕ) (count : ℕ) (finished : 
     pub gather_room : tail < m
     gather_room = omega (arith, to.room, unmarked_set m class u number um to.class_all free (omega (arith, to.few)))
 
-    q-at : get_or (set queue tail u) tail 0 ≡ u
-    q-at = get_or-set_same queue tail u 0 (omega (arith, to.queue_all, gather_room))
+    q_at : get_or (set queue tail u) tail 0 ≡ u
+    q_at = get_or-set_same queue tail u 0 (omega (arith, to.queue_all, gather_room))
 
-    q-off : (s : ℕ) → s < tail → get_or (set queue tail u) s 0 ≡ get_or queue s 0
-    q-off s l = let ne : s ≢ tail = omega arith in get_or-set_other queue tail s u 0 ne
+    q_off : (s : ℕ) → s < tail → get_or (set queue tail u) s 0 ≡ get_or queue s 0
+    q_off s l = let ne : s ≢ tail = omega arith in get_or-set_other queue tail s u 0 ne
 
-    c-at : get_or (set class u number) u 0 ≡ number
-    c-at = get_or-set_same class u number 0 (omega (arith, to.class_all))
+    c_at : get_or (set class u number) u 0 ≡ number
+    c_at = get_or-set_same class u number 0 (omega (arith, to.class_all))
 
-    c-off : (v : ℕ) → v ≢ u → get_or (set class u number) v 0 ≡ get_or class v 0
-    c-off v ne = get_or-set_other class u v number 0 ne
+    c_off : (v : ℕ) → v ≢ u → get_or (set class u number) v 0 ≡ get_or class v 0
+    c_off v ne = get_or-set_other class u v number 0 ne
 
-    c-some : (v : ℕ) → get_or class v 0 ≢ 0 → get_or (set class u number) v 0 ≡ get_or class v 0
-    c-some v some = c-off v (λ e. some (rw e free))
+    c_some : (v : ℕ) → get_or class v 0 ≢ 0 → get_or (set class u number) v 0 ≡ get_or class v 0
+    c_some v some = c_off v (λ e. some (rw e free))
 
-    c-kept : (v : ℕ) → get_or class v 0 ≢ 0 → get_or (set class u number) v 0 ≢ 0
-    c-kept v some = rw (c-some v some) some
+    c_kept : (v : ℕ) → get_or class v 0 ≢ 0 → get_or (set class u number) v 0 ≢ 0
+    c_kept v some = rw (c_some v some) some
 
     more : unmarked m (set class u number) + 1 ≡ unmarked m class
     more = unmarked_set m class u number um to.class_all free (omega (arith, to.few))
 
     module _ (inside : head < tail) (edge : Edge sources targets u (get_or queue head 0)) where
-      near-new : (b : ℕ) × (b ≤ t) × (b < count) × (get_or order b 0 ≡ u) × ((c : ℕ) → b ≤ c → c ≤ t → Leads (Edge sources targets) (get_or order t 0) (get_or order c 0))
-      near-new =
+      near_new : (b : ℕ) × (b ≤ t) × (b < count) × (get_or order b 0 ≡ u) × ((c : ℕ) → b ≤ c → c ≤ t → Leads (Edge sources targets) (get_or order t 0) (get_or order c 0))
+      near_new =
           let at = finished.all u um in
           let low : at.0 < t = elim (cases_lt at.0 t) [
             | inl l ↦ l
@@ -99,14 +99,14 @@ module _ (m : ℕ) (sources targets order : List ℕ) (count : ℕ) (finished : 
             ],
           )
 
-      from-root : (s : ℕ) → base ≤ s → s < tail → Leads (Edge sources targets) (get_or order t 0) (get_or queue s 0)
-      from-root s bs l = let by = to.near s bs l in rw (← by.3) (by.4 by.0 (omega arith) by.1)
+      from_root : (s : ℕ) → base ≤ s → s < tail → Leads (Edge sources targets) (get_or order t 0) (get_or queue s 0)
+      from_root s bs l = let by = to.near s bs l in rw (← by.3) (by.4 by.0 (omega arith) by.1)
 
-      home-new : Leads (Edge sources targets) u (get_or order t 0)
-      home-new = Leads.step edge (to.home head to.bounds.0 inside)
+      home_new : Leads (Edge sources targets) u (get_or order t 0)
+      home_new = Leads.step edge (to.home head to.bounds.0 inside)
 
-      root-new : Leads (Edge sources targets) (get_or order t 0) u
-      root-new = rw (← near-new.3) (near-new.4 near-new.0 (omega arith) near-new.1)
+      root_new : Leads (Edge sources targets) (get_or order t 0) u
+      root_new = rw (← near_new.3) (near_new.4 near_new.0 (omega arith) near_new.1)
 
       pub gather_take : IsGathered m sources targets order count (set class u number) (set queue tail u) base head (tail + 1) number t
       gather_take = record {
@@ -114,71 +114,71 @@ module _ (m : ℕ) (sources targets order : List ℕ) (count : ℕ) (finished : 
         queue_all = length-set queue tail u ∙ to.queue_all;
         room = omega (arith, to.room, more);
         queue_in = λ s l. elim (below_next s tail l) [
-          | inl h ↦ let was = to.queue_in s h in rw (q-off s h) (was.0, c-kept (get_or queue s 0) was.1)
-          | inr e ↦ rw (e, q-at, c-at) (um, omega (arith, to.few))
+          | inl h ↦ let was = to.queue_in s h in rw (q_off s h) (was.0, c_kept (get_or queue s 0) was.1)
+          | inr e ↦ rw (e, q_at, c_at) (um, omega (arith, to.few))
         ];
         listed = λ v some. elim (eqb_tells v u) [
-          | inl e ↦ (tail, omega arith, q-at ∙ sym e.1)
-          | inr e ↦ let there = to.listed v (rw (c-off v e.1) at some) in (there.0, omega (arith, there.1), q-off there.0 there.1 ∙ there.2)
+          | inl e ↦ (tail, omega arith, q_at ∙ sym e.1)
+          | inr e ↦ let there = to.listed v (rw (c_off v e.1) at some) in (there.0, omega (arith, there.1), q_off there.0 there.1 ∙ there.2)
         ];
         bounds = (to.bounds.0, omega (arith, to.bounds.1));
         few = to.few;
         early = λ s l.
             let sl : s < tail = omega (arith, to.bounds) in
-            rw (q-off s sl, c-some (get_or queue s 0) (to.queue_in s sl).1) (to.early s l);
+            rw (q_off s sl, c_some (get_or queue s 0) (to.queue_in s sl).1) (to.early s l);
         late = λ s bs l. elim (below_next s tail l) [
-          | inl h ↦ rw (q-off s h, c-some (get_or queue s 0) (to.queue_in s h).1) (to.late s bs h)
-          | inr e ↦ rw (e, q-at, c-at) refl
+          | inl h ↦ rw (q_off s h, c_some (get_or queue s 0) (to.queue_in s h).1) (to.late s bs h)
+          | inr e ↦ rw (e, q_at, c_at) refl
         ];
-        shut = λ s v l. rw (q-off s (omega (arith, to.bounds))) (λ there. c-kept v (to.shut s v l there));
+        shut = λ s v l. rw (q_off s (omega (arith, to.bounds))) (λ there. c_kept v (to.shut s v l there));
         falls = λ a b there. elim (eqb_tells b u) [
-          | inl e ↦ rw (e.1, c-at) (λ some other. elim (eqb_tells a u) [
-            | inl z ↦ rw (z.1, c-at) (omega arith)
-            | inr z ↦ rw (c-off a z.1) (number_top a)
+          | inl e ↦ rw (e.1, c_at) (λ some other. elim (eqb_tells a u) [
+            | inl z ↦ rw (z.1, c_at) (omega arith)
+            | inr z ↦ rw (c_off a z.1) (number_top a)
           ])
-          | inr e ↦ rw (c-off b e.1) (elim (eqb_tells a u) [
-            | inl z ↦ rw (z.1, c-at) (λ some other.
+          | inr e ↦ rw (c_off b e.1) (elim (eqb_tells a u) [
+            | inl z ↦ rw (z.1, c_at) (λ some other.
                 let place = to.listed b other in
                 elim (cases_lt place.0 head) [
                   | inl l ↦ absurd (to.shut place.0 u l (rw (place.2, ← z.1) there) free)
                   | inr l ↦ let same : get_or class b 0 ≡ number = rw place.2 at (to.late place.0 (omega (arith, to.bounds)) place.1) in omega arith
                 ])
-            | inr z ↦ rw (c-off a z.1) (λ some other. to.falls a b there some other)
+            | inr z ↦ rw (c_off a z.1) (λ some other. to.falls a b there some other)
           ])
         ];
         together = λ a b. elim (eqb_tells a u) [
-          | inl e ↦ rw (e.1, c-at) (elim (eqb_tells b u) [
+          | inl e ↦ rw (e.1, c_at) (elim (eqb_tells b u) [
             | inl z ↦ rw (z.1) (λ some same. Leads.none)
-            | inr z ↦ rw (c-off b z.1) (λ some same.
+            | inr z ↦ rw (c_off b z.1) (λ some same.
                 let place = last_listed b (sym same) in
-                rw (← place.3) (leads_on home-new (from-root place.0 place.1 place.2)))
+                rw (← place.3) (leads_on home_new (from_root place.0 place.1 place.2)))
           ])
-          | inr e ↦ rw (c-off a e.1) (elim (eqb_tells b u) [
-            | inl z ↦ rw (z.1, c-at) (λ some same.
+          | inr e ↦ rw (c_off a e.1) (elim (eqb_tells b u) [
+            | inl z ↦ rw (z.1, c_at) (λ some same.
                 let place = last_listed a same in
-                rw (← place.3) (leads_on (to.home place.0 place.1 place.2) root-new))
-            | inr z ↦ rw (c-off b z.1) (to.together a b)
+                rw (← place.3) (leads_on (to.home place.0 place.1 place.2) root_new))
+            | inr z ↦ rw (c_off b z.1) (to.together a b)
           ])
         ];
         home = λ s bs l. elim (below_next s tail l) [
-          | inl h ↦ rw (q-off s h) (to.home s bs h)
-          | inr e ↦ rw (e, q-at) home-new
+          | inl h ↦ rw (q_off s h) (to.home s bs h)
+          | inr e ↦ rw (e, q_at) home_new
         ];
         near = λ s bs l. elim (below_next s tail l) [
-          | inl h ↦ rw (q-off s h) (to.near s bs h)
-          | inr e ↦ rw (e, q-at) near-new
+          | inl h ↦ rw (q_off s h) (to.near s bs h)
+          | inr e ↦ rw (e, q_at) near_new
         ];
-        done = λ a ta l. c-kept (get_or order a 0) (to.done a ta l);
+        done = λ a ta l. c_kept (get_or order a 0) (to.done a ta l);
       }
 
       pub take_kept : (v : ℕ) → get_or class v 0 ≢ 0 → get_or (set class u number) v 0 ≢ 0
-      take_kept = c-kept
+      take_kept = c_kept
 
       pub take_same : get_or (set class u number) u 0 ≢ 0
-      take_same = rw c-at (omega (arith, to.few))
+      take_same = rw c_at (omega (arith, to.few))
 
       pub take_head : get_or (set queue tail u) head 0 ≡ get_or queue head 0
-      take_head = q-off head inside
+      take_head = q_off head inside
 
   -- all that leads to the head of the queue has a number
   pub gather_next : head < tail → ((u : ℕ) → Edge sources targets u (get_or queue head 0) → get_or class u 0 ≢ 0)
@@ -210,49 +210,49 @@ module _ (m : ℕ) (sources targets order : List ℕ) (count : ℕ) (finished : 
     gather_root =
         let um = finished.in_range left inside in
         let u = get_or order left 0 in
-        let at : get_or (set queue tail u) tail 0 ≡ u = q-at u um free in
-        let here : get_or (set class u number) u 0 ≡ number = c-at u um free in
+        let at : get_or (set queue tail u) tail 0 ≡ u = q_at u um free in
+        let here : get_or (set class u number) u 0 ≡ number = c_at u um free in
         let below : (v : ℕ) → get_or class v 0 ≢ number = λ v e. (let there = last_listed v e in omega (arith, there.1, there.2)) in
         record {
           class_all = length-set class u number ∙ to.class_all;
           queue_all = length-set queue tail u ∙ to.queue_all;
           room = omega (arith, to.room, more u um free);
           queue_in = λ s l. elim (below_next s tail l) [
-            | inl h ↦ let was = to.queue_in s h in rw (q-off u um free s h) (was.0, c-kept u um free (get_or queue s 0) was.1)
+            | inl h ↦ let was = to.queue_in s h in rw (q_off u um free s h) (was.0, c_kept u um free (get_or queue s 0) was.1)
             | inr e ↦ rw (e, at, here) (um, omega (arith, to.few))
           ];
           listed = λ v some. elim (eqb_tells v u) [
             | inl e ↦ (tail, omega arith, at ∙ sym e.1)
-            | inr e ↦ let there = to.listed v (rw (c-off u um free v e.1) at some) in (there.0, omega (arith, there.1), q-off u um free there.0 there.1 ∙ there.2)
+            | inr e ↦ let there = to.listed v (rw (c_off u um free v e.1) at some) in (there.0, omega (arith, there.1), q_off u um free there.0 there.1 ∙ there.2)
           ];
           bounds = (omega arith, omega arith);
           few = (omega (arith, to.few), omega (arith, to.few));
-          early = λ s l. rw (q-off u um free s l, c-some u um free (get_or queue s 0) (to.queue_in s l).1) (to.early s (omega arith));
+          early = λ s l. rw (q_off u um free s l, c_some u um free (get_or queue s 0) (to.queue_in s l).1) (to.early s (omega arith));
           late = λ s bs l. elim (below_next s tail l) [
             | inl h ↦ absurd (omega arith)
             | inr e ↦ rw (e, at, here) refl
           ];
-          shut = λ s v l. rw (q-off u um free s l) (λ there. c-kept u um free v (to.shut s v (omega (arith, to.bounds)) there));
+          shut = λ s v l. rw (q_off u um free s l) (λ there. c_kept u um free v (to.shut s v (omega (arith, to.bounds)) there));
           falls = λ a b there. elim (eqb_tells b u) [
             | inl e ↦ rw (e.1, here) (λ some other. elim (eqb_tells a u) [
               | inl z ↦ rw (z.1, here) (omega arith)
-              | inr z ↦ rw (c-off u um free a z.1) (number_top a)
+              | inr z ↦ rw (c_off u um free a z.1) (number_top a)
             ])
-            | inr e ↦ rw (c-off u um free b e.1) (elim (eqb_tells a u) [
+            | inr e ↦ rw (c_off u um free b e.1) (elim (eqb_tells a u) [
               | inl z ↦ rw (z.1, here) (λ some other.
                   let place = to.listed b other in
                   absurd (to.shut place.0 u (omega (arith, place.1, to.bounds)) (rw (place.2, ← z.1) there) free))
-              | inr z ↦ rw (c-off u um free a z.1) (λ some other. to.falls a b there some other)
+              | inr z ↦ rw (c_off u um free a z.1) (λ some other. to.falls a b there some other)
             ])
           ];
           together = λ a b. elim (eqb_tells a u) [
             | inl e ↦ rw (e.1, here) (elim (eqb_tells b u) [
               | inl z ↦ rw (z.1) (λ some same. Leads.none)
-              | inr z ↦ rw (c-off u um free b z.1) (λ some same. absurd (below b (sym same)))
+              | inr z ↦ rw (c_off u um free b z.1) (λ some same. absurd (below b (sym same)))
             ])
-            | inr e ↦ rw (c-off u um free a e.1) (elim (eqb_tells b u) [
+            | inr e ↦ rw (c_off u um free a e.1) (elim (eqb_tells b u) [
               | inl z ↦ rw (z.1, here) (λ some same. absurd (below a same))
-              | inr z ↦ rw (c-off u um free b z.1) (to.together a b)
+              | inr z ↦ rw (c_off u um free b z.1) (to.together a b)
             ])
           ];
           home = λ s bs l. elim (below_next s tail l) [
@@ -265,7 +265,7 @@ module _ (m : ℕ) (sources targets order : List ℕ) (count : ℕ) (finished : 
           ];
           done = λ a la l. elim (eqb_tells a left) [
             | inl e ↦ rw (e.1, here) (omega (arith, to.few))
-            | inr e ↦ c-kept u um free (get_or order a 0) (to.done a (omega (arith, e.1)) l)
+            | inr e ↦ c_kept u um free (get_or order a 0) (to.done a (omega (arith, e.1)) l)
           ];
         }
 
@@ -337,12 +337,12 @@ module _ (sources targets last before order : List ℕ) (count : ℕ) (class que
   cursor_next = (omega (arith, threads.falls (cursor - 1) place_in), λ some. threads.at_before (cursor - 1) place_in some ∙ key)
 
   module _ (seen : (y : ℕ) → y < length targets → get_or targets y 0 ≡ v → cursor ≤ y → get_or class (get_or sources y 0) 0 ≢ 0) where
-    seen-from : (y : ℕ) → y < length targets → get_or targets y 0 ≡ v → cursor - 1 + 1 ≤ y → get_or class (get_or sources y 0) 0 ≢ 0
-    seen-from y l same le = seen y l same (omega arith)
+    seen_from : (y : ℕ) → y < length targets → get_or targets y 0 ≡ v → cursor - 1 + 1 ≤ y → get_or class (get_or sources y 0) 0 ≢ 0
+    seen_from y l same le = seen y l same (omega arith)
 
     pub row_taken : get_or class (get_or sources (cursor - 1) 0) 0 ≡ 0
         → (y : ℕ) → y < length targets → get_or targets y 0 ≡ v → get_or before (cursor - 1) 0 ≤ y → get_or (set class (get_or sources (cursor - 1) 0) number) (get_or sources y 0) 0 ≢ 0
-    row_taken free = seen_next sources targets last before class (set class (get_or sources (cursor - 1) 0) number) threads v (cursor - 1) place_in key seen-from
+    row_taken free = seen_next sources targets last before class (set class (get_or sources (cursor - 1) 0) number) threads v (cursor - 1) place_in key seen_from
         (take_kept (length class) sources targets order count finished class queue base head tail number t to (get_or sources (cursor - 1) 0) source_in free head_in leads_here)
         (take_same (length class) sources targets order count finished class queue base head tail number t to (get_or sources (cursor - 1) 0) source_in free head_in leads_here)
 

@@ -150,90 +150,90 @@ module _ (m : ℕ) (sources targets leader order placed waits : List ℕ) (count
     all_then : ℕ → ℕ
     all_then s = if s == count then v else get_or order s 0
 
-    all-at : all_then count ≡ v
+    all_at : all_then count ≡ v
     unfolding all_then
-    all-at = elim (eqb_tells count count) [ inl e ↦ rw e.0 refl | inr e ↦ absurd (e.1 refl) ]
+    all_at = elim (eqb_tells count count) [ inl e ↦ rw e.0 refl | inr e ↦ absurd (e.1 refl) ]
 
-    all-off : (s : ℕ) → s < count → all_then s ≡ get_or order s 0
+    all_off : (s : ℕ) → s < count → all_then s ≡ get_or order s 0
     unfolding all_then
-    all-off s l = elim (eqb_tells s count) [ inl e ↦ absurd (omega (arith, e.1)) | inr e ↦ rw e.0 refl ]
+    all_off s l = elim (eqb_tells s count) [ inl e ↦ absurd (omega (arith, e.1)) | inr e ↦ rw e.0 refl ]
 
-    placed-not : (s : ℕ) → s < count → get_or order s 0 ≢ v
-    placed-not s l e = (let there : get_or placed v 0 ≡ suc s = rw e at (to.ordered.order_in s l).2 in omega (arith, at_v.2))
+    placed_not : (s : ℕ) → s < count → get_or order s 0 ≢ v
+    placed_not s l e = (let there : get_or placed v 0 ≡ suc s = rw e at (to.ordered.order_in s l).2 in omega (arith, at_v.2))
 
     pub place_room : count < m
     place_room =
         let room : count + 1 ≤ m = distinct_room all_then (count + 1) m
         (λ s l. elim (below_next s count l) [
-          | inl h ↦ rw (all-off s h) (to.ordered.order_in s h).0
-          | inr e ↦ rw (e, all-at) at_v.0
+          | inl h ↦ rw (all_off s h) (to.ordered.order_in s h).0
+          | inr e ↦ rw (e, all_at) at_v.0
         ])
         (λ s r sl rl. elim (below_next s count sl) [
           | inl h ↦ elim (below_next r count rl) [
-            | inl h' ↦ rw (all-off s h, all-off r h') (λ same.
+            | inl h' ↦ rw (all_off s h, all_off r h') (λ same.
                 let both : suc s ≡ suc r = sym (to.ordered.order_in s h).2 ∙ ap (λ (z : ℕ). get_or placed z 0) same ∙ (to.ordered.order_in r h').2 in
                 omega arith)
-            | inr e' ↦ rw (e', all-at, all-off s h) (λ same. absurd (placed-not s h same))
+            | inr e' ↦ rw (e', all_at, all_off s h) (λ same. absurd (placed_not s h same))
           ]
           | inr e ↦ elim (below_next r count rl) [
-            | inl h' ↦ rw (e, all-at, all-off r h') (λ same. absurd (placed-not r h' (sym same)))
+            | inl h' ↦ rw (e, all_at, all_off r h') (λ same. absurd (placed_not r h' (sym same)))
             | inr e' ↦ λ same. e ∙ sym e'
           ]
         ]) in
         omega arith
 
-    o-at : get_or (set order count v) count 0 ≡ v
-    o-at = get_or-set_same order count v 0 (omega (arith, to.order_all, place_room))
+    o_at : get_or (set order count v) count 0 ≡ v
+    o_at = get_or-set_same order count v 0 (omega (arith, to.order_all, place_room))
 
-    o-off : (s : ℕ) → s < count → get_or (set order count v) s 0 ≡ get_or order s 0
-    o-off s l = let ne : s ≢ count = omega arith in get_or-set_other order count s v 0 ne
+    o_off : (s : ℕ) → s < count → get_or (set order count v) s 0 ≡ get_or order s 0
+    o_off s l = let ne : s ≢ count = omega arith in get_or-set_other order count s v 0 ne
 
-    p-at : get_or (set placed v (count + 1)) v 0 ≡ count + 1
-    p-at = get_or-set_same placed v (count + 1) 0 (omega (arith, to.placed_all, at_v.0))
+    p_at : get_or (set placed v (count + 1)) v 0 ≡ count + 1
+    p_at = get_or-set_same placed v (count + 1) 0 (omega (arith, to.placed_all, at_v.0))
 
-    p-off : (u : ℕ) → u ≢ v → get_or (set placed v (count + 1)) u 0 ≡ get_or placed u 0
-    p-off u ne = get_or-set_other placed v u (count + 1) 0 ne
+    p_off : (u : ℕ) → u ≢ v → get_or (set placed v (count + 1)) u 0 ≡ get_or placed u 0
+    p_off u ne = get_or-set_other placed v u (count + 1) 0 ne
 
-    p-some : (u : ℕ) → get_or placed u 0 ≢ 0 → get_or (set placed v (count + 1)) u 0 ≡ get_or placed u 0
-    p-some u some = p-off u (λ e. some (rw e at_v.2))
+    p_some : (u : ℕ) → get_or placed u 0 ≢ 0 → get_or (set placed v (count + 1)) u 0 ≡ get_or placed u 0
+    p_some u some = p_off u (λ e. some (rw e at_v.2))
 
     -- what was placed up to `count` was placed before
-    p-low : (u s : ℕ) → s ≤ count → get_or (set placed v (count + 1)) u 0 ≢ 0 → get_or (set placed v (count + 1)) u 0 ≤ s → (get_or placed u 0 ≢ 0) × (get_or placed u 0 ≤ s)
-    p-low u s sc = elim (eqb_tells u v) [
-      | inl e ↦ rw (e.1, p-at) (λ some le. absurd (omega arith))
-      | inr e ↦ rw (p-off u e.1) (λ some le. (some, le))
+    p_low : (u s : ℕ) → s ≤ count → get_or (set placed v (count + 1)) u 0 ≢ 0 → get_or (set placed v (count + 1)) u 0 ≤ s → (get_or placed u 0 ≢ 0) × (get_or placed u 0 ≤ s)
+    p_low u s sc = elim (eqb_tells u v) [
+      | inl e ↦ rw (e.1, p_at) (λ some le. absurd (omega arith))
+      | inr e ↦ rw (p_off u e.1) (λ some le. (some, le))
     ]
 
-    ordered-then : IsOrdered m sources targets leader (set order count v) (set placed v (count + 1)) (count + 1)
-    ordered-then = record {
+    ordered_then : IsOrdered m sources targets leader (set order count v) (set placed v (count + 1)) (count + 1)
+    ordered_then = record {
       order_in = λ s l. elim (below_next s count l) [
-        | inl h ↦ let old = to.ordered.order_in s h in rw (o-off s h, p-off (get_or order s 0) (placed-not s h)) old
-        | inr e ↦ rw (e, o-at, p-at) (at_v.0, at_v.1, omega arith)
+        | inl h ↦ let old = to.ordered.order_in s h in rw (o_off s h, p_off (get_or order s 0) (placed_not s h)) old
+        | inr e ↦ rw (e, o_at, p_at) (at_v.0, at_v.1, omega arith)
       ];
       placed_in = λ u. elim (eqb_tells u v) [
-        | inl e ↦ rw (e.1, p-at) (λ some. let back : count + 1 - 1 ≡ count = omega arith in (omega arith, rw back o-at))
-        | inr e ↦ rw (p-off u e.1) (λ some. let there = to.ordered.placed_in u some in (omega (arith, there.0), o-off (get_or placed u 0 - 1) (omega (arith, there.0)) ∙ there.1))
+        | inl e ↦ rw (e.1, p_at) (λ some. let back : count + 1 - 1 ≡ count = omega arith in (omega arith, rw back o_at))
+        | inr e ↦ rw (p_off u e.1) (λ some. let there = to.ordered.placed_in u some in (omega (arith, there.0), o_off (get_or placed u 0 - 1) (omega (arith, there.0)) ∙ there.1))
       ];
       met = λ s x l xl. elim (below_next s count l) [
-        | inl h ↦ rw (o-off s h) (λ from differ. let old = to.ordered.met s x h xl from differ in rw (p-some (get_or targets x 0) old.0) old)
-        | inr e ↦ rw (e, o-at) (λ from differ.
+        | inl h ↦ rw (o_off s h) (λ from differ. let old = to.ordered.met s x h xl from differ in rw (p_some (get_or targets x 0) old.0) old)
+        | inr e ↦ rw (e, o_at) (λ from differ.
             let none : waiting sources open_at (length sources) v ≡ 0 = sym (to.waits_are v at_v.0) ∙ at_v.3 in
             let gone : open_at x ≡ 0 = waiting_zero sources open_at (length sources) v none x xl from in
             let done = (to.open_none x xl gone differ).0 in
-            rw (p-some (get_or targets x 0) done) (done, (to.ordered.placed_in (get_or targets x 0) done).0))
+            rw (p_some (get_or targets x 0) done) (done, (to.ordered.placed_in (get_or targets x 0) done).0))
       ];
       least = λ s u l um led later needs. elim (below_next s count l) [
-        | inl h ↦ rw (o-off s h) (to.ordered.least s u h um led
-            (λ some. rw (p-some u some) at (later (rw (p-some u some) some)))
-            (λ x xl from differ. let n = needs x xl from differ in p-low (get_or targets x 0) s (omega arith) n.0 n.1))
-        | inr e ↦ rw (e, o-at) (elim (eqb_tells u v) [
+        | inl h ↦ rw (o_off s h) (to.ordered.least s u h um led
+            (λ some. rw (p_some u some) at (later (rw (p_some u some) some)))
+            (λ x xl from differ. let n = needs x xl from differ in p_low (get_or targets x 0) s (omega arith) n.0 n.1))
+        | inr e ↦ rw (e, o_at) (elim (eqb_tells u v) [
           | inl z ↦ omega (arith, z.1)
           | inr z ↦
               let unplaced : get_or placed u 0 ≡ 0 = elim (eqb_tells (get_or placed u 0) 0) [
                 | inl y ↦ y.1
                 | inr y ↦ absurd (
                     let old = (to.ordered.placed_in u y.1).0 in
-                    let now : s < get_or placed u 0 = rw (p-some u y.1) at (later (rw (p-some u y.1) y.1)) in
+                    let now : s < get_or placed u 0 = rw (p_some u y.1) at (later (rw (p_some u y.1) y.1)) in
                     omega (arith, e))
               ] in
               let none : waiting sources open_at (length sources) u ≡ 0 = waiting_none sources open_at (length sources) u (λ x xl from. elim (eqb_tells (open_at x) 0) [
@@ -241,7 +241,7 @@ module _ (m : ℕ) (sources targets leader order placed waits : List ℕ) (count
                 | inr y ↦
                     let one = to.open_one x xl y.1 in
                     let n = needs x xl from one.1 in
-                    let old = p-low (get_or targets x 0) count (omega arith) n.0 (omega (arith, n.1, e)) in
+                    let old = p_low (get_or targets x 0) count (omega arith) n.0 (omega (arith, n.1, e)) in
                     elim one.2 [
                       | inl w ↦ absurd (old.0 w)
                       | inr w ↦ absurd (omega (arith, w.1))
@@ -257,7 +257,7 @@ module _ (m : ℕ) (sources targets leader order placed waits : List ℕ) (count
       order_all = length-set order count v ∙ to.order_all;
       placed_all = length-set placed v (count + 1) ∙ to.placed_all;
       waits_all = to.waits_all;
-      ordered = ordered-then;
+      ordered = ordered_then;
       waits_are = to.waits_are;
       open_one = λ x l some.
           let one = to.open_one x l some in
@@ -268,38 +268,38 @@ module _ (m : ℕ) (sources targets leader order placed waits : List ℕ) (count
               one.1,
               elim (eqb_tells (get_or targets x 0) v) [
                 | inl e ↦ inr (e.1, (let past = threads.past_last x (omega (arith, graph.same)) in rw e.1 at past))
-                | inr e ↦ inl (p-off (get_or targets x 0) e.1 ∙ w)
+                | inr e ↦ inl (p_off (get_or targets x 0) e.1 ∙ w)
               ],
             )
           ];
       open_none = λ x l none differ.
           let done = (to.open_none x l none differ).0 in
-          (rw (p-some (get_or targets x 0) done) done, λ e. absurd (done (rw e at_v.2)));
+          (rw (p_some (get_or targets x 0) done) done, λ e. absurd (done (rw e at_v.2)));
       ready_in = λ u r.
           let old = was u r in
           let at = to.ready_in u old.0 in
-          (at.0, at.1, p-off u old.1 ∙ at.2, at.3);
+          (at.0, at.1, p_off u old.1 ∙ at.2, at.3);
       ready_all = λ u um led. elim (eqb_tells u v) [
-        | inl e ↦ rw (e.1, p-at) (λ unplaced none. absurd (omega arith))
-        | inr e ↦ rw (p-off u e.1) (λ unplaced none. still u (to.ready_all u um led unplaced none) e.1)
+        | inl e ↦ rw (e.1, p_at) (λ unplaced none. absurd (omega arith))
+        | inr e ↦ rw (p_off u e.1) (λ unplaced none. still u (to.ready_all u um led unplaced none) e.1)
       ];
     }
 
     pub placed_last : get_or (set placed v (count + 1)) v 0 ≡ count + 1
-    placed_last = p-at
+    placed_last = p_at
 
   -- an edge to the vertex that was placed last
   module _ (awake x : ℕ) (to : IsPlacing m sources targets leader order placed waits count Ready awake (suc x) open_at)
       (last before : List ℕ) (graph : IsGraph m sources targets) (threads : AreThreaded targets last before)
       (xl : x < length sources) (key : get_or targets x 0 ≡ awake) (done : get_or placed awake 0 ≡ count) (some : 0 < count) where
-    x-in : x < length targets
-    x-in = omega (arith, graph.same)
+    x_in : x < length targets
+    x_in = omega (arith, graph.same)
 
-    before-low : get_or before x 0 ≤ x
-    before-low = threads.falls x x-in
+    before_low : get_or before x 0 ≤ x
+    before_low = threads.falls x x_in
 
     lower : (y : ℕ) → get_or targets y 0 ≡ awake → y < suc x → y ≢ x → y < get_or before x 0
-    lower y e l ne = threads.none_between x y x-in (omega arith) (e ∙ sym key)
+    lower y e l ne = threads.none_between x y x_in (omega arith) (e ∙ sym key)
 
     -- it comes from the vertex itself
     pub placing_skip : get_or sources x 0 ≡ awake → IsPlacing m sources targets leader order placed waits count Ready awake (get_or before x 0) open_at
@@ -320,21 +320,21 @@ module _ (m : ℕ) (sources targets leader order placed waits : List ℕ) (count
                   inr (w.0, lower y w.0 w.1 ne)
             ],
           );
-      open_none = λ y l none differ. let old = to.open_none y l none differ in (old.0, λ e. omega (arith, old.1 e, before-low));
+      open_none = λ y l none differ. let old = to.open_none y l none differ in (old.0, λ e. omega (arith, old.1 e, before_low));
       ready_in = to.ready_in;
       ready_all = to.ready_all;
     }
 
     -- it comes from another one
     module _ (away : get_or sources x 0 ≢ awake) where
-      was-open : open_at x ≡ 1
-      was-open = elim (eqb_tells (open_at x) 0) [
+      was_open : open_at x ≡ 1
+      was_open = elim (eqb_tells (open_at x) 0) [
         | inl e ↦ absurd (let old = to.open_none x xl e.1 (λ same. away (same ∙ key)) in omega (arith, old.1 key))
         | inr e ↦ (to.open_one x xl e.1).0
       ]
 
       less : waiting sources (without open_at x) (length sources) (get_or sources x 0) + 1 ≡ waiting sources open_at (length sources) (get_or sources x 0)
-      less = waiting_less sources open_at (length sources) x (get_or sources x 0) xl refl was-open
+      less = waiting_less sources open_at (length sources) x (get_or sources x 0) xl refl was_open
 
       pub lower_some : get_or waits (get_or sources x 0) 0 ≢ 0
       lower_some = omega (arith, less, to.waits_are (get_or sources x 0) (graph.source x xl))
@@ -350,11 +350,11 @@ module _ (m : ℕ) (sources targets leader order placed waits : List ℕ) (count
             absurd (omega arith)
       ]
 
-      w-at : get_or (set waits (get_or sources x 0) (get_or waits (get_or sources x 0) 0 - 1)) (get_or sources x 0) 0 ≡ get_or waits (get_or sources x 0) 0 - 1
-      w-at = get_or-set_same waits (get_or sources x 0) (get_or waits (get_or sources x 0) 0 - 1) 0 (omega (arith, to.waits_all, graph.source x xl))
+      w_at : get_or (set waits (get_or sources x 0) (get_or waits (get_or sources x 0) 0 - 1)) (get_or sources x 0) 0 ≡ get_or waits (get_or sources x 0) 0 - 1
+      w_at = get_or-set_same waits (get_or sources x 0) (get_or waits (get_or sources x 0) 0 - 1) 0 (omega (arith, to.waits_all, graph.source x xl))
 
-      w-off : (u : ℕ) → u ≢ get_or sources x 0 → get_or (set waits (get_or sources x 0) (get_or waits (get_or sources x 0) 0 - 1)) u 0 ≡ get_or waits u 0
-      w-off u ne = get_or-set_other waits (get_or sources x 0) u (get_or waits (get_or sources x 0) 0 - 1) 0 ne
+      w_off : (u : ℕ) → u ≢ get_or sources x 0 → get_or (set waits (get_or sources x 0) (get_or waits (get_or sources x 0) 0 - 1)) u 0 ≡ get_or waits u 0
+      w_off u ne = get_or-set_other waits (get_or sources x 0) u (get_or waits (get_or sources x 0) 0 - 1) 0 ne
 
       module _ (led : get_or leader (get_or sources x 0) 0 ≡ get_or sources x 0) (Ready' : ℕ → Type 0)
           (was : (u : ℕ) → Ready' u → Ready u ⊎ ((u ≡ get_or sources x 0) × (get_or waits (get_or sources x 0) 0 - 1 ≡ 0)))
@@ -366,8 +366,8 @@ module _ (m : ℕ) (sources targets leader order placed waits : List ℕ) (count
           waits_all = length-set waits (get_or sources x 0) (get_or waits (get_or sources x 0) 0 - 1) ∙ to.waits_all;
           ordered = to.ordered;
           waits_are = λ b bm. elim (eqb_tells b (get_or sources x 0)) [
-            | inl e ↦ rw (e.1, w-at) (omega (arith, less, to.waits_are (get_or sources x 0) (graph.source x xl)))
-            | inr e ↦ w-off b e.1 ∙ to.waits_are b bm ∙ sym (waiting_kept sources open_at (length sources) x (get_or sources x 0) xl refl was-open b e.1)
+            | inl e ↦ rw (e.1, w_at) (omega (arith, less, to.waits_are (get_or sources x 0) (graph.source x xl)))
+            | inr e ↦ w_off b e.1 ∙ to.waits_are b bm ∙ sym (waiting_kept sources open_at (length sources) x (get_or sources x 0) xl refl was_open b e.1)
           ];
           open_one = λ y l. elim (eqb_tells y x) [
             | inl e ↦ rw (e.1, without_same open_at x) (λ is. absurd (is refl))
@@ -382,19 +382,19 @@ module _ (m : ℕ) (sources targets leader order placed waits : List ℕ) (count
                 ))
           ];
           open_none = λ y l. elim (eqb_tells y x) [
-            | inl e ↦ rw e.1 (λ none differ. (rw (key, done) (omega arith), λ _. before-low))
-            | inr e ↦ rw (without_other open_at x y e.1) (λ none differ. let old = to.open_none y l none differ in (old.0, λ same. omega (arith, old.1 same, before-low)))
+            | inl e ↦ rw e.1 (λ none differ. (rw (key, done) (omega arith), λ _. before_low))
+            | inr e ↦ rw (without_other open_at x y e.1) (λ none differ. let old = to.open_none y l none differ in (old.0, λ same. omega (arith, old.1 same, before_low)))
           ];
           ready_in = λ u r. elim (was u r) [
             | inl old ↦
                 let at = to.ready_in u old in
                 let ne : u ≢ get_or sources x 0 = λ e. lower_some (rw e at at.3) in
-                (at.0, at.1, at.2, w-off u ne ∙ at.3)
-            | inr new ↦ rw new.0 (graph.source x xl, led, unplaced, w-at ∙ new.1)
+                (at.0, at.1, at.2, w_off u ne ∙ at.3)
+            | inr new ↦ rw new.0 (graph.source x xl, led, unplaced, w_at ∙ new.1)
           ];
           ready_all = λ u um lu up. elim (eqb_tells u (get_or sources x 0)) [
-            | inl e ↦ rw (e.1, w-at) now
-            | inr e ↦ rw (w-off u e.1) (λ none. still u (to.ready_all u um lu up none))
+            | inl e ↦ rw (e.1, w_at) now
+            | inr e ↦ rw (w_off u e.1) (λ none. still u (to.ready_all u um lu up none))
           ];
         }
 
@@ -403,8 +403,8 @@ module _ (m : ℕ) (sources targets leader order placed waits : List ℕ) (count
       (empty : (v : ℕ) → Ready v → ⊥) (rank : ℕ → ℕ) (top : ℕ) (low : (v : ℕ) → v < m → rank v ≤ top)
       (rise : (x : ℕ) → x < length sources → get_or sources x 0 ≢ get_or targets x 0 → rank (get_or sources x 0) < rank (get_or targets x 0))
       (led : (x : ℕ) → x < length sources → get_or leader (get_or targets x 0) 0 ≡ get_or targets x 0) where
-    one-left : (v : ℕ) → ((w : ℕ) → w < m → get_or leader w 0 ≡ w → rank v < rank w → get_or placed w 0 ≢ 0) → v < m → get_or leader v 0 ≡ v → get_or placed v 0 ≢ 0
-    one-left v above_it vm lv unplaced =
+    one_left : (v : ℕ) → ((w : ℕ) → w < m → get_or leader w 0 ≡ w → rank v < rank w → get_or placed w 0 ≢ 0) → v < m → get_or leader v 0 ≡ v → get_or placed v 0 ≢ 0
+    one_left v above_it vm lv unplaced =
         let none : waiting sources open_at (length sources) v ≡ 0 = waiting_none sources open_at (length sources) v (λ x xl from. elim (eqb_tells (open_at x) 0) [
           | inl e ↦ e.1
           | inr e ↦
@@ -417,9 +417,9 @@ module _ (m : ℕ) (sources targets leader order placed waits : List ℕ) (count
         ]) in
         empty v (to.ready_all v vm lv unplaced (to.waits_are v vm ∙ none))
 
-    none-left : (n v : ℕ) → v < m → get_or leader v 0 ≡ v → top ≤ rank v + n → get_or placed v 0 ≢ 0
-    none-left zero v vm lv high = one-left v (λ w wm lw above. absurd (omega (arith, low w wm))) vm lv
-    none-left (suc n) v vm lv high = one-left v (λ w wm lw above. none-left n w wm lw (omega arith)) vm lv
+    none_left : (n v : ℕ) → v < m → get_or leader v 0 ≡ v → top ≤ rank v + n → get_or placed v 0 ≢ 0
+    none_left zero v vm lv high = one_left v (λ w wm lw above. absurd (omega (arith, low w wm))) vm lv
+    none_left (suc n) v vm lv high = one_left v (λ w wm lw above. none_left n w wm lw (omega arith)) vm lv
 
     pub all_placed : AreOrdered m sources targets leader order placed count
-    all_placed = record { ordered = to.ordered; all = λ v vm lv. none-left top v vm lv (omega arith) }
+    all_placed = record { ordered = to.ordered; all = λ v vm lv. none_left top v vm lv (omega arith) }

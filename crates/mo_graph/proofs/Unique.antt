@@ -86,17 +86,17 @@ module _ (Need : ℕ → ℕ → Type 0) (m : ℕ) where
       (block_into y x b.ready.is_block a.ready.is_block (get_or x 0 0) in_y in_x)
 
   module _ (bs cs : List (List ℕ)) (one : IsInOrder Need m bs) (two : IsInOrder Need m cs) where
-    same-front : (b : ℕ) → b ≤ length bs → b ≤ length cs → take b bs ≡ take b cs
-    same-front zero l l' = refl
-    same-front (suc b) l l' =
-        let rest = same-front b (omega arith) (omega arith) in
+    same_front : (b : ℕ) → b ≤ length bs → b ≤ length cs → take b bs ≡ take b cs
+    same_front zero l l' = refl
+    same_front (suc b) l l' =
+        let rest = same_front b (omega arith) (omega arith) in
         let here : get_or bs b [] ≡ get_or cs b [] = next_unique (take b cs) (get_or bs b []) (get_or cs b []) (rw rest at (one.next b (omega arith))) (two.next b (omega arith)) in
         let next : suc b ≡ b + 1 = omega arith in
         rw next (take_more_same bs cs b [] (omega arith) (omega arith) rest here)
 
     -- nothing is ready after all blocks
-    no-more : (ds es : List (List ℕ)) → IsInOrder Need m ds → IsInOrder Need m es → take (length ds) ds ≡ take (length ds) es → length ds < length es → ⊥
-    no-more ds es whole longer same l =
+    no_more : (ds es : List (List ℕ)) → IsInOrder Need m ds → IsInOrder Need m es → take (length ds) ds ≡ take (length ds) es → length ds < length es → ⊥
+    no_more ds es whole longer same l =
         let next = longer.next (length ds) l in
         let block = next.ready.is_block in
         let x : ℕ = get_or (get_or es (length ds) []) 0 0 in
@@ -108,12 +108,12 @@ module _ (Need : ℕ → ℕ → Type 0) (m : ℕ) where
 
     pub order_unique : bs ≡ cs
     order_unique = elim (cases_lt (length bs) (length cs)) [
-      | inl l ↦ absurd (no-more bs cs one two (same-front (length bs) (omega arith) (omega arith)) l)
+      | inl l ↦ absurd (no_more bs cs one two (same_front (length bs) (omega arith) (omega arith)) l)
       | inr l ↦ elim (cases_lt (length cs) (length bs)) [
-        | inl h ↦ absurd (no-more cs bs two one (sym (same-front (length cs) (omega arith) (omega arith))) h)
+        | inl h ↦ absurd (no_more cs bs two one (sym (same_front (length cs) (omega arith) (omega arith))) h)
         | inr h ↦
             let size : length bs ≡ length cs = omega arith in
-            let front = same-front (length bs) (omega arith) (omega arith) in
+            let front = same_front (length bs) (omega arith) (omega arith) in
             sym (take-length bs) ∙ front ∙ (rw size (take-length cs))
       ]
     ]

@@ -44,31 +44,31 @@ module _ (m : ℕ) (sources targets path mark cursor order : List ℕ) (top coun
     pub enter_room : top + count < m
     enter_room = let falls = unmarked_set m mark w 1 wm walk.mark_all free (omega arith) in omega (arith, walk.room)
 
-    p-at : get_or (set path top w) top 0 ≡ w
-    p-at = get_or-set_same path top w 0 (omega (arith, walk.path_all, enter_room))
+    p_at : get_or (set path top w) top 0 ≡ w
+    p_at = get_or-set_same path top w 0 (omega (arith, walk.path_all, enter_room))
 
-    p-off : (s : ℕ) → s < top → get_or (set path top w) s 0 ≡ get_or path s 0
-    p-off s l = let ne : s ≢ top = omega arith in get_or-set_other path top s w 0 ne
+    p_off : (s : ℕ) → s < top → get_or (set path top w) s 0 ≡ get_or path s 0
+    p_off s l = let ne : s ≢ top = omega arith in get_or-set_other path top s w 0 ne
 
-    m-at : get_or (set mark w 1) w 0 ≡ 1
-    m-at = get_or-set_same mark w 1 0 (omega (arith, walk.mark_all))
+    m_at : get_or (set mark w 1) w 0 ≡ 1
+    m_at = get_or-set_same mark w 1 0 (omega (arith, walk.mark_all))
 
-    m-kept : (v : ℕ) → get_or mark v 0 ≢ 0 → get_or (set mark w 1) v 0 ≢ 0
-    m-kept v some = elim (eqb_tells v w) [
-      | inl e ↦ rw (e.1, m-at) (omega arith)
+    m_kept : (v : ℕ) → get_or mark v 0 ≢ 0 → get_or (set mark w 1) v 0 ≢ 0
+    m_kept v some = elim (eqb_tells v w) [
+      | inl e ↦ rw (e.1, m_at) (omega arith)
       | inr e ↦ rw (get_or-set_other mark w v 1 0 e.1) some
     ]
 
     now : ℕ → ℕ
     now s = if s == top then count else since s
 
-    now-at : now top ≡ count
+    now_at : now top ≡ count
     unfolding now
-    now-at = elim (eqb_tells top top) [ inl e ↦ rw e.0 refl | inr e ↦ absurd (e.1 refl) ]
+    now_at = elim (eqb_tells top top) [ inl e ↦ rw e.0 refl | inr e ↦ absurd (e.1 refl) ]
 
-    now-off : (s : ℕ) → s < top → now s ≡ since s
+    now_off : (s : ℕ) → s < top → now s ≡ since s
     unfolding now
-    now-off s l = elim (eqb_tells s top) [ inl e ↦ absurd (omega (arith, e.1)) | inr e ↦ rw e.0 refl ]
+    now_off s l = elim (eqb_tells s top) [ inl e ↦ absurd (omega (arith, e.1)) | inr e ↦ rw e.0 refl ]
 
     pub walk_enter : Walks m sources targets (set path top w) (set mark w 1) cursor order (top + 1) count
     walk_enter = (
@@ -80,40 +80,40 @@ module _ (m : ℕ) (sources targets path mark cursor order : List ℕ) (top coun
         order_all = walk.order_all;
         room = omega (arith, walk.room, unmarked_set m mark w 1 wm walk.mark_all free (omega arith));
         path_in = λ s l. elim (below_next s top l) [
-          | inl h ↦ rw (p-off s h) ((walk.path_in s h).0, m-kept (get_or path s 0) (walk.path_in s h).1)
-          | inr e ↦ rw (e, p-at, m-at) (wm, omega arith)
+          | inl h ↦ rw (p_off s h) ((walk.path_in s h).0, m_kept (get_or path s 0) (walk.path_in s h).1)
+          | inr e ↦ rw (e, p_at, m_at) (wm, omega arith)
         ];
-        order_in = λ a l. let was = walk.order_in a l in (was.0, m-kept (get_or order a 0) was.1, was.2);
+        order_in = λ a l. let was = walk.order_in a l in (was.0, m_kept (get_or order a 0) was.1, was.2);
         met = λ v some. elim (eqb_tells v w) [
-          | inl e ↦ inl (top, omega arith, p-at ∙ sym e.1)
+          | inl e ↦ inl (top, omega arith, p_at ∙ sym e.1)
           | inr e ↦ elim (walk.met v (rw (get_or-set_other mark w v 1 0 e.1) at some)) [
-            | inl h ↦ inl (h.0, omega (arith, h.1), p-off h.0 h.1 ∙ h.2)
+            | inl h ↦ inl (h.0, omega (arith, h.1), p_off h.0 h.1 ∙ h.2)
             | inr h ↦ inr h
           ]
         ];
         at_cursor = walk.at_cursor;
-        looked = λ x l le. m-kept (get_or targets x 0) (walk.looked x l le);
+        looked = λ x l le. m_kept (get_or targets x 0) (walk.looked x l le);
         since_in = λ s l. elim (below_next s top l) [
-          | inl h ↦ rw (now-off s h) (walk.since_in s h)
-          | inr e ↦ rw (e, now-at) (omega arith)
+          | inl h ↦ rw (now_off s h) (walk.since_in s h)
+          | inr e ↦ rw (e, now_at) (omega arith)
         ];
         reach = λ s t le l. elim (below_next t top l) [
-          | inl h ↦ rw (p-off t h, p-off s (omega arith)) (walk.reach s t le h)
+          | inl h ↦ rw (p_off t h, p_off s (omega arith)) (walk.reach s t le h)
           | inr e ↦ elim (eqb_tells s t) [
             | inl z ↦ rw z.1 Leads.none
             | inr z ↦
                 let sl : s < top = omega (arith, z.1) in
                 let last : top - 1 < top = omega arith in
-                rw (e, p-at, p-off s sl) (leads_edge (walk.reach s (top - 1) (omega arith) last) (edge (omega arith)))
+                rw (e, p_at, p_off s sl) (leads_edge (walk.reach s (top - 1) (omega arith) last) (edge (omega arith)))
           ]
         ];
         below = λ s a l. elim (below_next s top l) [
-          | inl h ↦ rw (now-off s h, p-off s h) (walk.below s a h)
-          | inr e ↦ rw (e, now-at) (λ le al. absurd (omega arith))
+          | inl h ↦ rw (now_off s h, p_off s h) (walk.below s a h)
+          | inr e ↦ rw (e, now_at) (λ le al. absurd (omega arith))
         ];
         still = λ a s al l. elim (below_next s top l) [
-          | inl h ↦ rw (now-off s h, p-off s h) (walk.still a s al h)
-          | inr e ↦ rw (e, p-at) (λ there. absurd (finished_met a w al there free))
+          | inl h ↦ rw (now_off s h, p_off s h) (walk.still a s al h)
+          | inr e ↦ rw (e, p_at) (λ there. absurd (finished_met a w al there free))
         ];
         back = walk.back;
       },
@@ -122,17 +122,17 @@ module _ (m : ℕ) (sources targets path mark cursor order : List ℕ) (top coun
   -- one edge was looked at
   module _ (last before : List ℕ) (threads : AreThreaded sources last before) (v x : ℕ) (vm : v < m) (here : get_or cursor v 0 ≡ suc x)
       (seen : get_or mark (get_or targets x 0) 0 ≢ 0) where
-    x-in : (x < length sources) × (get_or sources x 0 ≡ v)
-    x-in =
+    x_in : (x < length sources) × (get_or sources x 0 ≡ v)
+    x_in =
         let at = walk.at_cursor v (omega arith) in
         let back : get_or cursor v 0 - 1 ≡ x = omega arith in
         (omega (arith, at.0), rw back at at.1)
 
-    c-at : get_or (set cursor v (get_or before x 0)) v 0 ≡ get_or before x 0
-    c-at = get_or-set_same cursor v (get_or before x 0) 0 (omega (arith, walk.cursor_all))
+    c_at : get_or (set cursor v (get_or before x 0)) v 0 ≡ get_or before x 0
+    c_at = get_or-set_same cursor v (get_or before x 0) 0 (omega (arith, walk.cursor_all))
 
-    c-off : (u : ℕ) → u ≢ v → get_or (set cursor v (get_or before x 0)) u 0 ≡ get_or cursor u 0
-    c-off u ne = get_or-set_other cursor v u (get_or before x 0) 0 ne
+    c_off : (u : ℕ) → u ≢ v → get_or (set cursor v (get_or before x 0)) u 0 ≡ get_or cursor u 0
+    c_off u ne = get_or-set_other cursor v u (get_or before x 0) 0 ne
 
     pub walk_look : IsWalk m sources targets path mark (set cursor v (get_or before x 0)) order top count since
     walk_look = record {
@@ -145,19 +145,19 @@ module _ (m : ℕ) (sources targets path mark cursor order : List ℕ) (top coun
       order_in = λ a l.
           let was = walk.order_in a l in
           let ne : get_or order a 0 ≢ v = λ e. (let closed : get_or cursor v 0 ≡ 0 = rw e at was.2 in omega arith) in
-          (was.0, was.1, c-off (get_or order a 0) ne ∙ was.2);
+          (was.0, was.1, c_off (get_or order a 0) ne ∙ was.2);
       met = walk.met;
       at_cursor = λ u. elim (eqb_tells u v) [
-        | inl e ↦ rw (e.1, c-at) (λ some. (omega (arith, threads.falls x x-in.0, x-in.0), threads.at_before x x-in.0 some ∙ x-in.1))
-        | inr e ↦ rw (c-off u e.1) (walk.at_cursor u)
+        | inl e ↦ rw (e.1, c_at) (λ some. (omega (arith, threads.falls x x_in.0, x_in.0), threads.at_before x x_in.0 some ∙ x_in.1))
+        | inr e ↦ rw (c_off u e.1) (walk.at_cursor u)
       ];
       looked = λ y l. elim (eqb_tells (get_or sources y 0) v) [
-        | inr e ↦ rw (c-off (get_or sources y 0) e.1) (walk.looked y l)
-        | inl e ↦ rw (e.1, c-at) (λ le. elim (eqb_tells y x) [
+        | inr e ↦ rw (c_off (get_or sources y 0) e.1) (walk.looked y l)
+        | inl e ↦ rw (e.1, c_at) (λ le. elim (eqb_tells y x) [
           | inl z ↦ rw z.1 seen
           | inr z ↦
               elim (cases_lt y x) [
-                | inl low ↦ let between = threads.none_between x y x-in.0 low (e.1 ∙ sym x-in.1) in absurd (omega arith)
+                | inl low ↦ let between = threads.none_between x y x_in.0 low (e.1 ∙ sym x_in.1) in absurd (omega arith)
                 | inr high ↦ let past : get_or cursor (get_or sources y 0) 0 ≤ y = rw e.1 (omega (arith, z.1)) in walk.looked y l past
               ]
         ])
@@ -170,21 +170,21 @@ module _ (m : ℕ) (sources targets path mark cursor order : List ℕ) (top coun
     }
 
     pub look_less : total m (set cursor v (get_or before x 0)) + 1 ≤ total m cursor
-    look_less = omega (arith, total_set m cursor v (get_or before x 0) vm walk.cursor_all, threads.falls x x-in.0)
+    look_less = omega (arith, total_set m cursor v (get_or before x 0) vm walk.cursor_all, threads.falls x x_in.0)
 
   -- the vertex at the end of the path is finished
   module _ (some : 0 < top) (v : ℕ) (v_is : get_or path (top - 1) 0 ≡ v) (over : get_or cursor v 0 ≡ 0) where
-    last-in : top - 1 < top
-    last-in = omega arith
+    last_in_holds : top - 1 < top
+    last_in_holds = omega arith
 
     pub finish_room : count < m
     finish_room = omega (arith, walk.room)
 
-    o-at : get_or (set order count v) count 0 ≡ v
-    o-at = get_or-set_same order count v 0 (omega (arith, walk.order_all, finish_room))
+    o_at : get_or (set order count v) count 0 ≡ v
+    o_at = get_or-set_same order count v 0 (omega (arith, walk.order_all, finish_room))
 
-    o-off : (a : ℕ) → a < count → get_or (set order count v) a 0 ≡ get_or order a 0
-    o-off a l = let ne : a ≢ count = omega arith in get_or-set_other order count a v 0 ne
+    o_off : (a : ℕ) → a < count → get_or (set order count v) a 0 ≡ get_or order a 0
+    o_off a l = let ne : a ≢ count = omega arith in get_or-set_other order count a v 0 ne
 
     pub walk_finish : IsWalk m sources targets path mark cursor (set order count v) (top - 1) (count + 1) since
     walk_finish = record {
@@ -195,39 +195,39 @@ module _ (m : ℕ) (sources targets path mark cursor order : List ℕ) (top coun
       room = omega (arith, walk.room);
       path_in = λ s l. walk.path_in s (omega arith);
       order_in = λ a l. elim (below_next a count l) [
-        | inl h ↦ rw (o-off a h) (walk.order_in a h)
-        | inr e ↦ let was = rw v_is at (walk.path_in (top - 1) last-in) in rw (e, o-at) (was.0, was.1, over)
+        | inl h ↦ rw (o_off a h) (walk.order_in a h)
+        | inr e ↦ let was = rw v_is at (walk.path_in (top - 1) last_in_holds) in rw (e, o_at) (was.0, was.1, over)
       ];
       met = λ u marked. elim (walk.met u marked) [
         | inl h ↦ elim (eqb_tells h.0 (top - 1)) [
-          | inl e ↦ inr (count, omega arith, o-at ∙ sym v_is ∙ ap (λ (z : ℕ). get_or path z 0) (sym e.1) ∙ h.2)
+          | inl e ↦ inr (count, omega arith, o_at ∙ sym v_is ∙ ap (λ (z : ℕ). get_or path z 0) (sym e.1) ∙ h.2)
           | inr e ↦ inl (h.0, omega (arith, h.1, e.1), h.2)
         ]
-        | inr h ↦ inr (h.0, omega (arith, h.1), o-off h.0 h.1 ∙ h.2)
+        | inr h ↦ inr (h.0, omega (arith, h.1), o_off h.0 h.1 ∙ h.2)
       ];
       at_cursor = walk.at_cursor;
       looked = walk.looked;
       since_in = λ s l. omega (arith, walk.since_in s (omega arith));
       reach = λ s t le l. walk.reach s t le (omega arith);
       below = λ s a l le al. elim (below_next a count al) [
-        | inl h ↦ rw (o-off a h) (walk.below s a (omega arith) le h)
-        | inr e ↦ rw (e, o-at, ← v_is) (walk.reach s (top - 1) (omega arith) last-in)
+        | inl h ↦ rw (o_off a h) (walk.below s a (omega arith) le h)
+        | inr e ↦ rw (e, o_at, ← v_is) (walk.reach s (top - 1) (omega arith) last_in_holds)
       ];
       still = λ a s al l. elim (below_next a count al) [
-        | inl h ↦ rw (o-off a h) (walk.still a s h (omega arith))
+        | inl h ↦ rw (o_off a h) (walk.still a s h (omega arith))
         | inr e ↦ λ there. omega (arith, walk.since_in s (omega arith), e)
       ];
       back = λ a b c ab bl. elim (below_next b count bl) [
-        | inl h ↦ rw (o-off b h, o-off a (omega arith)) (λ there ac cb. rw (o-off c (omega arith)) (walk.back a b c ab h there ac cb))
-        | inr e ↦ rw (e, o-at) (λ there ac cb.
+        | inl h ↦ rw (o_off b h, o_off a (omega arith)) (λ there ac cb. rw (o_off c (omega arith)) (walk.back a b c ab h there ac cb))
+        | inr e ↦ rw (e, o_at) (λ there ac cb.
             let al : a < count = omega arith in
-            let edge' : Edge sources targets (get_or order a 0) (get_or path (top - 1) 0) = rw v_is (rw (o-off a al) at there) in
-            let early : since (top - 1) ≤ a = walk.still a (top - 1) al last-in edge' in
+            let edge' : Edge sources targets (get_or order a 0) (get_or path (top - 1) 0) = rw v_is (rw (o_off a al) at there) in
+            let early : since (top - 1) ≤ a = walk.still a (top - 1) al last_in_holds edge' in
             elim (eqb_tells c count) [
-              | inl z ↦ rw (z.1, o-at) Leads.none
+              | inl z ↦ rw (z.1, o_at) Leads.none
               | inr z ↦
                   let cl : c < count = omega (arith, z.1) in
-                  rw (o-off c cl, ← v_is) (walk.below (top - 1) c last-in (omega arith) cl)
+                  rw (o_off c cl, ← v_is) (walk.below (top - 1) c last_in_holds (omega arith) cl)
             ])
       ];
     }

@@ -124,50 +124,50 @@ module _ (g : Signature) (done : ℕ) (starts : List ℕ) (flat : List (ℕ × �
     count' : length starts' ≡ done + 1 + 1
     count' = omega (arith, ap length starts_are, length-append starts (length flat' ∷ []), to.count)
 
-    old-start : (i : ℕ) → i < length starts → get_or starts' i 0 ≡ get_or starts i 0
-    old-start i l = rw starts_are (get_or-append starts (length flat' ∷ []) 0 i l)
+    old_start : (i : ℕ) → i < length starts → get_or starts' i 0 ≡ get_or starts i 0
+    old_start i l = rw starts_are (get_or-append starts (length flat' ∷ []) 0 i l)
 
-    new-start : (i : ℕ) → i ≡ length starts → get_or starts' i 0 ≡ length flat'
-    new-start i e = rw (e, starts_are) (get_or-append_seam starts (length flat') [] 0)
+    new_start : (i : ℕ) → i ≡ length starts → get_or starts' i 0 ≡ length flat'
+    new_start i e = rw (e, starts_are) (get_or-append_seam starts (length flat') [] 0)
 
-    old-row : (i : ℕ) → i < done → row_at starts' flat' i ≡ row_at starts flat i
-    old-row i l =
-        let here = old-start i (omega (arith, to.count)) in
-        let next = old-start (i + 1) (omega (arith, to.count)) in
+    old_row : (i : ℕ) → i < done → row_at starts' flat' i ≡ row_at starts flat i
+    old_row i l =
+        let here = old_start i (omega (arith, to.count)) in
+        let next = old_start (i + 1) (omega (arith, to.count)) in
         let below : get_or starts i 0 ≤ length flat = to.cut.within i (omega (arith, to.count)) in
         let above : get_or starts (i + 1) 0 ≤ length flat = to.cut.within (i + 1) (omega (arith, to.count)) in
         rw (here, next, flat_is, drop-append-le (get_or starts i 0) flat row below)
         (take-append-le (get_or starts (i + 1) 0 - get_or starts i 0) (drop (get_or starts i 0) flat) row (omega (arith, length-drop (get_or starts i 0) flat)))
 
-    new-row : row_at starts' flat' done ≡ row
-    new-row =
-        let here = old-start done (omega (arith, to.count)) ∙ built_last in
-        let next = new-start (done + 1) (omega (arith, to.count)) in
+    new_row : row_at starts' flat' done ≡ row
+    new_row =
+        let here = old_start done (omega (arith, to.count)) ∙ built_last in
+        let next = new_start (done + 1) (omega (arith, to.count)) in
         let size : length flat' - length flat ≡ length row = omega (arith, longer) in
         rw (here, next, size, flat_is, drop-append_seam flat row) (take-length row)
 
     cut' : IsCut starts' flat'
     cut' = record {
       some = omega (arith, count');
-      first = old-start 0 (omega (arith, to.count)) ∙ to.cut.first;
-      last = new-start (length starts' - 1) (omega (arith, count', to.count));
+      first = old_start 0 (omega (arith, to.count)) ∙ to.cut.first;
+      last = new_start (length starts' - 1) (omega (arith, count', to.count));
       ordered = λ i l. elim (eqb_tells (i + 1) (length starts)) [
         | inl e ↦
-            let here : get_or starts' i 0 ≡ get_or starts i 0 = old-start i (omega (arith, e.1)) in
-            let next : get_or starts' (i + 1) 0 ≡ length flat' = new-start (i + 1) e.1 in
+            let here : get_or starts' i 0 ≡ get_or starts i 0 = old_start i (omega (arith, e.1)) in
+            let next : get_or starts' (i + 1) 0 ≡ length flat' = new_start (i + 1) e.1 in
             let under : get_or starts i 0 ≤ length flat = to.cut.within i (omega (arith, e.1)) in
             omega (arith, longer)
         | inr e ↦
             let small : i + 1 < length starts = omega (arith, e.1, count', to.count) in
-            let here : get_or starts' i 0 ≡ get_or starts i 0 = old-start i (omega arith) in
-            let next : get_or starts' (i + 1) 0 ≡ get_or starts (i + 1) 0 = old-start (i + 1) small in
+            let here : get_or starts' i 0 ≡ get_or starts i 0 = old_start i (omega arith) in
+            let next : get_or starts' (i + 1) 0 ≡ get_or starts (i + 1) 0 = old_start (i + 1) small in
             omega (arith, to.cut.ordered i small)
       ];
       within = λ i l. elim (eqb_tells i (length starts)) [
-        | inl e ↦ let here : get_or starts' i 0 ≡ length flat' = new-start i e.1 in omega arith
+        | inl e ↦ let here : get_or starts' i 0 ≡ length flat' = new_start i e.1 in omega arith
         | inr e ↦
             let small : i < length starts = omega (arith, e.1, count', to.count) in
-            let here : get_or starts' i 0 ≡ get_or starts i 0 = old-start i small in
+            let here : get_or starts' i 0 ≡ get_or starts i 0 = old_start i small in
             omega (arith, longer, to.cut.within i small)
       ];
     }
@@ -177,8 +177,8 @@ module _ (g : Signature) (done : ℕ) (starts : List ℕ) (flat : List (ℕ × �
       cut = cut';
       count = count';
       rows = λ i l. elim (eqb_tells i done) [
-        | inl e ↦ rw e.1 (row_is ∙ sym new-row)
-        | inr e ↦ to.rows i (omega (arith, e.1)) ∙ sym (old-row i (omega (arith, e.1)))
+        | inl e ↦ rw e.1 (row_is ∙ sym new_row)
+        | inr e ↦ to.rows i (omega (arith, e.1)) ∙ sym (old_row i (omega (arith, e.1)))
       ];
       right = λ i l. elim (eqb_tells i done) [
         | inl e ↦ rw (e.1, row_is) row_right

@@ -35,18 +35,18 @@ module _ (u : ℕ) (s : List ℕ) (f : List (ℕ × ℕ)) (cut : IsCut s f) (i :
         let upper : get_or s (i + 1) 0 ≤ length f = cut.within (i + 1) l in
         omega (arith, row_len_signature)
 
-    entry-here : get_or (get_or (signature u s f).rows i []) k (0, 0) ≡ get_or f (get_or s i 0 + k) (0, 0)
-    entry-here =
+    entry_here : get_or (get_or (signature u s f).rows i []) k (0, 0) ≡ get_or f (get_or s i 0 + k) (0, 0)
+    entry_here =
         let inside : k < get_or s (i + 1) 0 - get_or s i 0 = omega (arith, row_len_signature) in
         rw (rows_signature u s f i l) (get_or-take (get_or s (i + 1) 0 - get_or s i 0) (drop (get_or s i 0) f) k (0, 0) inside ∙ get_or-drop (get_or s i 0) f k (0, 0))
 
     pub unknown_at_signature : unknown_at (signature u s f) i k ≡ (get_or f (get_or s i 0 + k) (0, 0)).0
     unfolding unknown_at
-    unknown_at_signature = ap (λ (e : ℕ × ℕ). e.0) entry-here
+    unknown_at_signature = ap (λ (e : ℕ × ℕ). e.0) entry_here
 
     pub order_at_signature : order_at (signature u s f) i k ≡ (get_or f (get_or s i 0 + k) (0, 0)).1
     unfolding order_at
-    order_at_signature = ap (λ (e : ℕ × ℕ). e.1) entry-here
+    order_at_signature = ap (λ (e : ℕ × ℕ). e.1) entry_here
 
 sum_steps : (s : List ℕ) (n : ℕ) → n < length s → ((i : ℕ) → i + 1 < length s → get_or s i 0 ≤ get_or s (i + 1) 0)
     → (sum_below (λ i. get_or s (i + 1) 0 - get_or s i 0) n + get_or s 0 0 ≡ get_or s n 0)
@@ -93,35 +93,35 @@ module _ (u : ℕ) (s : List ℕ) (f : List (ℕ × ℕ)) (g : Signature) (view 
     pub row_start : row - 1 < length s
     row_start = omega (arith, table_equations)
 
-    after-row : row - 1 + 1 ≡ row
-    after-row = omega arith
+    after_row : row - 1 + 1 ≡ row
+    after_row = omega arith
 
-    below-row : row - 1 + 1 < length s
-    below-row = omega (arith, table_equations)
+    below_row : row - 1 + 1 < length s
+    below_row = omega (arith, table_equations)
 
     pub row_ordered : get_or s (row - 1) 0 ≤ get_or s row 0
-    row_ordered = rw after-row at (flat.cut.ordered (row - 1) below-row)
+    row_ordered = rw after_row at (flat.cut.ordered (row - 1) below_row)
 
     pub table_row_len : get_or s row 0 - get_or s (row - 1) 0 ≡ row_len g (row - 1)
     table_row_len =
-        let e : row_len (signature u s f) (row - 1) ≡ get_or s (row - 1 + 1) 0 - get_or s (row - 1) 0 = row_len_signature u s f flat.cut (row - 1) below-row in
-        rw (← view) (rw after-row at (sym e))
+        let e : row_len (signature u s f) (row - 1) ≡ get_or s (row - 1 + 1) 0 - get_or s (row - 1) 0 = row_len_signature u s f flat.cut (row - 1) below_row in
+        rw (← view) (rw after_row at (sym e))
 
     module _ (k : ℕ) (k_in : k < row_len g (row - 1)) where
-      k-row : k < row_len (signature u s f) (row - 1)
-      k-row = rw view k_in
+      k_row : k < row_len (signature u s f) (row - 1)
+      k_row = rw view k_in
 
       pub table_place : get_or s (row - 1) 0 + k < length f
-      table_place = entry_place u s f flat.cut (row - 1) below-row k k-row
+      table_place = entry_place u s f flat.cut (row - 1) below_row k k_row
 
       pub table_unknown : (get_or f (get_or s (row - 1) 0 + k) (0, 0)).0 ≡ unknown_at g (row - 1) k
-      table_unknown = rw (← view) (sym (unknown_at_signature u s f flat.cut (row - 1) below-row k k-row))
+      table_unknown = rw (← view) (sym (unknown_at_signature u s f flat.cut (row - 1) below_row k k_row))
 
       pub table_known : (0 < (get_or f (get_or s (row - 1) 0 + k) (0, 0)).0) × ((get_or f (get_or s (row - 1) 0 + k) (0, 0)).0 ≤ g.unknowns)
       table_known = rw table_unknown (table_sound.known (row - 1) k (omega arith) k_in)
 
       pub table_order : (get_or f (get_or s (row - 1) 0 + k) (0, 0)).1 ≡ order_at g (row - 1) k
-      table_order = rw (← view) (sym (order_at_signature u s f flat.cut (row - 1) below-row k k-row))
+      table_order = rw (← view) (sym (order_at_signature u s f flat.cut (row - 1) below_row k k_row))
 
       pub table_small : length f ≤ 1000000
       table_small = let few : entries g ≤ 1000000 = table_sound.few_entries in omega (arith, table_entries)

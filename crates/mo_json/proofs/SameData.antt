@@ -32,44 +32,44 @@ module _ (r s : Report) (say : SaySame r s) where
   same_singular x y e = let are = deficit_is x y e in rw (say.unknowns, say.equations, say.name, are.0, are.1) refl
 
   module _ (x y : Offsets) (e : offset_lists (Some x) ≡ offset_lists (Some y)) where
-    equation-as : (i : ℕ) → equation_data r.unknowns r.orders.items x i ≡ equation_data s.unknowns s.orders.items y i
-    equation-as i = let are = offsets_are x y e in rw (say.unknowns, say.orders, are.0, are.2) refl
+    equation_as : (i : ℕ) → equation_data r.unknowns r.orders.items x i ≡ equation_data s.unknowns s.orders.items y i
+    equation_as i = let are = offsets_are x y e in rw (say.unknowns, say.orders, are.0, are.2) refl
 
-    unknown-as : (j : ℕ) → unknown_data r.unknowns x j ≡ unknown_data s.unknowns y j
-    unknown-as j = let are = offsets_are x y e in rw (say.unknowns, are.1) refl
+    unknown_as : (j : ℕ) → unknown_data r.unknowns x j ≡ unknown_data s.unknowns y j
+    unknown_as j = let are = offsets_are x y e in rw (say.unknowns, are.1) refl
 
-    same-equations : equations_data r x ≡ equations_data s y
-    same-equations = ap listed
-        (below_as (equation_data r.unknowns r.orders.items x) (equation_data s.unknowns s.orders.items y) equation-as r.equations
+    same_equations : equations_data r x ≡ equations_data s y
+    same_equations = ap listed
+        (below_as (equation_data r.unknowns r.orders.items x) (equation_data s.unknowns s.orders.items y) equation_as r.equations
         ∙ ap (data_below (equation_data s.unknowns s.orders.items y)) say.equations)
 
-    same-unknowns : unknowns_data r x ≡ unknowns_data s y
-    same-unknowns = ap listed
-        (below_as (unknown_data r.unknowns x) (unknown_data s.unknowns y) unknown-as (length r.unknowns)
+    same_unknowns : unknowns_data r x ≡ unknowns_data s y
+    same_unknowns = ap listed
+        (below_as (unknown_data r.unknowns x) (unknown_data s.unknowns y) unknown_as (length r.unknowns)
         ∙ ap (λ (names : List (List ℕ)). data_below (unknown_data s.unknowns y) (length names)) say.unknowns)
 
-    same-undetermined : undetermined_data r x ≡ undetermined_data s y
-    same-undetermined = rw (same-equations, same-unknowns, say.equations, say.name, say.unknowns, say.loose) refl
+    same_undetermined : undetermined_data r x ≡ undetermined_data s y
+    same_undetermined = rw (same_equations, same_unknowns, say.equations, say.name, say.unknowns, say.loose) refl
 
-    same-blocks : listed (map (λ block. numbers_data block.items) r.blocks.0.items) ≡ listed (map (λ block. numbers_data block.items) s.blocks.0.items)
-    same-blocks = ap listed (blocks_data r.blocks.0.items ∙ (ap (map numbers_data) say.blocks ∙ sym (blocks_data s.blocks.0.items)))
+    same_blocks : listed (map (λ block. numbers_data block.items) r.blocks.0.items) ≡ listed (map (λ block. numbers_data block.items) s.blocks.0.items)
+    same_blocks = ap listed (blocks_data r.blocks.0.items ∙ (ap (map numbers_data) say.blocks ∙ sym (blocks_data s.blocks.0.items)))
 
-    same-square : square_data r x ≡ square_data s y
-    same-square = rw (same-blocks, same-equations, same-unknowns, say.equations, say.name, say.unknowns, say.dummies, say.states, say.reasons, say.index, say.freedom) refl
+    same_square : square_data r x ≡ square_data s y
+    same_square = rw (same_blocks, same_equations, same_unknowns, say.equations, say.name, say.unknowns, say.dummies, say.states, say.reasons, say.index, say.freedom) refl
 
-    same-some : found_data r (Some x) ≡ found_data s (Some y)
-    same-some =
-        either (nat_lt r.equations (length r.unknowns)) (undetermined_data r x) (undetermined_data s y) (square_data r x) (square_data s y) same-undetermined same-square
-        ∙ ap (λ (b : Bool). if b then undetermined_data s y else square_data s y) same-test
+    same_some : found_data r (Some x) ≡ found_data s (Some y)
+    same_some =
+        either (nat_lt r.equations (length r.unknowns)) (undetermined_data r x) (undetermined_data s y) (square_data r x) (square_data s y) same_undetermined same_square
+        ∙ ap (λ (b : Bool). if b then undetermined_data s y else square_data s y) same_test
       where
-        same-test : nat_lt r.equations (length r.unknowns) ≡ nat_lt s.equations (length s.unknowns)
-        same-test = rw (say.equations, say.unknowns) refl
+        same_test : nat_lt r.equations (length r.unknowns) ≡ nat_lt s.equations (length s.unknowns)
+        same_test = rw (say.equations, say.unknowns) refl
 
   same_found : (x y : Option Offsets) → offset_lists x ≡ offset_lists y → found_data r x ≡ found_data s y
   same_found None None e = refl
   same_found None (Some y) e = absurd (none_offsets y e)
   same_found (Some x) None e = absurd (offsets_none x e)
-  same_found (Some x) (Some y) e = same-some x y e
+  same_found (Some x) (Some y) e = same_some x y e
 
   same_parts : (x y : Option Deficit) → deficit_lists x ≡ deficit_lists y → part_data r x ≡ part_data s y
   same_parts None None e = same_found r.offsets s.offsets say.offsets

@@ -97,20 +97,20 @@ numbers_ascend f (suc n) k l = elim (eqb_tells (f n) 0) [
 ]
 
 pub contains_at : (xs : List ℕ) (x : ℕ) → Contains xs x → (k : ℕ) × (k < length xs) × (get_or xs k 0 ≡ x)
-contains_at xs x (k, l, e) = (k, l, at-default xs k x 0 l ∙ e)
+contains_at xs x (k, l, e) = (k, l, at_default xs k x 0 l ∙ e)
   where
-    at-default : (ys : List ℕ) (i d e : ℕ) → i < length ys → get_or ys i e ≡ get_or ys i d
-    at-default [] i d e l = absurd (omega arith)
-    at-default (y ∷ ys) zero d e l = refl
-    at-default (y ∷ ys) (suc i) d e l = at-default ys i d e (omega arith)
+    at_default : (ys : List ℕ) (i d e : ℕ) → i < length ys → get_or ys i e ≡ get_or ys i d
+    at_default [] i d e l = absurd (omega arith)
+    at_default (y ∷ ys) zero d e l = refl
+    at_default (y ∷ ys) (suc i) d e l = at_default ys i d e (omega arith)
 
 pub at_contains : (xs : List ℕ) (x k : ℕ) → k < length xs → get_or xs k 0 ≡ x → Contains xs x
-at_contains xs x k l e = (k, l, at-default xs k 0 x l ∙ e)
+at_contains xs x k l e = (k, l, at_default xs k 0 x l ∙ e)
   where
-    at-default : (ys : List ℕ) (i d e : ℕ) → i < length ys → get_or ys i e ≡ get_or ys i d
-    at-default [] i d e l = absurd (omega arith)
-    at-default (y ∷ ys) zero d e l = refl
-    at-default (y ∷ ys) (suc i) d e l = at-default ys i d e (omega arith)
+    at_default : (ys : List ℕ) (i d e : ℕ) → i < length ys → get_or ys i e ≡ get_or ys i d
+    at_default [] i d e l = absurd (omega arith)
+    at_default (y ∷ ys) zero d e l = refl
+    at_default (y ∷ ys) (suc i) d e l = at_default ys i d e (omega arith)
 
 -- the list has exactly the numbers of which P holds
 pub lists_where : {P : ℕ → Type 0} (f : ℕ → ℕ) (n : ℕ) → ((x : ℕ) → x < n → f x ≢ 0 → P (suc x)) → ((x : ℕ) → x < n → P (suc x) → f x ≢ 0)

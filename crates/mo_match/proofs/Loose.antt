@@ -129,13 +129,13 @@ module _ (g : Signature) (p owner reached order : List ℕ) (t : ℕ) (match : I
   left_by_some s l = let found = avoided (suc s) s (omega arith) l in (found.0, found.1.is, found.1.covers, found.1.out)
 
   module _ (sound : IsSound g) (free : AreFreeMarked g owner reached (suc g.unknowns)) (closed : IsSpreadTo g p reached order t) where
-    mentions-known : (i j : ℕ) → i < equations g → Mentions g i j → (0 < j) × (j ≤ g.unknowns)
+    mentions_known : (i j : ℕ) → i < equations g → Mentions g i j → (0 < j) × (j ≤ g.unknowns)
     unfolding Mentions
-    mentions-known i j l mentions = rw mentions.2 at (sound.known i mentions.0 l mentions.1)
+    mentions_known i j l mentions = rw mentions.2 at (sound.known i mentions.0 l mentions.1)
 
-    pub undetermined-marked : (j : ℕ) → 0 < j → j ≤ g.unknowns → IsUndetermined g j → get_or reached j 0 ≢ 0
-    undetermined-marked j above below loose off =
-        let used = used_by_all (Mentions g) (equations g) g.unknowns p owner (λ x. get_or reached x 0) match mentions-known
+    pub undetermined_marked : (j : ℕ) → 0 < j → j ≤ g.unknowns → IsUndetermined g j → get_or reached j 0 ≢ 0
+    undetermined_marked j above below loose off =
+        let used = used_by_all (Mentions g) (equations g) g.unknowns p owner (λ x. get_or reached x 0) match mentions_known
         (λ i u l mentions some.
         let there = spread.listed u some in
         (closed.inner there.0 there.1).inner i l (subst (λ (x : ℕ). Mentions g i x) (sym there.2) mentions))
@@ -143,7 +143,7 @@ module _ (g : Signature) (p owner reached order : List ℕ) (t : ℕ) (match : I
         loose.0 loose.1 loose.2 j above below off in
         loose.3 used.0 used.1 used.2
 
-    pub marked-undetermined : (j : ℕ) → get_or reached j 0 ≢ 0 → IsUndetermined g j
-    marked-undetermined j some =
+    pub marked_undetermined : (j : ℕ) → get_or reached j 0 ≢ 0 → IsUndetermined g j
+    marked_undetermined j some =
         let there = spread.listed j some in
         subst (λ (x : ℕ). IsUndetermined g x) there.2 (left_by_some there.0 there.1)

@@ -183,30 +183,30 @@ module _ (E : ℕ → ℕ → Type 0) (m n : ℕ) (p0 p owner queue parent mark 
   walk_dead s l = walk_before s (omega (arith, walk.within))
 
   module _ (old : ℕ) (old_is : get_or p (get_or queue place 0) 0 ≡ old) (some : old ≢ 0) where
-    walk-past : base < place
-    walk-past = elim (eqb_tells base place) [
+    walk_past : base < place
+    walk_past = elim (eqb_tells base place) [
       | inl e ↦ absurd (some (sym old_is ∙ walk_here ∙ rw (← e.1) bare))
       | inr e ↦ omega (arith, e.1, walk.within)
     ]
 
-    walk-link : (get_or parent place 0 < place) × E (get_or queue (get_or parent place 0) 0) old
-    walk-link =
+    walk_link : (get_or parent place 0 < place) × E (get_or queue (get_or parent place 0) 0) old
+    walk_link =
         let there = tree.linked place walk.within.1 (rw (← walk_here, old_is) some) in
         (there.0, rw (← walk_here, old_is) at there.1)
 
     pub walk_less : get_or parent place 0 < place
-    walk_less = walk-link.0
+    walk_less = walk_link.0
 
     pub walk_next : IsWalkingBack E m n p0 (set p (get_or queue place 0) u) (set owner u (get_or queue place 0 + 1)) queue base tail (get_or parent place 0) old
     walk_next = record {
-      moving = moving_next E m n p owner queue place u walk.moving (get_or queue place 0) refl walk_in (get_or parent place 0) old old_is some walk-link.1;
-      within = ((tree.rooted place walk-past walk.within.1).1, omega (arith, walk-link.0, walk.within));
-      before = λ s l. walk_before s (omega (arith, walk-link.0));
+      moving = moving_next E m n p owner queue place u walk.moving (get_or queue place 0) refl walk_in (get_or parent place 0) old old_is some walk_link.1;
+      within = ((tree.rooted place walk_past walk.within.1).1, omega (arith, walk_link.0, walk.within));
+      before = λ s l. walk_before s (omega (arith, walk_link.0));
       kept = walk_kept;
     }
 
     pub walk_comes : (place0 free : ℕ) → Comes p0 queue parent tail place0 free (get_or parent place 0) old
-    walk_comes place0 free = inr (place, walk-link.0, walk.within.1, refl, sym old_is ∙ walk_here)
+    walk_comes place0 free = inr (place, walk_link.0, walk.within.1, refl, sym old_is ∙ walk_here)
 
     pub walk_bare : ((x : ℕ) → x ≢ get_or queue base 0 → get_or p0 x 0 ≡ 0 → get_or p x 0 ≡ 0)
         → (x : ℕ) → x ≢ get_or queue base 0 → get_or p0 x 0 ≡ 0 → get_or (set p (get_or queue place 0) u) x 0 ≡ 0

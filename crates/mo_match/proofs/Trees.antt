@@ -49,11 +49,11 @@ module _ (E : ℕ → ℕ → Type 0) (m : ℕ) (p q par mk : List ℕ) (b t : �
   old_mark y ne = get_or-set_other mk x y 1 0 ne
 
   module _ (h : ℕ) (edge : get_or p x 0 ≢ 0 → (h < t) × E (get_or q h 0) (get_or p x 0)) (under : b < t → (get_or p x 0 ≢ 0) × (b ≤ h)) where
-    new-parent : get_or (set par t h) t 0 ≡ h
-    new-parent = let l : t < length par = omega (arith, tree_room, tree.parent_all) in get_or-set_same par t h 0 l
+    new_parent : get_or (set par t h) t 0 ≡ h
+    new_parent = let l : t < length par = omega (arith, tree_room, tree.parent_all) in get_or-set_same par t h 0 l
 
-    old-parent : (s : ℕ) → s < t → get_or (set par t h) s 0 ≡ get_or par s 0
-    old-parent s l = let ne : s ≢ t = omega arith in get_or-set_other par t s h 0 ne
+    old_parent : (s : ℕ) → s < t → get_or (set par t h) s 0 ≡ get_or par s 0
+    old_parent s l = let ne : s ≢ t = omega arith in get_or-set_other par t s h 0 ne
 
     pub tree_push : IsTree E m p (set q t x) (set par t h) (set mk x 1) b (t + 1)
     tree_push = record {
@@ -86,16 +86,16 @@ module _ (E : ℕ → ℕ → Type 0) (m : ℕ) (p q par mk : List ℕ) (b t : �
             (there.0, omega (arith, there.1), old_place there.0 there.1 ∙ there.2)
       ];
       linked = λ s l. elim (below_next s t l) [
-        | inl k ↦ rw (old_place s k, old-parent s k) (λ some.
+        | inl k ↦ rw (old_place s k, old_parent s k) (λ some.
             let there = tree.linked s k some in
             (there.0, rw (old_place (get_or par s 0) (omega (arith, there.0))) there.1))
-        | inr e ↦ rw (e, new_place, new-parent) (λ some.
+        | inr e ↦ rw (e, new_place, new_parent) (λ some.
             let there = edge some in
             (there.0, rw (old_place h there.0) there.1))
       ];
       rooted = λ s above l. elim (below_next s t l) [
-        | inl k ↦ rw (old_place s k, old-parent s k) (tree.rooted s above k)
-        | inr e ↦ rw (e, new_place, new-parent) (under (omega arith))
+        | inl k ↦ rw (old_place s k, old_parent s k) (tree.rooted s above k)
+        | inr e ↦ rw (e, new_place, new_parent) (under (omega arith))
       ];
     }
 

@@ -33,37 +33,37 @@ module _ (g : Signature) (c d t : ℕ → ℕ) (mk best : List ℕ) (k n : ℕ) 
   }
 
   module _ (kl : k < equations g) (nl : n < row_len g k) (x : ℕ) (xl : x < equations g) (leads : LeadsTo g c d t k n x) (only : (i : ℕ) → i < equations g → LeadsTo g c d t k n i → i ≡ x) where
-    b-at : get_or (set best x (k + 1)) x 0 ≡ k + 1
-    b-at = let l : x < length best = omega (arith, xl, to.best_all) in get_or-set_same best x (k + 1) 0 l
+    b_at : get_or (set best x (k + 1)) x 0 ≡ k + 1
+    b_at = let l : x < length best = omega (arith, xl, to.best_all) in get_or-set_same best x (k + 1) 0 l
 
-    b-off : (i : ℕ) → i ≢ x → get_or (set best x (k + 1)) i 0 ≡ get_or best i 0
-    b-off i ne = get_or-set_other best x i (k + 1) 0 ne
+    b_off : (i : ℕ) → i ≢ x → get_or (set best x (k + 1)) i 0 ≡ get_or best i 0
+    b_off i ne = get_or-set_other best x i (k + 1) 0 ne
 
     back : k + 1 - 1 ≡ k
     back = omega arith
 
-    chosen-take : ((k' : ℕ) → k' < k → IsCandidate g c d t x k' → get_or mk k 0 < get_or mk k' 0) → IsChosenTo g c d t mk (set best x (k + 1)) k (n + 1)
-    chosen-take lower = record {
+    chosen_take : ((k' : ℕ) → k' < k → IsCandidate g c d t x k' → get_or mk k 0 < get_or mk k' 0) → IsChosenTo g c d t mk (set best x (k + 1)) k (n + 1)
+    chosen_take lower = record {
       best_all = length-set best x (k + 1) ∙ to.best_all;
       sound = λ i l. elim (eqb_tells i x) [
-        | inl e ↦ rw (e.1, b-at, back) (λ _. (leads_candidate g c d t k n x kl nl leads, omega arith))
-        | inr e ↦ rw (b-off i e.1) (to.sound i l)
+        | inl e ↦ rw (e.1, b_at, back) (λ _. (leads_candidate g c d t k n x kl nl leads, omega arith))
+        | inr e ↦ rw (b_off i e.1) (to.sound i l)
       ];
       rows = λ i k' l kl'. elim (eqb_tells i x) [
-        | inl e ↦ rw (e.1, b-at, back) (λ cand. (omega arith, inl (lower k' kl' cand)))
-        | inr e ↦ rw (b-off i e.1) (to.rows i k' l kl')
+        | inl e ↦ rw (e.1, b_at, back) (λ cand. (omega arith, inl (lower k' kl' cand)))
+        | inr e ↦ rw (b_off i e.1) (to.rows i k' l kl')
       ];
       here = λ i n' l nl' leads'. elim (eqb_tells i x) [
-        | inl e ↦ rw (e.1, b-at, back) (omega arith, inr (refl, omega arith))
-        | inr e ↦ rw (b-off i e.1) (elim (below_next n' n nl') [
+        | inl e ↦ rw (e.1, b_at, back) (omega arith, inr (refl, omega arith))
+        | inr e ↦ rw (b_off i e.1) (elim (below_next n' n nl') [
           | inl h ↦ to.here i n' l h leads'
           | inr z ↦ absurd (e.1 (only i l (subst (λ (y : ℕ). LeadsTo g c d t k y i) z leads')))
         ])
       ];
     }
 
-    chosen-leave : get_or best x 0 ≢ 0 → get_or mk (get_or best x 0 - 1) 0 ≤ get_or mk k 0 → IsChosenTo g c d t mk best k (n + 1)
-    chosen-leave some low =
+    chosen_leave : get_or best x 0 ≢ 0 → get_or mk (get_or best x 0 - 1) 0 ≤ get_or mk k 0 → IsChosenTo g c d t mk best k (n + 1)
+    chosen_leave some low =
         let better : IsBetter mk (get_or best x 0 - 1) k = elim (eqb_tells (get_or mk (get_or best x 0 - 1) 0) (get_or mk k 0)) [
           | inl e ↦ inr (e.1, (to.sound x xl some).1)
           | inr e ↦ inl (omega (arith, e.1))
@@ -82,10 +82,10 @@ module _ (g : Signature) (c d t : ℕ → ℕ) (mk best : List ℕ) (k n : ℕ) 
 
     pub chosen_next : (best' : List ℕ) → Considers mk best k x best' → IsChosenTo g c d t mk best' k (n + 1)
     chosen_next best' considers = elim (eqb_tells (get_or best x 0) 0) [
-      | inl e ↦ rw (considers.free e.1) (chosen-take (λ k' kl' cand. absurd ((to.rows x k' xl kl' cand).0 e.1)))
+      | inl e ↦ rw (considers.free e.1) (chosen_take (λ k' kl' cand. absurd ((to.rows x k' xl kl' cand).0 e.1)))
       | inr e ↦ elim (leb_tells (get_or mk (get_or best x 0 - 1) 0) (get_or mk k 0)) [
-        | inl h ↦ rw (considers.left e.1 h.1) (chosen-leave e.1 h.1)
-        | inr h ↦ rw (considers.less e.1 h.1) (chosen-take (λ k' kl' cand. elim (to.rows x k' xl kl' cand).1 [
+        | inl h ↦ rw (considers.left e.1 h.1) (chosen_leave e.1 h.1)
+        | inr h ↦ rw (considers.less e.1 h.1) (chosen_take (λ k' kl' cand. elim (to.rows x k' xl kl' cand).1 [
           | inl z ↦ omega (arith, h.1)
           | inr z ↦ omega (arith, h.1, z.0)
         ]))

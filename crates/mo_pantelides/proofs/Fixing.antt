@@ -175,32 +175,32 @@ module _ (g : Signature) (c d left p owner t : List ℕ) (r bare : ℕ) (sound :
       (upto : (y : ℕ) → y < r' → (y < r) ⊎ (y ≡ x))
       (mine : (q : ℕ → ℕ) → IsRival g c d (set t x j) r' q → q x ≡ j)
       (minimum : (q : ℕ → ℕ) → x < r' → IsRival g c d (set t x j) x q → j ≤ q x) where
-    t-here : get_or (set t x j) x 0 ≡ j
-    t-here = let l : x < length t = omega (arith, to.fixed_all) in get_or-set_same t x j 0 l
+    t_here : get_or (set t x j) x 0 ≡ j
+    t_here = let l : x < length t = omega (arith, to.fixed_all) in get_or-set_same t x j 0 l
 
-    t-other : (y : ℕ) → y ≢ x → get_or (set t x j) y 0 ≡ get_or t y 0
-    t-other y ne = get_or-set_other t x y j 0 ne
+    t_other : (y : ℕ) → y ≢ x → get_or (set t x j) y 0 ≡ get_or t y 0
+    t_other y ne = get_or-set_other t x y j 0 ne
 
-    p-off : (y : ℕ) → y ≢ x → get_or (set p x 0) y 0 ≡ get_or p y 0
-    p-off y ne = get_or-set_other p x y 0 0 ne
+    p_off : (y : ℕ) → y ≢ x → get_or (set p x 0) y 0 ≡ get_or p y 0
+    p_off y ne = get_or-set_other p x y 0 0 ne
 
-    before-other : (y : ℕ) → y < r → y ≢ x
-    before-other y l e = to.before y l (rw e none)
+    before_other : (y : ℕ) → y < r → y ≢ x
+    before_other y l e = to.before y l (rw e none)
 
-    used-here : Uses (tight_of g c left) x j
-    used-here = rw j_is at (to.matching.edge x xm (rw j_is some))
+    used_here : Uses (tight_of g c left) x j
+    used_here = rw j_is at (to.matching.edge x xm (rw j_is some))
 
     given : (0 < j) × (j ≤ g.unknowns) × IsTight g (by_place c) (by_number d) x j
-    given = left_tight x j xm used-here
+    given = left_tight x j xm used_here
 
     fresh : (y : ℕ) → y < equations g → get_or t y 0 ≢ j
-    fresh = not_taken x j xm used-here
+    fresh = not_taken x j xm used_here
 
-    rival-back : (s : ℕ) → s ≤ r → (s' : ℕ) → s ≤ s' → (q : ℕ → ℕ) → IsRival g c d (set t x j) s' q → IsRival g c d t s q
-    rival-back s sr s' ss q rival = record {
+    rival_back : (s : ℕ) → s ≤ r → (s' : ℕ) → s ≤ s' → (q : ℕ → ℕ) → IsRival g c d (set t x j) s' q → IsRival g c d t s q
+    rival_back s sr s' ss q rival = record {
       assigns = rival.assigns;
       covers = rival.covers;
-      same = λ y l. rival.same y (omega arith) ∙ t-other y (before-other y (omega arith));
+      same = λ y l. rival.same y (omega arith) ∙ t_other y (before_other y (omega arith));
     }
 
     pub fixed_more : IsFixedTo g c d (set left (j - 1) 4294967295) (set p x 0) (set owner j 0) (set t x j) r' bare
@@ -213,56 +213,56 @@ module _ (g : Signature) (c d left p owner t : List ℕ) (r bare : ℕ) (sound :
           fixed_all = length-set t x j ∙ to.fixed_all;
           matching = matching_taken g c left (set p x 0) (set owner j 0) m3 sound j given.0 free3;
           rest = λ y ym out. elim (eqb_tells y x) [
-            | inl e ↦ rw (e.1, t-here) (λ bad. absurd (some bad))
-            | inr e ↦ rw (t-other y e.1, p-off y e.1) (to.rest y ym out)
+            | inl e ↦ rw (e.1, t_here) (λ bad. absurd (some bad))
+            | inr e ↦ rw (t_other y e.1, p_off y e.1) (to.rest y ym out)
           ];
           done = λ y ym. elim (eqb_tells y x) [
             | inl e ↦ rw e.1 (λ _. bare3)
-            | inr e ↦ rw (t-other y e.1, p-off y e.1) (to.done y ym)
+            | inr e ↦ rw (t_other y e.1, p_off y e.1) (to.done y ym)
           ];
           before = λ y l. elim (upto y l) [
-            | inl h ↦ rw (t-other y (before-other y h)) (to.before y h)
-            | inr e ↦ rw (e, t-here) some
+            | inl h ↦ rw (t_other y (before_other y h)) (to.before y h)
+            | inr e ↦ rw (e, t_here) some
           ];
           closed = λ y ym. elim (eqb_tells y x) [
-            | inl e ↦ rw (e.1, t-here) (λ _. let inside : j - 1 < length left = omega (arith, given, to.left_all) in get_or-set_same left (j - 1) 4294967295 0 inside)
-            | inr e ↦ rw (t-other y e.1) (λ has.
+            | inl e ↦ rw (e.1, t_here) (λ _. let inside : j - 1 < length left = omega (arith, given, to.left_all) in get_or-set_same left (j - 1) 4294967295 0 inside)
+            | inr e ↦ rw (t_other y e.1) (λ has.
                 let ne : get_or t y 0 - 1 ≢ j - 1 = λ same. fresh y ym (omega (arith, same, has, given.0)) in
                 rw (get_or-set_other left (j - 1) (get_or t y 0 - 1) 4294967295 0 ne) (to.closed y ym has))
           ];
           others = λ k above below ne.
-              let last : j ≢ k = λ e. ne x xm (t-here ∙ e) in
+              let last : j ≢ k = λ e. ne x xm (t_here ∙ e) in
               let apart : k - 1 ≢ j - 1 = omega (arith, given.0, last) in
               get_or-set_other left (j - 1) (k - 1) 4294967295 0 apart ∙ to.others k above below (λ y ym e. elim (eqb_tells y x) [
                 | inl z ↦ (let bad : 0 ≡ k = sym none ∙ rw z.1 at e in absurd (omega arith))
-                | inr z ↦ absurd (ne y ym (t-other y z.1 ∙ e))
+                | inr z ↦ absurd (ne y ym (t_other y z.1 ∙ e))
               ]);
           assigns = record {
             allowed = λ y ym. elim (eqb_tells y x) [
-              | inl e ↦ rw (e.1, t-here) (λ _. given.2)
-              | inr e ↦ rw (t-other y e.1) (to.assigns.allowed y ym)
+              | inl e ↦ rw (e.1, t_here) (λ _. given.2)
+              | inr e ↦ rw (t_other y e.1) (to.assigns.allowed y ym)
             ];
             apart = λ y z ym zm. elim (eqb_tells y x) [
               | inl e ↦ elim (eqb_tells z x) [
                 | inl e' ↦ λ _ _. e.1 ∙ sym e'.1
-                | inr e' ↦ rw (e.1, t-here, t-other z e'.1) (λ _ same. absurd (fresh z zm (sym same)))
+                | inr e' ↦ rw (e.1, t_here, t_other z e'.1) (λ _ same. absurd (fresh z zm (sym same)))
               ]
               | inr e ↦ elim (eqb_tells z x) [
-                | inl e' ↦ rw (e'.1, t-here, t-other y e.1) (λ _ same. absurd (fresh y ym same))
-                | inr e' ↦ rw (t-other y e.1, t-other z e'.1) (to.assigns.apart y z ym zm)
+                | inl e' ↦ rw (e'.1, t_here, t_other y e.1) (λ _ same. absurd (fresh y ym same))
+                | inr e' ↦ rw (t_other y e.1, t_other z e'.1) (to.assigns.apart y z ym zm)
               ]
             ];
           };
           forced = λ y ym. elim (eqb_tells y x) [
-            | inl e ↦ rw (e.1, t-here) (λ _ q rival. mine q rival)
-            | inr e ↦ rw (t-other y e.1) (λ has q rival. to.forced y ym has q (rival-back r (omega arith) r' le q rival))
+            | inl e ↦ rw (e.1, t_here) (λ _ q rival. mine q rival)
+            | inr e ↦ rw (t_other y e.1) (λ has q rival. to.forced y ym has q (rival_back r (omega arith) r' le q rival))
           ];
           least = λ y l q rival. elim (upto y l) [
-            | inl h ↦ rw (t-other y (before-other y h)) (to.least y h q (rival-back y (omega arith) y (omega arith) q rival))
+            | inl h ↦ rw (t_other y (before_other y h)) (to.least y h q (rival_back y (omega arith) y (omega arith) q rival))
             | inr e ↦
                 let at = rw e at rival in
                 let l' : x < r' = rw e at l in
-                rw (e, t-here) (minimum q l' at)
+                rw (e, t_here) (minimum q l' at)
           ];
         }
 

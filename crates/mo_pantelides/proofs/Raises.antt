@@ -183,62 +183,62 @@ module _ (E : ℕ → ℕ → Type 0) (m n : ℕ) (p owner q par mk0 c0 d0 : Lis
   }
 
   module _ (mk c d : List ℕ) (t : ℕ) (tl : t < tail) (to : IsRaisedTo m n owner q mk0 c0 d0 mk c d t tail) where
-    here-in : get_or q t 0 < m
-    here-in = tree.in_range t tl
+    here_in : get_or q t 0 < m
+    here_in = tree.in_range t tl
 
-    here-marked : sign (get_or mk (get_or q t 0) 0) ≡ 1
-    here-marked = sign_some (get_or mk (get_or q t 0) 0) (to.marked t (omega arith) tl)
+    here_marked : sign (get_or mk (get_or q t 0) 0) ≡ 1
+    here_marked = sign_some (get_or mk (get_or q t 0) 0) (to.marked t (omega arith) tl)
 
     pub raise_pair : get_or p (get_or q t 0) 0 ≤ n
     raise_pair = elim (eqb_tells (get_or p (get_or q t 0) 0) 0) [
       | inl e ↦ rw e.1 (omega arith)
-      | inr e ↦ (match.owned (get_or q t 0) here-in e.1).0
+      | inr e ↦ (match.owned (get_or q t 0) here_in e.1).0
     ]
 
     pub raise_inside : (get_or q t 0 < length mk) × (get_or q t 0 < length c)
-    raise_inside = (omega (arith, here-in, to.mark_all), omega (arith, here-in, to.c_all))
+    raise_inside = (omega (arith, here_in, to.mark_all), omega (arith, here_in, to.c_all))
 
     pub raise_room_equation : ((i : ℕ) → i < m → get_or c0 i 0 + 1 < 4294967296) → get_or c (get_or q t 0) 0 + 1 < 4294967296
-    raise_room_equation room = omega (arith, room (get_or q t 0) here-in, to.equation (get_or q t 0) here-in, here-marked, sign_low (get_or mk0 (get_or q t 0) 0))
+    raise_room_equation room = omega (arith, room (get_or q t 0) here_in, to.equation (get_or q t 0) here_in, here_marked, sign_low (get_or mk0 (get_or q t 0) 0))
 
     holds : get_or p (get_or q t 0) 0 ≢ 0 → get_or owner (get_or p (get_or q t 0) 0) 0 ≡ suc (get_or q t 0)
-    holds some = (match.owned (get_or q t 0) here-in some).1
+    holds some = (match.owned (get_or q t 0) here_in some).1
 
-    here-reached : get_or p (get_or q t 0) 0 ≢ 0 → reached owner mk (get_or p (get_or q t 0) 0) ≡ 1
-    here-reached some =
+    here_reached : get_or p (get_or q t 0) 0 ≢ 0 → reached owner mk (get_or p (get_or q t 0) 0) ≡ 1
+    here_reached some =
         let back : get_or owner (get_or p (get_or q t 0) 0) 0 - 1 ≡ get_or q t 0 = omega (arith, holds some) in
-        reached_one owner mk (get_or p (get_or q t 0) 0) (omega (arith, holds some)) ∙ ap (λ (x : ℕ). sign (get_or mk x 0)) back ∙ here-marked
+        reached_one owner mk (get_or p (get_or q t 0) 0) (omega (arith, holds some)) ∙ ap (λ (x : ℕ). sign (get_or mk x 0)) back ∙ here_marked
 
     pub raise_room_unknown : ((u : ℕ) → u < n → get_or d0 u 0 + 1 < 4294967296) → get_or p (get_or q t 0) 0 ≢ 0 → get_or d (get_or p (get_or q t 0) 0 - 1) 0 + 1 < 4294967296
     raise_room_unknown room some =
         let j = get_or p (get_or q t 0) 0 in
         let small = room (get_or p (get_or q t 0) 0 - 1) (omega (arith, raise_pair, some)) in
         let kept = to.unknown (get_or p (get_or q t 0) 0) (omega (arith, some)) raise_pair in
-        omega (arith, here-reached some, reached_low owner mk0 (get_or p (get_or q t 0) 0))
+        omega (arith, here_reached some, reached_low owner mk0 (get_or p (get_or q t 0) 0))
 
-    mk-here : get_or (set mk (get_or q t 0) 0) (get_or q t 0) 0 ≡ 0
-    mk-here = get_or-set_same mk (get_or q t 0) 0 0 raise_inside.0
+    mk_here : get_or (set mk (get_or q t 0) 0) (get_or q t 0) 0 ≡ 0
+    mk_here = get_or-set_same mk (get_or q t 0) 0 0 raise_inside.0
 
-    mk-there : (x : ℕ) → x ≢ get_or q t 0 → get_or (set mk (get_or q t 0) 0) x 0 ≡ get_or mk x 0
-    mk-there x ne = get_or-set_other mk (get_or q t 0) x 0 0 ne
+    mk_there : (x : ℕ) → x ≢ get_or q t 0 → get_or (set mk (get_or q t 0) 0) x 0 ≡ get_or mk x 0
+    mk_there x ne = get_or-set_other mk (get_or q t 0) x 0 0 ne
 
-    reached-here : get_or p (get_or q t 0) 0 ≢ 0 → reached owner (set mk (get_or q t 0) 0) (get_or p (get_or q t 0) 0) ≡ 0
-    reached-here some =
+    reached_here : get_or p (get_or q t 0) 0 ≢ 0 → reached owner (set mk (get_or q t 0) 0) (get_or p (get_or q t 0) 0) ≡ 0
+    reached_here some =
         let back : get_or owner (get_or p (get_or q t 0) 0) 0 - 1 ≡ get_or q t 0 = omega (arith, holds some) in
         reached_one owner (set mk (get_or q t 0) 0) (get_or p (get_or q t 0) 0) (omega (arith, holds some))
-        ∙ ap (λ (x : ℕ). sign (get_or (set mk (get_or q t 0) 0) x 0)) back ∙ sign_zero (get_or (set mk (get_or q t 0) 0) (get_or q t 0) 0) mk-here
+        ∙ ap (λ (x : ℕ). sign (get_or (set mk (get_or q t 0) 0) x 0)) back ∙ sign_zero (get_or (set mk (get_or q t 0) 0) (get_or q t 0) 0) mk_here
 
-    reached-none : (mk' : List ℕ) (u : ℕ) → get_or owner u 0 ≡ 0 → reached owner mk' u ≡ 0
-    reached-none mk' u none = grind (arith, nat_tests, none)
+    reached_none : (mk' : List ℕ) (u : ℕ) → get_or owner u 0 ≡ 0 → reached owner mk' u ≡ 0
+    reached_none mk' u none = grind (arith, nat_tests, none)
 
-    reached-there : (u : ℕ) → 0 < u → u ≤ n → u ≢ get_or p (get_or q t 0) 0 → reached owner (set mk (get_or q t 0) 0) u ≡ reached owner mk u
-    reached-there u above un ne = elim (eqb_tells (get_or owner u 0) 0) [
-      | inl e ↦ reached-none (set mk (get_or q t 0) 0) u e.1 ∙ sym (reached-none mk u e.1)
+    reached_there : (u : ℕ) → 0 < u → u ≤ n → u ≢ get_or p (get_or q t 0) 0 → reached owner (set mk (get_or q t 0) 0) u ≡ reached owner mk u
+    reached_there u above un ne = elim (eqb_tells (get_or owner u 0) 0) [
+      | inl e ↦ reached_none (set mk (get_or q t 0) 0) u e.1 ∙ sym (reached_none mk u e.1)
       | inr e ↦
           let x = get_or owner u 0 - 1 in
           let held = match.owns (get_or owner u 0 - 1) u above un (omega (arith, e.1)) in
           let off : get_or owner u 0 - 1 ≢ get_or q t 0 = λ same. ne (sym held.1 ∙ ap (λ (y : ℕ). get_or p y 0) same) in
-          reached_one owner (set mk (get_or q t 0) 0) u e.1 ∙ ap sign (mk-there (get_or owner u 0 - 1) off) ∙ sym (reached_one owner mk u e.1)
+          reached_one owner (set mk (get_or q t 0) 0) u e.1 ∙ ap sign (mk_there (get_or owner u 0 - 1) off) ∙ sym (reached_one owner mk u e.1)
     ]
 
     pub raise_next : (d' : List ℕ) → (get_or p (get_or q t 0) 0 ≢ 0 → d' ≡ set d (get_or p (get_or q t 0) 0 - 1) (get_or d (get_or p (get_or q t 0) 0 - 1) 0 + 1))
@@ -254,11 +254,11 @@ module _ (E : ℕ → ℕ → Type 0) (m n : ℕ) (p owner q par mk0 c0 d0 : Lis
       equation = λ i l. elim (eqb_tells i (get_or q t 0)) [
         | inl e ↦
             let c_is = get_or-set_same c (get_or q t 0) (get_or c (get_or q t 0) 0 + 1) 0 raise_inside.1 in
-            let z = sign_zero (get_or (set mk (get_or q t 0) 0) (get_or q t 0) 0) mk-here in
-            rw (e.1, c_is, z) (let was = to.equation (get_or q t 0) here-in in omega (arith, here-marked))
+            let z = sign_zero (get_or (set mk (get_or q t 0) 0) (get_or q t 0) 0) mk_here in
+            rw (e.1, c_is, z) (let was = to.equation (get_or q t 0) here_in in omega (arith, here_marked))
         | inr e ↦
             let c_is = get_or-set_other c (get_or q t 0) i (get_or c (get_or q t 0) 0 + 1) 0 e.1 in
-            rw (c_is, mk-there i e.1) (to.equation i l)
+            rw (c_is, mk_there i e.1) (to.equation i l)
       ];
       unknown = λ u above un. elim (eqb_tells u (get_or p (get_or q t 0) 0)) [
         | inl e ↦
@@ -267,7 +267,7 @@ module _ (E : ℕ → ℕ → Type 0) (m n : ℕ) (p owner q par mk0 c0 d0 : Lis
             let d_is : get_or d' (get_or p (get_or q t 0) 0 - 1) 0 ≡ get_or d (get_or p (get_or q t 0) 0 - 1) 0 + 1 =
             rw (some_is some) (get_or-set_same d (get_or p (get_or q t 0) 0 - 1) (get_or d (get_or p (get_or q t 0) 0 - 1) 0 + 1) 0 inside) in
             let was = to.unknown (get_or p (get_or q t 0) 0) (omega (arith, some)) raise_pair in
-            rw e.1 (omega (arith, reached-here some, here-reached some))
+            rw e.1 (omega (arith, reached_here some, here_reached some))
         | inr e ↦
             let d_is : get_or d' (u - 1) 0 ≡ get_or d (u - 1) 0 = elim (eqb_tells (get_or p (get_or q t 0) 0) 0) [
               | inl z ↦ rw (none_is z.1) refl
@@ -275,14 +275,14 @@ module _ (E : ℕ → ℕ → Type 0) (m n : ℕ) (p owner q par mk0 c0 d0 : Lis
                   let ne : u - 1 ≢ get_or p (get_or q t 0) 0 - 1 = omega (arith, e.1, z.1) in
                   rw (some_is z.1) (get_or-set_other d (get_or p (get_or q t 0) 0 - 1) (u - 1) (get_or d (get_or p (get_or q t 0) 0 - 1) 0 + 1) 0 ne)
             ] in
-            omega (arith, d_is, reached-there u above un e.1, to.unknown u above un)
+            omega (arith, d_is, reached_there u above un e.1, to.unknown u above un)
       ];
       marked = λ s above sl.
           let ne : get_or q s 0 ≢ get_or q t 0 = λ same. let is : s ≡ t = tree.apart s t sl tl same in omega arith in
-          rw (mk-there (get_or q s 0) ne) (to.marked s (omega arith) sl);
+          rw (mk_there (get_or q s 0) ne) (to.marked s (omega arith) sl);
       listed = λ x has.
-          let ne : x ≢ get_or q t 0 = λ same. has (rw (same, mk-here) refl) in
-          let there = to.listed x (rw (mk-there x ne) at has) in
+          let ne : x ≢ get_or q t 0 = λ same. has (rw (same, mk_here) refl) in
+          let there = to.listed x (rw (mk_there x ne) at has) in
           let off : there.0 ≢ t = λ same. ne (sym there.3 ∙ ap (λ (y : ℕ). get_or q y 0) same) in
           (there.0, omega (arith, off, there.1), there.2, there.3);
     }

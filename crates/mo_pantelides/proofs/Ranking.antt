@@ -57,8 +57,8 @@ module _ (g : Signature) (c d t : ℕ → ℕ) (q mk : List ℕ) (tail : ℕ) (r
   q_off_holds s l = let ne : s ≢ tail = omega arith in get_or-set_other q tail s x 0 ne
 
   module _ (v : ℕ) (some : v ≢ 0) (few : v ≤ tail + 1) (enough : IsWithin g c d t (v - 1) x) (last : (s : ℕ) → s < tail → get_or mk (get_or q s 0) 0 ≤ v) where
-    m-at : get_or (set mk x v) x 0 ≡ v
-    m-at = let l : x < length mk = omega (arith, xm, ranking.mark_all) in get_or-set_same mk x v 0 l
+    m_at : get_or (set mk x v) x 0 ≡ v
+    m_at = let l : x < length mk = omega (arith, xm, ranking.mark_all) in get_or-set_same mk x v 0 l
 
     pub m_off : (y : ℕ) → y ≢ x → get_or (set mk x v) y 0 ≡ get_or mk y 0
     m_off y ne = get_or-set_other mk x y v 0 ne
@@ -67,7 +67,7 @@ module _ (g : Signature) (c d t : ℕ → ℕ) (q mk : List ℕ) (tail : ℕ) (r
     rank_kept y marked = m_off y (λ e. marked (rw e unmarked))
 
     pub rank_here : get_or (set mk x v) x 0 ≡ v
-    rank_here = m-at
+    rank_here = m_at
 
     pub rank_push : IsRanking g c d t (set q tail x) (set mk x v) (tail + 1)
     rank_push = record {
@@ -87,7 +87,7 @@ module _ (g : Signature) (c d t : ℕ → ℕ) (q mk : List ℕ) (tail : ℕ) (r
       ];
       marked = λ s l. elim (below_next s tail l) [
         | inl h ↦ rw (q_off_holds s h, m_off (get_or q s 0) (other s h)) (ranking.marked s h)
-        | inr e ↦ rw (e, q_at_holds, m-at) some
+        | inr e ↦ rw (e, q_at_holds, m_at) some
       ];
       listed = λ i marked. elim (eqb_tells i x) [
         | inl e ↦ (tail, omega arith, rw (e.1, q_at_holds) refl)
@@ -95,19 +95,19 @@ module _ (g : Signature) (c d t : ℕ → ℕ) (q mk : List ℕ) (tail : ℕ) (r
       ];
       within = λ s l. elim (below_next s tail l) [
         | inl h ↦ rw (q_off_holds s h, m_off (get_or q s 0) (other s h)) (ranking.within s h)
-        | inr e ↦ rw (e, q_at_holds, m-at) enough
+        | inr e ↦ rw (e, q_at_holds, m_at) enough
       ];
       low = λ s l. elim (below_next s tail l) [
         | inl h ↦ rw (q_off_holds s h, m_off (get_or q s 0) (other s h)) (ranking.low s h)
-        | inr e ↦ rw (e, q_at_holds, m-at) few
+        | inr e ↦ rw (e, q_at_holds, m_at) few
       ];
       ascending = λ s u su ul. elim (below_next u tail ul) [
         | inl k ↦
             let h : s < tail = omega arith in
             rw (q_off_holds u k, m_off (get_or q u 0) (other u k), q_off_holds s h, m_off (get_or q s 0) (other s h)) (ranking.ascending s u su k)
-        | inr e ↦ rw (e, q_at_holds, m-at) (elim (below_next s tail (omega arith)) [
+        | inr e ↦ rw (e, q_at_holds, m_at) (elim (below_next s tail (omega arith)) [
           | inl h ↦ rw (q_off_holds s h, m_off (get_or q s 0) (other s h)) (last s h)
-          | inr e' ↦ rw (e', q_at_holds, m-at) (omega arith)
+          | inr e' ↦ rw (e', q_at_holds, m_at) (omega arith)
         ])
       ];
     }

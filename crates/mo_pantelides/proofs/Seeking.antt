@@ -80,8 +80,8 @@ module _ (g : Signature) (c d left p owner t q par mk : List ℕ) (root head loo
       ]
     ]
 
-    turn-other : (s : ℕ) → 0 < s → s < head → s ≢ place
-    turn-other s above below e = elim (cases_lt loose tail) [
+    turn_other : (s : ℕ) → 0 < s → s < head → s ≢ place
+    turn_other s above below e = elim (cases_lt loose tail) [
       | inl l ↦ let is = turn.last l in omega (arith, to.order)
       | inr l ↦ elim (cases_lt head tail) [
         | inl h ↦ let is = turn.first l h in omega arith
@@ -89,14 +89,14 @@ module _ (g : Signature) (c d left p owner t q par mk : List ℕ) (root head loo
       ]
     ]
 
-    turn-row : loose ≤ place → suc place ≡ tail
-    turn-row le = elim (cases_lt loose tail) [
+    turn_row : loose ≤ place → suc place ≡ tail
+    turn_row le = elim (cases_lt loose tail) [
       | inl l ↦ turn.last l
       | inr l ↦ absurd (omega (arith, turn_in))
     ]
 
-    turn-root : place ≡ 0 → (tail ≤ loose) × (tail ≤ head)
-    turn-root none = elim (cases_lt loose tail) [
+    turn_root : place ≡ 0 → (tail ≤ loose) × (tail ≤ head)
+    turn_root none = elim (cases_lt loose tail) [
       | inl l ↦ let is = turn.last l in absurd (omega (arith, to.order))
       | inr l ↦ elim (cases_lt head tail) [
         | inl h ↦ let is = turn.first l h in absurd (omega (arith, to.order))
@@ -124,7 +124,7 @@ module _ (g : Signature) (c d left p owner t q par mk : List ℕ) (root head loo
     behind : place ≡ 0 → IsClosedBehind (tight_of g c left) owner mk q tail
     behind none = record {
       searched = λ s above below.
-          let le = turn-root none in
+          let le = turn_root none in
           let whole = to.ended s above (omega (arith, le.1)) in
           let back : get_or mk (get_or q s 0) 0 - 1 ≡ row_len g (get_or q s 0) = omega (arith, whole) in
           rw back at (to.searched s below);
@@ -142,40 +142,40 @@ module _ (g : Signature) (c d left p owner t q par mk : List ℕ) (root head loo
         there.0 (rw entry.2 spare.1.unowned)
 
     module _ (k : ℕ) (mark_is : get_or mk (get_or q place 0) 0 ≡ k + 1) (kl : k < row_len g (get_or q place 0)) where
-      mk-here : get_or (set mk (get_or q place 0) (k + 2)) (get_or q place 0) 0 ≡ k + 2
-      mk-here = let l : get_or q place 0 < length mk = omega (arith, x_in, to.tree.mark_all) in get_or-set_same mk (get_or q place 0) (k + 2) 0 l
+      mk_here : get_or (set mk (get_or q place 0) (k + 2)) (get_or q place 0) 0 ≡ k + 2
+      mk_here = let l : get_or q place 0 < length mk = omega (arith, x_in, to.tree.mark_all) in get_or-set_same mk (get_or q place 0) (k + 2) 0 l
 
-      mk-other : (y : ℕ) → y ≢ get_or q place 0 → get_or (set mk (get_or q place 0) (k + 2)) y 0 ≡ get_or mk y 0
-      mk-other y ne = get_or-set_other mk (get_or q place 0) y (k + 2) 0 ne
+      mk_other : (y : ℕ) → y ≢ get_or q place 0 → get_or (set mk (get_or q place 0) (k + 2)) y 0 ≡ get_or mk y 0
+      mk_other y ne = get_or-set_other mk (get_or q place 0) y (k + 2) 0 ne
 
-      other-place : (s : ℕ) → s < tail → s ≢ place → get_or q s 0 ≢ get_or q place 0
-      other-place s l ne e = ne (to.tree.apart s place l turn_in e)
+      other_place : (s : ℕ) → s < tail → s ≢ place → get_or q s 0 ≢ get_or q place 0
+      other_place s l ne e = ne (to.tree.apart s place l turn_in e)
 
-      mk-kept : (y : ℕ) → get_or mk y 0 ≢ 0 → get_or (set mk (get_or q place 0) (k + 2)) y 0 ≢ 0
-      mk-kept y some = elim (eqb_tells y (get_or q place 0)) [
-        | inl e ↦ rw (e.1, mk-here) (omega arith)
-        | inr e ↦ rw (mk-other y e.1) some
+      mk_kept : (y : ℕ) → get_or mk y 0 ≢ 0 → get_or (set mk (get_or q place 0) (k + 2)) y 0 ≢ 0
+      mk_kept y some = elim (eqb_tells y (get_or q place 0)) [
+        | inl e ↦ rw (e.1, mk_here) (omega arith)
+        | inr e ↦ rw (mk_other y e.1) some
       ]
 
       pub tree_looked : IsTree (Uses (tight_of g c left)) (equations g) p q par (set mk (get_or q place 0) (k + 2)) 0 tail
       tree_looked =
-          tree_remarked _ (length-set mk (get_or q place 0) (k + 2)) mk-kept
+          tree_remarked _ (length-set mk (get_or q place 0) (k + 2)) mk_kept
           (λ y ym some. elim (eqb_tells y (get_or q place 0)) [
             | inl e ↦ rw (e.1, mark_is) (omega arith)
-            | inr e ↦ rw (mk-other y e.1) at some
+            | inr e ↦ rw (mk_other y e.1) at some
           ])
           to.tree
 
-      within-looked : (y : ℕ) → y < equations g → get_or (set mk (get_or q place 0) (k + 2)) y 0 ≤ suc (row_len g y)
-      within-looked y ym = elim (eqb_tells y (get_or q place 0)) [
-        | inl e ↦ rw (e.1, mk-here) (omega (arith, kl))
-        | inr e ↦ rw (mk-other y e.1) (to.within y ym)
+      within_looked : (y : ℕ) → y < equations g → get_or (set mk (get_or q place 0) (k + 2)) y 0 ≤ suc (row_len g y)
+      within_looked y ym = elim (eqb_tells y (get_or q place 0)) [
+        | inl e ↦ rw (e.1, mk_here) (omega (arith, kl))
+        | inr e ↦ rw (mk_other y e.1) (to.within y ym)
       ]
 
-      root-more : get_or mk root 0 ≤ get_or (set mk (get_or q place 0) (k + 2)) root 0
-      root-more = elim (eqb_tells root (get_or q place 0)) [
-        | inl e ↦ rw (e.1, mk-here, mark_is) (omega arith)
-        | inr e ↦ rw (mk-other root e.1) (omega arith)
+      root_more : get_or mk root 0 ≤ get_or (set mk (get_or q place 0) (k + 2)) root 0
+      root_more = elim (eqb_tells root (get_or q place 0)) [
+        | inl e ↦ rw (e.1, mk_here, mark_is) (omega arith)
+        | inr e ↦ rw (mk_other root e.1) (omega arith)
       ]
 
       -- no rival gives the root an unknown below that of the entry
@@ -190,12 +190,12 @@ module _ (g : Signature) (c d left p owner t q par mk : List ℕ) (root head loo
           (rw at at kl) (rival_given g c d left p owner t root root sound open_all to.fixed r rival root rm to.unfixed) in
           rw (while_none_holds (get_or t root 0) (r root) to.unfixed) at le
 
-      low-looked : (r : ℕ → ℕ) → IsRival g c d t root r → (n : ℕ) → n < get_or (set mk (get_or q place 0) (k + 2)) root 0 - 1 → unknown_at g root n ≤ r root
-      low-looked r rival n l = elim (eqb_tells root (get_or q place 0)) [
-        | inr e ↦ to.low r rival n (rw (mk-other root e.1) at l)
+      low_looked : (r : ℕ → ℕ) → IsRival g c d t root r → (n : ℕ) → n < get_or (set mk (get_or q place 0) (k + 2)) root 0 - 1 → unknown_at g root n ≤ r root
+      low_looked r rival n l = elim (eqb_tells root (get_or q place 0)) [
+        | inr e ↦ to.low r rival n (rw (mk_other root e.1) at l)
         | inl e ↦
             let none = at_root (sym e.1) in
-            let upto : n < k + 2 - 1 = rw (e.1, mk-here) at l in
+            let upto : n < k + 2 - 1 = rw (e.1, mk_here) at l in
             let was : get_or mk root 0 ≡ k + 1 = rw (← e.1) at mark_is in
             elim (eqb_tells n k) [
               | inl z ↦ rw z.1 (bound none r rival)
@@ -203,25 +203,25 @@ module _ (g : Signature) (c d left p owner t q par mk : List ℕ) (root head loo
             ]
       ]
 
-      children-looked : (s : ℕ) → 0 < s → s < tail → get_or par s 0 ≡ 0
+      children_looked : (s : ℕ) → 0 < s → s < tail → get_or par s 0 ≡ 0
           → (n : ℕ) × (n < get_or (set mk (get_or q place 0) (k + 2)) root 0 - 1) × (get_or p (get_or q s 0) 0 ≡ unknown_at g root n)
-      children-looked s above below none = let there = to.children s above below none in (there.0, omega (arith, there.1, root-more), there.2)
+      children_looked s above below none = let there = to.children s above below none in (there.0, omega (arith, there.1, root_more), there.2)
 
-      searched-looked : (mk' : List ℕ) → ((y : ℕ) → get_or (set mk (get_or q place 0) (k + 2)) y 0 ≢ 0 → get_or mk' y 0 ≢ 0)
+      searched_looked : (mk' : List ℕ) → ((y : ℕ) → get_or (set mk (get_or q place 0) (k + 2)) y 0 ≢ 0 → get_or mk' y 0 ≢ 0)
           → IsPassed (tight_of g c left) owner mk' (get_or q place 0) k
           → (s : ℕ) → s < tail → IsSearched (tight_of g c left) owner mk' (get_or q s 0) (get_or (set mk (get_or q place 0) (k + 2)) (get_or q s 0) 0 - 1)
-      searched-looked mk' kept passed s l = elim (eqb_tells s place) [
+      searched_looked mk' kept passed s l = elim (eqb_tells s place) [
         | inl e ↦
             let back : get_or mk (get_or q place 0) 0 - 1 ≡ k = omega (arith, mark_is) in
             let done = rw back at (to.searched place turn_in) in
             let next : k + 2 - 1 ≡ k + 1 = omega arith in
-            rw (e.1, mk-here, next) (searched_next mk' done (λ y some. kept y (mk-kept y some)) passed)
-        | inr e ↦ rw (mk-other (get_or q s 0) (other-place s l e.1)) (searched_kept mk' (λ y some. kept y (mk-kept y some)) (to.searched s l))
+            rw (e.1, mk_here, next) (searched_next mk' done (λ y some. kept y (mk_kept y some)) passed)
+        | inr e ↦ rw (mk_other (get_or q s 0) (other_place s l e.1)) (searched_kept mk' (λ y some. kept y (mk_kept y some)) (to.searched s l))
       ]
 
-      ended-looked : (s : ℕ) → 0 < s → s < head → get_or (set mk (get_or q place 0) (k + 2)) (get_or q s 0) 0 ≡ suc (row_len g (get_or q s 0))
-      ended-looked s above below =
-          rw (mk-other (get_or q s 0) (other-place s (omega (arith, below, to.order)) (turn-other s above below))) (to.ended s above below)
+      ended_looked : (s : ℕ) → 0 < s → s < head → get_or (set mk (get_or q place 0) (k + 2)) (get_or q s 0) 0 ≡ suc (row_len g (get_or q s 0))
+      ended_looked s above below =
+          rw (mk_other (get_or q s 0) (other_place s (omega (arith, below, to.order)) (turn_other s above below))) (to.ended s above below)
 
       -- an entry that leads to no other equation, or to one with a mark
       pub seek_passed : (loose' : ℕ) → loose ≤ loose' → loose' ≤ tail → IsPassed (tight_of g c left) owner (set mk (get_or q place 0) (k + 2)) (get_or q place 0) k
@@ -235,110 +235,110 @@ module _ (g : Signature) (c d left p owner t q par mk : List ℕ) (root head loo
         unfixed = to.unfixed;
         spare = to.spare;
         order = (omega (arith, to.order), omega (arith, to.order), omega arith);
-        within = within-looked;
-        ended = ended-looked;
-        searched = searched-looked _ (λ y some. some) passed;
+        within = within_looked;
+        ended = ended_looked;
+        searched = searched_looked _ (λ y some. some) passed;
         row = λ s n above below. elim (eqb_tells s place) [
-          | inl e ↦ rw (e.1, mk-here) (λ l may. elim (eqb_tells n k) [
+          | inl e ↦ rw (e.1, mk_here) (λ l may. elim (eqb_tells n k) [
             | inl z ↦ inl (rw z.1 (strict (omega (arith, e.1, above)) (rw z.1 at may)))
             | inr z ↦ to.row place n (omega (arith, e.1)) turn_in (omega (arith, l, mark_is, z.1)) may
           ])
-          | inr e ↦ rw (mk-other (get_or q s 0) (other-place s below e.1)) (to.row s n (omega arith) below)
+          | inr e ↦ rw (mk_other (get_or q s 0) (other_place s below e.1)) (to.row s n (omega arith) below)
         ];
-        children = children-looked;
-        low = low-looked;
+        children = children_looked;
+        low = low_looked;
       }
 
       -- an entry that leads to an equation without mark
       module _ (y : ℕ) (ym : y < equations g) (unmarked : get_or (set mk (get_or q place 0) (k + 2)) y 0 ≡ 0) (held : get_or p y 0 ≡ unknown_at g (get_or q place 0) k)
           (has : get_or p y 0 ≢ 0) (may : UsesEntry (tight_of g c left) (get_or q place 0) k) (owned : get_or owner (unknown_at g (get_or q place 0) k) 0 ≡ suc y) where
         -- its mark
-        y-here : get_or (set (set mk (get_or q place 0) (k + 2)) y 1) y 0 ≡ 1
-        y-here = let l : y < length (set mk (get_or q place 0) (k + 2)) = omega (arith, ym, tree_looked.mark_all) in get_or-set_same (set mk (get_or q place 0) (k + 2)) y 1 0 l
+        y_here : get_or (set (set mk (get_or q place 0) (k + 2)) y 1) y 0 ≡ 1
+        y_here = let l : y < length (set mk (get_or q place 0) (k + 2)) = omega (arith, ym, tree_looked.mark_all) in get_or-set_same (set mk (get_or q place 0) (k + 2)) y 1 0 l
 
-        y-other : (z : ℕ) → z ≢ y → get_or (set (set mk (get_or q place 0) (k + 2)) y 1) z 0 ≡ get_or (set mk (get_or q place 0) (k + 2)) z 0
-        y-other z ne = get_or-set_other (set mk (get_or q place 0) (k + 2)) y z 1 0 ne
+        y_other : (z : ℕ) → z ≢ y → get_or (set (set mk (get_or q place 0) (k + 2)) y 1) z 0 ≡ get_or (set mk (get_or q place 0) (k + 2)) z 0
+        y_other z ne = get_or-set_other (set mk (get_or q place 0) (k + 2)) y z 1 0 ne
 
-        y-kept : (z : ℕ) → get_or (set mk (get_or q place 0) (k + 2)) z 0 ≢ 0 → get_or (set (set mk (get_or q place 0) (k + 2)) y 1) z 0 ≢ 0
-        y-kept z some = elim (eqb_tells z y) [
-          | inl e ↦ rw (e.1, y-here) (omega arith)
-          | inr e ↦ rw (y-other z e.1) some
+        y_kept : (z : ℕ) → get_or (set mk (get_or q place 0) (k + 2)) z 0 ≢ 0 → get_or (set (set mk (get_or q place 0) (k + 2)) y 1) z 0 ≢ 0
+        y_kept z some = elim (eqb_tells z y) [
+          | inl e ↦ rw (e.1, y_here) (omega arith)
+          | inr e ↦ rw (y_other z e.1) some
         ]
 
         room : tail < equations g
         room = tree_room _ _ _ _ _ _ _ _ tree_looked y ym unmarked
 
-        q-here : get_or (set q tail y) tail 0 ≡ y
-        q-here = let l : tail < length q = omega (arith, room, to.tree.queue_all) in get_or-set_same q tail y 0 l
+        q_here : get_or (set q tail y) tail 0 ≡ y
+        q_here = let l : tail < length q = omega (arith, room, to.tree.queue_all) in get_or-set_same q tail y 0 l
 
-        q-before : (s : ℕ) → s < tail → get_or (set q tail y) s 0 ≡ get_or q s 0
-        q-before s l = let ne : s ≢ tail = omega arith in get_or-set_other q tail s y 0 ne
+        q_before : (s : ℕ) → s < tail → get_or (set q tail y) s 0 ≡ get_or q s 0
+        q_before s l = let ne : s ≢ tail = omega arith in get_or-set_other q tail s y 0 ne
 
-        par-here : get_or (set par tail place) tail 0 ≡ place
-        par-here = let l : tail < length par = omega (arith, room, to.tree.parent_all) in get_or-set_same par tail place 0 l
+        par_here : get_or (set par tail place) tail 0 ≡ place
+        par_here = let l : tail < length par = omega (arith, room, to.tree.parent_all) in get_or-set_same par tail place 0 l
 
-        par-before : (s : ℕ) → s < tail → get_or (set par tail place) s 0 ≡ get_or par s 0
-        par-before s l = let ne : s ≢ tail = omega arith in get_or-set_other par tail s place 0 ne
+        par_before : (s : ℕ) → s < tail → get_or (set par tail place) s 0 ≡ get_or par s 0
+        par_before s l = let ne : s ≢ tail = omega arith in get_or-set_other par tail s place 0 ne
 
-        y-apart : (s : ℕ) → s < tail → get_or q s 0 ≢ y
-        y-apart s l e = tree_looked.marked s l (rw e unmarked)
+        y_apart : (s : ℕ) → s < tail → get_or q s 0 ≢ y
+        y_apart s l e = tree_looked.marked s l (rw e unmarked)
 
-        y-root : root ≢ y
-        y-root e = has (rw e at to.bare)
+        y_root : root ≢ y
+        y_root e = has (rw e at to.bare)
 
         pushed : IsTree (Uses (tight_of g c left)) (equations g) p (set q tail y) (set par tail place) (set (set mk (get_or q place 0) (k + 2)) y 1) 0 (tail + 1)
         pushed = tree_push _ _ _ _ _ _ _ _ tree_looked y ym unmarked place
             (λ _. (turn_in, rw held (entry_used g c left (get_or q place 0) (unknown_at g (get_or q place 0) k) k kl refl (entry_tight g c left (get_or q place 0) k may))))
             (λ _. (has, omega arith))
 
-        passed-y : IsPassed (tight_of g c left) owner (set (set mk (get_or q place 0) (k + 2)) y 1) (get_or q place 0) k
-        passed-y = record { inner = λ _. let back : suc y - 1 ≡ y = omega arith in rw (owned, back, y-here) (omega arith, omega arith) }
+        passed_y : IsPassed (tight_of g c left) owner (set (set mk (get_or q place 0) (k + 2)) y 1) (get_or q place 0) k
+        passed_y = record { inner = λ _. let back : suc y - 1 ≡ y = omega arith in rw (owned, back, y_here) (omega arith, omega arith) }
 
         pub seek_met : IsSeeking g c d left p owner t (set q tail y) (set par tail place) (set (set mk (get_or q place 0) (k + 2)) y 1) root head loose (tail + 1)
         seek_met = record {
           fixed = to.fixed;
           tree = pushed;
-          first = q-before 0 some_tail ∙ to.first;
+          first = q_before 0 some_tail ∙ to.first;
           bare = to.bare;
           unfixed = to.unfixed;
           spare = to.spare;
           order = (omega (arith, to.order), omega (arith, to.order), omega (arith, to.order));
           within = λ z zm. elim (eqb_tells z y) [
-            | inl e ↦ rw (e.1, y-here) (omega arith)
-            | inr e ↦ rw (y-other z e.1) (within-looked z zm)
+            | inl e ↦ rw (e.1, y_here) (omega arith)
+            | inr e ↦ rw (y_other z e.1) (within_looked z zm)
           ];
           ended = λ s above below.
               let l : s < tail = omega (arith, to.order) in
-              rw (q-before s l, y-other (get_or q s 0) (y-apart s l)) (ended-looked s above below);
+              rw (q_before s l, y_other (get_or q s 0) (y_apart s l)) (ended_looked s above below);
           searched = λ s l. elim (below_next s tail l) [
-            | inl h ↦ rw (q-before s h, y-other (get_or q s 0) (y-apart s h)) (searched-looked _ y-kept passed-y s h)
-            | inr e ↦ rw (e, q-here, y-here) (searched_none _ _ _ _)
+            | inl h ↦ rw (q_before s h, y_other (get_or q s 0) (y_apart s h)) (searched_looked _ y_kept passed_y s h)
+            | inr e ↦ rw (e, q_here, y_here) (searched_none _ _ _ _)
           ];
           row = λ s n above l. elim (below_next s tail l) [
-            | inr e ↦ rw (e, q-here, y-here) (λ bad. absurd (omega arith))
-            | inl h ↦ rw (q-before s h, y-other (get_or q s 0) (y-apart s h)) (elim (eqb_tells s place) [
-              | inl e ↦ rw (e.1, mk-here) (λ upto may'. elim (eqb_tells n k) [
+            | inr e ↦ rw (e, q_here, y_here) (λ bad. absurd (omega arith))
+            | inl h ↦ rw (q_before s h, y_other (get_or q s 0) (y_apart s h)) (elim (eqb_tells s place) [
+              | inl e ↦ rw (e.1, mk_here) (λ upto may'. elim (eqb_tells n k) [
                 | inl z ↦
-                    let last : suc place ≡ tail = turn-row (omega (arith, e.1, above)) in
-                    inr (omega (arith, last), rw (z.1, last, q-here) (sym held))
+                    let last : suc place ≡ tail = turn_row (omega (arith, e.1, above)) in
+                    inr (omega (arith, last), rw (z.1, last, q_here) (sym held))
                 | inr z ↦ elim (to.row place n (omega (arith, e.1, above)) turn_in (omega (arith, upto, mark_is, z.1)) may') [
                   | inl own ↦ inl own
-                  | inr next ↦ inr (omega (arith, next.0), rw (q-before (suc place) next.0) next.1)
+                  | inr next ↦ inr (omega (arith, next.0), rw (q_before (suc place) next.0) next.1)
                 ]
               ])
-              | inr e ↦ rw (mk-other (get_or q s 0) (other-place s h e.1)) (λ upto may'. elim (to.row s n above h upto may') [
+              | inr e ↦ rw (mk_other (get_or q s 0) (other_place s h e.1)) (λ upto may'. elim (to.row s n above h upto may') [
                 | inl own ↦ inl own
-                | inr next ↦ inr (omega (arith, next.0), rw (q-before (suc s) next.0) next.1)
+                | inr next ↦ inr (omega (arith, next.0), rw (q_before (suc s) next.0) next.1)
               ])
             ])
           ];
-          children = λ s above l. rw (y-other root y-root) (elim (below_next s tail l) [
-            | inl h ↦ rw (q-before s h, par-before s h) (children-looked s above h)
-            | inr e ↦ rw (e, q-here, par-here) (λ none.
+          children = λ s above l. rw (y_other root y_root) (elim (below_next s tail l) [
+            | inl h ↦ rw (q_before s h, par_before s h) (children_looked s above h)
+            | inr e ↦ rw (e, q_here, par_here) (λ none.
                 let at : get_or q place 0 ≡ root = rw none to.first in
-                (k, rw (← at, mk-here) (omega arith), rw at at held))
+                (k, rw (← at, mk_here) (omega arith), rw at at held))
           ]);
-          low = rw (y-other root y-root) low-looked;
+          low = rw (y_other root y_root) low_looked;
         }
 
       pub seek_unused : (UsesEntry (tight_of g c left) (get_or q place 0) k → ⊥) → IsSeeking g c d left p owner t q par (set mk (get_or q place 0) (k + 2)) root head loose tail
@@ -349,41 +349,41 @@ module _ (g : Signature) (c d left p owner t q par mk : List ℕ) (root head loo
         seek_own owned =
             let held = to.fixed.matching.owns (get_or q place 0) j known.0 known.1 owned in
             let back : get_or owner j 0 - 1 ≡ get_or q place 0 = omega (arith, owned) in
-            seek_passed loose (omega arith) (omega (arith, to.order)) (passed_by j j_is (omega (arith, owned)) (rw (back, mk-here) (omega arith))) (λ _ _. sym j_is ∙ sym held.1)
+            seek_passed loose (omega arith) (omega (arith, to.order)) (passed_by j j_is (omega (arith, owned)) (rw (back, mk_here) (omega arith))) (λ _ _. sym j_is ∙ sym held.1)
 
         module _ (may : UsesEntry (tight_of g c left) (get_or q place 0) k) (has : get_or owner j 0 ≢ 0) where
-          pub holder-in : get_or owner j 0 - 1 < equations g
-          holder-in = (to.fixed.matching.owns (get_or owner j 0 - 1) j known.0 known.1 (omega (arith, has))).0
+          pub holder_in : get_or owner j 0 - 1 < equations g
+          holder_in = (to.fixed.matching.owns (get_or owner j 0 - 1) j known.0 known.1 (omega (arith, has))).0
 
-          holder-pair : get_or p (get_or owner j 0 - 1) 0 ≡ j
-          holder-pair = (to.fixed.matching.owns (get_or owner j 0 - 1) j known.0 known.1 (omega (arith, has))).1
+          holder_pair : get_or p (get_or owner j 0 - 1) 0 ≡ j
+          holder_pair = (to.fixed.matching.owns (get_or owner j 0 - 1) j known.0 known.1 (omega (arith, has))).1
 
-          pub holder-room : get_or (set mk (get_or q place 0) (k + 2)) (get_or owner j 0 - 1) 0 ≡ 0 → tail < equations g
-          holder-room unmarked = tree_room _ _ _ _ _ _ _ _ tree_looked (get_or owner j 0 - 1) holder-in unmarked
+          pub holder_room : get_or (set mk (get_or q place 0) (k + 2)) (get_or owner j 0 - 1) 0 ≡ 0 → tail < equations g
+          holder_room unmarked = tree_room _ _ _ _ _ _ _ _ tree_looked (get_or owner j 0 - 1) holder_in unmarked
 
-          pub seek-reached : (q' par' mk' : List ℕ) (loose' tail' : ℕ) → Reaches q par (set mk (get_or q place 0) (k + 2)) tail (get_or owner j 0 - 1) place q' par' mk' tail'
+          pub seek_reached : (q' par' mk' : List ℕ) (loose' tail' : ℕ) → Reaches q par (set mk (get_or q place 0) (k + 2)) tail (get_or owner j 0 - 1) place q' par' mk' tail'
               → (get_or (set mk (get_or q place 0) (k + 2)) (get_or owner j 0 - 1) 0 ≢ 0 → loose' ≡ tail)
               → (get_or (set mk (get_or q place 0) (k + 2)) (get_or owner j 0 - 1) 0 ≡ 0 → loose' ≡ loose)
               → IsSeeking g c d left p owner t q' par' mk' root head loose' tail'
-          seek-reached q' par' mk' loose' tail' reaches collapses stays = elim (eqb_tells (get_or (set mk (get_or q place 0) (k + 2)) (get_or owner j 0 - 1) 0) 0) [
+          seek_reached q' par' mk' loose' tail' reaches collapses stays = elim (eqb_tells (get_or (set mk (get_or q place 0) (k + 2)) (get_or owner j 0 - 1) 0) 0) [
             | inl e ↦
                 let is = reaches.new e.1 in
                 let owned : get_or owner (unknown_at g (get_or q place 0) k) 0 ≡ suc (get_or owner j 0 - 1) = rw (← j_is) (omega (arith, has)) in
-                rw (is.0, is.1, is.2, is.3, stays e.1) (seek_met (get_or owner j 0 - 1) holder-in e.1 (holder-pair ∙ j_is) (rw holder-pair (omega (arith, known.0))) may owned)
+                rw (is.0, is.1, is.2, is.3, stays e.1) (seek_met (get_or owner j 0 - 1) holder_in e.1 (holder_pair ∙ j_is) (rw holder_pair (omega (arith, known.0))) may owned)
             | inr e ↦
                 let is = reaches.old e.1 in
                 rw (is.0, is.1, is.2, is.3, collapses e.1) (seek_passed tail (omega (arith, to.order)) (omega arith) (passed_by j j_is has e.1) (λ le. absurd (omega (arith, le, turn_in))))
           ]
 
-          pub reached-looked : (q' par' mk' : List ℕ) (tail' : ℕ) → Reaches q par (set mk (get_or q place 0) (k + 2)) tail (get_or owner j 0 - 1) place q' par' mk' tail'
+          pub reached_looked : (q' par' mk' : List ℕ) (tail' : ℕ) → Reaches q par (set mk (get_or q place 0) (k + 2)) tail (get_or owner j 0 - 1) place q' par' mk' tail'
               → looked g t mk' ≡ looked g t (set mk (get_or q place 0) (k + 2))
-          reached-looked q' par' mk' tail' reaches = elim (eqb_tells (get_or (set mk (get_or q place 0) (k + 2)) (get_or owner j 0 - 1) 0) 0) [
-            | inl e ↦ rw (reaches.new e.1).2 (looked_root g t (set mk (get_or q place 0) (k + 2)) (get_or owner j 0 - 1) e.1 (omega (arith, holder-in, tree_looked.mark_all)))
+          reached_looked q' par' mk' tail' reaches = elim (eqb_tells (get_or (set mk (get_or q place 0) (k + 2)) (get_or owner j 0 - 1) 0) 0) [
+            | inl e ↦ rw (reaches.new e.1).2 (looked_root g t (set mk (get_or q place 0) (k + 2)) (get_or owner j 0 - 1) e.1 (omega (arith, holder_in, tree_looked.mark_all)))
             | inr e ↦ rw (reaches.old e.1).2 refl
           ]
 
       pub entry_looked : looked g t (set mk (get_or q place 0) (k + 2)) ≡ looked g t mk + 1
-      entry_looked = looked_more g t mk (set mk (get_or q place 0) (k + 2)) (get_or q place 0) k x_in turn_open mark_is mk-here (λ y ne. rw (mk-other y ne) refl)
+      entry_looked = looked_more g t mk (set mk (get_or q place 0) (k + 2)) (get_or q place 0) k x_in turn_open mark_is mk_here (λ y ne. rw (mk_other y ne) refl)
 
       -- an entry that leads to an unknown that no equation has
       pub seek_free : (free : ℕ) → IsFree (tight_of g c left) owner (get_or q place 0) free → free ≡ unknown_at g (get_or q place 0) k
@@ -395,7 +395,7 @@ module _ (g : Signature) (c d left p owner t q par mk : List ℕ) (root head loo
         bare = to.bare;
         unfixed = to.unfixed;
         place_in = turn_in;
-        within = within-looked;
+        within = within_looked;
         free_there = is_free;
         low = λ j handed r rival. elim handed [
           | inl h ↦
@@ -442,14 +442,14 @@ module _ (g : Signature) (c d left p owner t q par mk : List ℕ) (root head loo
         last : suc place ≡ tail
         last = turn.last some
 
-        x-root : get_or q place 0 ≢ root
-        x-root e = let none = at_root e in omega (arith, last, to.order)
+        x_root : get_or q place 0 ≢ root
+        x_root e = let none = at_root e in omega (arith, last, to.order)
 
-        x-has : get_or p (get_or q place 0) 0 ≢ 0
-        x-has = (to.tree.rooted place (omega (arith, last, to.order)) turn_in).0
+        x_has : get_or p (get_or q place 0) 0 ≢ 0
+        x_has = (to.tree.rooted place (omega (arith, last, to.order)) turn_in).0
 
         pub u_some : u ≢ 0
-        u_some = rw u_is at x-has
+        u_some = rw u_is at x_has
 
         -- no other unknown is left for it
         only : (j : ℕ) → Uses (tight_of g c left) (get_or q place 0) j → j ≡ u
@@ -460,8 +460,8 @@ module _ (g : Signature) (c d left p owner t q par mk : List ℕ) (root head loo
               | inr next ↦ absurd (omega (arith, next.0, last))
             ]
 
-        x-fixed : IsFixedTo g c d (set left (u - 1) 4294967295) (set p (get_or q place 0) 0) (set owner u 0) (set t (get_or q place 0) u) root root
-        x-fixed = fixed_more g c d left p owner t root root sound open_all to.fixed (get_or q place 0) x_in turn_open u u_is u_some root (omega arith) (λ y l. inl l)
+        x_fixed : IsFixedTo g c d (set left (u - 1) 4294967295) (set p (get_or q place 0) 0) (set owner u 0) (set t (get_or q place 0) u) root root
+        x_fixed = fixed_more g c d left p owner t root root sound open_all to.fixed (get_or q place 0) x_in turn_open u u_is u_some root (omega arith) (λ y l. inl l)
             (λ r rival.
             let back : IsRival g c d t root r = record {
               assigns = rival.assigns;
@@ -473,33 +473,33 @@ module _ (g : Signature) (c d left p owner t q par mk : List ℕ) (root head loo
 
         pub u_known : (0 < u) × (u ≤ g.unknowns)
         u_known =
-            let known = left_tight g c d left p owner t root root sound open_all to.fixed (get_or q place 0) u x_in (rw u_is at (to.fixed.matching.edge (get_or q place 0) x_in x-has)) in
+            let known = left_tight g c d left p owner t root root sound open_all to.fixed (get_or q place 0) u x_in (rw u_is at (to.fixed.matching.edge (get_or q place 0) x_in x_has)) in
             (known.0, known.1)
 
-        u-owner : get_or owner u 0 ≡ suc (get_or q place 0)
-        u-owner = rw u_is at (to.fixed.matching.owned (get_or q place 0) x_in x-has).1
+        u_owner : get_or owner u 0 ≡ suc (get_or q place 0)
+        u_owner = rw u_is at (to.fixed.matching.owned (get_or q place 0) x_in x_has).1
 
-        p-other : (z : ℕ) → z ≢ get_or q place 0 → get_or (set p (get_or q place 0) 0) z 0 ≡ get_or p z 0
-        p-other z ne = get_or-set_other p (get_or q place 0) z 0 0 ne
+        p_other : (z : ℕ) → z ≢ get_or q place 0 → get_or (set p (get_or q place 0) 0) z 0 ≡ get_or p z 0
+        p_other z ne = get_or-set_other p (get_or q place 0) z 0 0 ne
 
-        mk-off : (z : ℕ) → z ≢ get_or q place 0 → get_or (set mk (get_or q place 0) 0) z 0 ≡ get_or mk z 0
-        mk-off z ne = get_or-set_other mk (get_or q place 0) z 0 0 ne
+        mk_off : (z : ℕ) → z ≢ get_or q place 0 → get_or (set mk (get_or q place 0) 0) z 0 ≡ get_or mk z 0
+        mk_off z ne = get_or-set_other mk (get_or q place 0) z 0 0 ne
 
-        mk-none : get_or (set mk (get_or q place 0) 0) (get_or q place 0) 0 ≡ 0
-        mk-none = let l : get_or q place 0 < length mk = omega (arith, x_in, to.tree.mark_all) in get_or-set_same mk (get_or q place 0) 0 0 l
+        mk_none : get_or (set mk (get_or q place 0) 0) (get_or q place 0) 0 ≡ 0
+        mk_none = let l : get_or q place 0 < length mk = omega (arith, x_in, to.tree.mark_all) in get_or-set_same mk (get_or q place 0) 0 0 l
 
-        place-off : (s : ℕ) → s < tail - 1 → get_or q s 0 ≢ get_or q place 0
-        place-off s l e = let same : s ≡ place = to.tree.apart s place (omega arith) turn_in e in omega (arith, last)
+        place_off : (s : ℕ) → s < tail - 1 → get_or q s 0 ≢ get_or q place 0
+        place_off s l e = let same : s ≡ place = to.tree.apart s place (omega arith) turn_in e in omega (arith, last)
 
-        x-pair : (z : ℕ) → z < equations g → z ≢ get_or q place 0 → get_or p z 0 ≢ u
-        x-pair z zm ne e =
+        x_pair : (z : ℕ) → z < equations g → z ≢ get_or q place 0 → get_or p z 0 ≢ u
+        x_pair z zm ne e =
             let has : get_or p z 0 ≢ 0 = rw e u_some in
-            let owned = rw (e, u-owner) at (to.fixed.matching.owned z zm has).1 in
+            let owned = rw (e, u_owner) at (to.fixed.matching.owned z zm has).1 in
             ne (omega (arith, owned))
 
         -- what may be used then might be used before, at another unknown
-        use-back : (i k : ℕ) → i < equations g → k < row_len g i → UsesEntry (tight_of g c (set left (u - 1) 4294967295)) i k → (unknown_at g i k ≢ u) × UsesEntry (tight_of g c left) i k
-        use-back i k im kl may =
+        use_back : (i k : ℕ) → i < equations g → k < row_len g i → UsesEntry (tight_of g c (set left (u - 1) 4294967295)) i k → (unknown_at g i k ≢ u) × UsesEntry (tight_of g c left) i k
+        use_back i k im kl may =
             let e = entry_tight g c (set left (u - 1) 4294967295) i k may in
             let known = sound.known i k im kl in
             let low = open_all.entry i k im kl in
@@ -510,57 +510,57 @@ module _ (g : Signature) (c d left p owner t q par mk : List ℕ) (root head loo
             let apart : unknown_at g i k - 1 ≢ u - 1 = omega (arith, ne, known.0, u_known.0) in
             (ne, tight_entry g c left i k (rw (get_or-set_other left (u - 1) (unknown_at g i k - 1) 4294967295 0 apart) at e))
 
-        searched-off : (i n : ℕ) → i < equations g → n ≤ row_len g i → IsSearched (tight_of g c left) owner mk i n
+        searched_off : (i n : ℕ) → i < equations g → n ≤ row_len g i → IsSearched (tight_of g c left) owner mk i n
             → IsSearched (tight_of g c (set left (u - 1) 4294967295)) (set owner u 0) (set mk (get_or q place 0) 0) i n
-        searched-off i n im le done = record {
+        searched_off i n im le done = record {
           passed = λ k l. record {
             inner = λ may.
-                let was = use-back i k im (omega arith) may in
+                let was = use_back i k im (omega arith) may in
                 let there = (done.passed k l).inner was.1 in
                 let known = sound.known i k im (omega arith) in
                 let held = to.fixed.matching.owns (get_or owner (unknown_at g i k) 0 - 1) (unknown_at g i k) known.0 known.1 (omega (arith, there.0)) in
                 let ne : get_or owner (unknown_at g i k) 0 - 1 ≢ get_or q place 0 = λ e. was.0 (sym held.1 ∙ rw e u_is) in
-                rw (get_or-set_other owner u (unknown_at g i k) 0 0 was.0, mk-off (get_or owner (unknown_at g i k) 0 - 1) ne) there;
+                rw (get_or-set_other owner u (unknown_at g i k) 0 0 was.0, mk_off (get_or owner (unknown_at g i k) 0 - 1) ne) there;
           };
         }
 
-        tree-off : IsTree (Uses (tight_of g c (set left (u - 1) 4294967295))) (equations g) (set p (get_or q place 0) 0) q par (set mk (get_or q place 0) 0) 0 (tail - 1)
-        tree-off = record {
+        tree_off : IsTree (Uses (tight_of g c (set left (u - 1) 4294967295))) (equations g) (set p (get_or q place 0) 0) q par (set mk (get_or q place 0) 0) 0 (tail - 1)
+        tree_off = record {
           queue_all = to.tree.queue_all;
           parent_all = to.tree.parent_all;
           mark_all = length-set mk (get_or q place 0) 0 ∙ to.tree.mark_all;
           room = omega (arith, to.tree.room);
           in_range = λ s l. to.tree.in_range s (omega arith);
           apart = λ s z sl zl. to.tree.apart s z (omega arith) (omega arith);
-          marked = λ s l. rw (mk-off (get_or q s 0) (place-off s l)) (to.tree.marked s (omega arith));
+          marked = λ s l. rw (mk_off (get_or q s 0) (place_off s l)) (to.tree.marked s (omega arith));
           listed = λ z zm. elim (eqb_tells z (get_or q place 0)) [
-            | inl e ↦ rw (e.1, mk-none) (λ bad. absurd (bad refl))
-            | inr e ↦ rw (mk-off z e.1) (λ has.
+            | inl e ↦ rw (e.1, mk_none) (λ bad. absurd (bad refl))
+            | inr e ↦ rw (mk_off z e.1) (λ has.
                 let there = to.tree.listed z zm has in
                 let ne : there.0 ≢ place = λ same. e.1 (sym there.2 ∙ ap (λ (y : ℕ). get_or q y 0) same) in
                 (there.0, omega (arith, there.1, ne, last), there.2))
           ];
-          linked = λ s l. rw (p-other (get_or q s 0) (place-off s l)) (λ has.
+          linked = λ s l. rw (p_other (get_or q s 0) (place_off s l)) (λ has.
               let there = to.tree.linked s (omega arith) has in
-              let ne = x-pair (get_or q s 0) (to.tree.in_range s (omega arith)) (place-off s l) in (
+              let ne = x_pair (get_or q s 0) (to.tree.in_range s (omega arith)) (place_off s l) in (
                 there.0,
                 uses_left g c left u u_known.0 (get_or q (get_or par s 0) 0) (get_or p (get_or q s 0) 0) (omega (arith, has)) ne there.1,
               ));
-          rooted = λ s above l. rw (p-other (get_or q s 0) (place-off s l)) (to.tree.rooted s above (omega arith));
+          rooted = λ s above l. rw (p_other (get_or q s 0) (place_off s l)) (to.tree.rooted s above (omega arith));
         }
 
         pub seek_fixed : IsSeeking g c d (set left (u - 1) 4294967295) (set p (get_or q place 0) 0) (set owner u 0) (set t (get_or q place 0) u) q par (set mk (get_or q place 0) 0) root head loose (tail - 1)
         seek_fixed =
-            let ne : root ≢ get_or q place 0 = λ e. x-root (sym e) in
+            let ne : root ≢ get_or q place 0 = λ e. x_root (sym e) in
             record {
-              fixed = x-fixed;
-              tree = tree-off;
+              fixed = x_fixed;
+              tree = tree_off;
               first = to.first;
-              bare = p-other root ne ∙ to.bare;
+              bare = p_other root ne ∙ to.bare;
               unfixed = get_or-set_other t (get_or q place 0) root u 0 ne ∙ to.unfixed;
               spare =
                   let spare = to.spare in
-                  let other : spare.0 ≢ u = λ e. let bad : get_or owner u 0 ≡ 0 = rw e at spare.1.unowned in omega (arith, bad, u-owner) in (
+                  let other : spare.0 ≢ u = λ e. let bad : get_or owner u 0 ≡ 0 = rw e at spare.1.unowned in omega (arith, bad, u_owner) in (
                     spare.0,
                     record {
                       positive = spare.1.positive;
@@ -571,31 +571,31 @@ module _ (g : Signature) (c d left p owner t q par mk : List ℕ) (root head loo
                   );
               order = (omega (arith, to.order), omega (arith, to.order), omega arith);
               within = λ z zm. elim (eqb_tells z (get_or q place 0)) [
-                | inl e ↦ rw (e.1, mk-none) (omega arith)
-                | inr e ↦ rw (mk-off z e.1) (to.within z zm)
+                | inl e ↦ rw (e.1, mk_none) (omega arith)
+                | inr e ↦ rw (mk_off z e.1) (to.within z zm)
               ];
               ended = λ s above below.
                   let l : s < tail - 1 = omega (arith, to.order) in
-                  rw (mk-off (get_or q s 0) (place-off s l)) (to.ended s above below);
+                  rw (mk_off (get_or q s 0) (place_off s l)) (to.ended s above below);
               searched = λ s l.
                   let sm = to.tree.in_range s (omega arith) in
                   let le = to.within (get_or q s 0) sm in
-                  rw (mk-off (get_or q s 0) (place-off s l)) (searched-off (get_or q s 0) (get_or mk (get_or q s 0) 0 - 1) sm (omega (arith, le)) (to.searched s (omega arith)));
-              row = λ s k above l. rw (mk-off (get_or q s 0) (place-off s l), p-other (get_or q s 0) (place-off s l)) (λ upto may.
+                  rw (mk_off (get_or q s 0) (place_off s l)) (searched_off (get_or q s 0) (get_or mk (get_or q s 0) 0 - 1) sm (omega (arith, le)) (to.searched s (omega arith)));
+              row = λ s k above l. rw (mk_off (get_or q s 0) (place_off s l), p_other (get_or q s 0) (place_off s l)) (λ upto may.
                   let sm = to.tree.in_range s (omega arith) in
                   let le = to.within (get_or q s 0) sm in
-                  let was = use-back (get_or q s 0) k sm (omega (arith, le, upto)) may in
+                  let was = use_back (get_or q s 0) k sm (omega (arith, le, upto)) may in
                   elim (to.row s k above (omega arith) upto was.1) [
                     | inl own ↦ inl own
                     | inr next ↦ elim (cases_lt (suc s) (tail - 1)) [
-                      | inl h ↦ inr (h, rw (p-other (get_or q (suc s) 0) (place-off (suc s) h)) next.1)
+                      | inl h ↦ inr (h, rw (p_other (get_or q (suc s) 0) (place_off (suc s) h)) next.1)
                       | inr h ↦
                           let same : suc s ≡ place = omega (arith, last, next.0) in
                           absurd (was.0 (next.1 ∙ rw same u_is))
                     ]
                   ]);
-              children = λ s above l. rw (mk-off root ne, p-other (get_or q s 0) (place-off s l)) (to.children s above (omega arith));
-              low = rw (mk-off root ne) (λ r rival n l.
+              children = λ s above l. rw (mk_off root ne, p_other (get_or q s 0) (place_off s l)) (to.children s above (omega arith));
+              low = rw (mk_off root ne) (λ r rival n l.
                   to.low r (record {
                     assigns = rival.assigns;
                     covers = rival.covers;

@@ -133,9 +133,9 @@ module _ (m : FlatModel) (r s : Report) (name : r.name ≡ s.name) (unknowns : r
     orders_same : r.orders.items ≡ s.orders.items
     orders_same = same_orders m o.pairs.items r.orders.items s.orders.items a.orders (rw t_same b.orders)
 
-    both-loose : ListsWhere (IsUndetermined (incidence_of m)) (incidence_of m).unknowns r.loose.items → ListsWhere (IsUndetermined (incidence_of m)) (incidence_of m).unknowns s.loose.items
+    both_loose : ListsWhere (IsUndetermined (incidence_of m)) (incidence_of m).unknowns r.loose.items → ListsWhere (IsUndetermined (incidence_of m)) (incidence_of m).unknowns s.loose.items
         → HasNoSquareParts r → HasNoSquareParts s → SaySame r s
-    both-loose loose loose' none none' = record {
+    both_loose loose loose' none none' = record {
       name = name;
       unknowns = unknowns;
       equations = equations_are;
@@ -151,8 +151,8 @@ module _ (m : FlatModel) (r s : Report) (name : r.name ≡ s.name) (unknowns : r
       freedom = none.freedom ∙ sym none'.freedom;
     }
 
-    both-square : r.loose.items ≡ [] → s.loose.items ≡ [] → HasSquareParts (incidence_of m) o r → HasSquareParts (incidence_of m) p s → SaySame r s
-    both-square loose loose' parts parts' = record {
+    both_square : r.loose.items ≡ [] → s.loose.items ≡ [] → HasSquareParts (incidence_of m) o r → HasSquareParts (incidence_of m) p s → SaySame r s
+    both_square loose loose' parts parts' = record {
       name = name;
       unknowns = unknowns;
       equations = equations_are;
@@ -178,11 +178,11 @@ module _ (m : FlatModel) (r s : Report) (name : r.name ≡ s.name) (unknowns : r
   found_same (singular deficit k some r_is a no_r orders_r loose_r none) (underdetermined p less has loose' none') = absurd (never_both deficit k p some a has.least)
   found_same (singular deficit k some r_is a no_r orders_r loose_r none) (square p same has loose' parts') = absurd (never_both deficit k p some a has.least)
   found_same (underdetermined o less has loose none) (singular other l some' s_is b no_s orders_s loose_s none') = absurd (never_both other l o some' b has.least)
-  found_same (underdetermined o less has loose none) (underdetermined p less' has' loose' none') = both-loose o p has has' loose loose' none none'
+  found_same (underdetermined o less has loose none) (underdetermined p less' has' loose' none') = both_loose o p has has' loose loose' none none'
   found_same (underdetermined o less has loose none) (square p same has' loose' parts') = absurd (omega (arith, less, same))
   found_same (square o same has loose parts) (singular other l some' s_is b no_s orders_s loose_s none') = absurd (never_both other l o some' b has.least)
   found_same (square o same has loose parts) (underdetermined p less' has' loose' none') = absurd (omega (arith, less', same))
-  found_same (square o same has loose parts) (square p same' has' loose' parts') = both-square o p has has' loose loose' parts parts'
+  found_same (square o same has loose parts) (square p same' has' loose' parts') = both_square o p has has' loose loose' parts parts'
 
 pub one_report : (m : FlatModel) (r s : Report) → IsRightReport m r → IsRightReport m s → SaySame r s
 one_report m r s a b = found_same m r s (a.name ∙ sym b.name) (a.unknowns ∙ sym b.unknowns) (a.equations ∙ sym b.equations) a.found b.found

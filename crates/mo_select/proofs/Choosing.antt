@@ -73,8 +73,8 @@ module _ (g : Signature) (c d : ℕ → ℕ) (active order rank pairs : List ℕ
   -- some assignment gives each equation a candidate
   module _ (f : ℕ → ℕ) (full : Assigns (λ e j. StandsAt order j × IsTight g c d (get_or active e 0) j) (length active) f) (covers : (e : ℕ) → e < length active → f e ≢ 0)
       (known : (t : ℕ) → t < length order → get_or order t 0 ≢ 0) (apart : AreApart order) where
-    place-known : (e : ℕ) → e < length active → f e ≢ 0 → (get_or rank (f e) 0 - 1 < length order) × (get_or order (get_or rank (f e) 0 - 1) 0 ≡ f e)
-    place-known e l some =
+    place_known : (e : ℕ) → e < length active → f e ≢ 0 → (get_or rank (f e) 0 - 1 < length order) × (get_or order (get_or rank (f e) 0 - 1) 0 ≡ f e)
+    place_known e l some =
         let there = full.allowed e l some in
         let is : get_or rank (f e) 0 ≡ suc there.0.0 = rw there.0.2 at (ranks.owned there.0.0 there.0.1) in
         let back : get_or rank (f e) 0 - 1 ≡ there.0.0 = omega arith in
@@ -82,8 +82,8 @@ module _ (g : Signature) (c d : ℕ → ℕ) (active order rank pairs : List ℕ
 
     many : length active ≤ count_below (by_place pairs) (length order)
     many =
-        let count = back_count (λ e j. StandsAt order j × IsTight g c d (get_or active e 0) j) (length active) (length order) f (by_place order) (λ j. get_or rank j 0 - 1) full known apart place-known in
-        let assigns = back_assigns (λ e j. StandsAt order j × IsTight g c d (get_or active e 0) j) (length active) (length order) f (by_place order) (λ j. get_or rank j 0 - 1) full known apart place-known in
+        let count = back_count (λ e j. StandsAt order j × IsTight g c d (get_or active e 0) j) (length active) (length order) f (by_place order) (λ j. get_or rank j 0 - 1) full known apart place_known in
+        let assigns = back_assigns (λ e j. StandsAt order j × IsTight g c d (get_or active e 0) j) (length active) (length order) f (by_place order) (λ j. get_or rank j 0 - 1) full known apart place_known in
         let most : count_below (λ t. holder f (length active) (get_or order t 0)) (length order) ≤ count_below (by_place pairs) (length order) =
         greedy.most (length order) (omega arith) (λ t. holder f (length active) (get_or order t 0)) (record {
           allowed = λ t l some. let at = assigns.allowed t l some in (at.0, at.1, at.2.1);
@@ -129,27 +129,27 @@ module _ (g : Signature) (c d : ℕ → ℕ) (active order rank pairs : List ℕ
   -- the first candidates of the order
   module _ (within : List ℕ) (low : length within ≤ length order) (first : take (length within) order ≡ within)
       (known : (t : ℕ) → t < length order → get_or order t 0 ≢ 0) (apart : AreApart order) where
-    within-at : (t : ℕ) → t < length within → get_or within t 0 ≡ get_or order t 0
-    within-at t l = ap (λ (z : List ℕ). get_or z t 0) (sym first) ∙ get_or-take (length within) order t 0 l
+    within_at : (t : ℕ) → t < length within → get_or within t 0 ≡ get_or order t 0
+    within_at t l = ap (λ (z : List ℕ). get_or z t 0) (sym first) ∙ get_or-take (length within) order t 0 l
 
-    within-known : (t : ℕ) → t < length within → get_or within t 0 ≢ 0
-    within-known t l = rw (within-at t l) (known t (omega arith))
+    within_known : (t : ℕ) → t < length within → get_or within t 0 ≢ 0
+    within_known t l = rw (within_at t l) (known t (omega arith))
 
-    within-apart : (t u : ℕ) → t < length within → u < length within → get_or within t 0 ≡ get_or within u 0 → t ≡ u
-    within-apart t u tl ul = rw (within-at t tl, within-at u ul) (apart t u (omega arith) (omega arith))
+    within_apart : (t u : ℕ) → t < length within → u < length within → get_or within t 0 ≡ get_or within u 0 → t ≡ u
+    within_apart t u tl ul = rw (within_at t tl, within_at u ul) (apart t u (omega arith) (omega arith))
 
-    by-within : members within by (length within) ≡ count_below (by_place pairs) (length within)
-    by-within = count_same (λ t. by (get_or within t 0)) (by_place pairs) (length within) (λ t l. rw (within-at t l) (by_at t (omega arith)))
+    by_within : members within by (length within) ≡ count_below (by_place pairs) (length within)
+    by_within = count_same (λ t. by (get_or within t 0)) (by_place pairs) (length within) (λ t l. rw (within_at t l) (by_at t (omega arith)))
 
     -- a rival on them alone
-    rival-low : (other : ℕ → ℕ) → Assigns (λ t. CanHave g c d active (get_or within t 0)) (length within) other → count_below other (length within) ≤ count_below (by_place pairs) (length within)
-    rival-low other assigns =
+    rival_low : (other : ℕ → ℕ) → Assigns (λ t. CanHave g c d active (get_or within t 0)) (length within) other → count_below other (length within) ≤ count_below (by_place pairs) (length within)
+    rival_low other assigns =
         let same : count_below (cut (length within) other) (length within) ≡ count_below other (length within) = count_same (cut (length within) other) other (length within) (λ t l. cut_in (length within) other t l) in
         let most : count_below (cut (length within) other) (length within) ≤ count_below (by_place pairs) (length within) = greedy.most (length within) low (cut (length within) other) (record {
           allowed = λ t l some.
               let inside = cut_some (length within) other t some in
               let is = cut_in (length within) other t inside in
-              rw (is, ← within-at t inside) (assigns.allowed t inside (rw is at some));
+              rw (is, ← within_at t inside) (assigns.allowed t inside (rw is at some));
           apart = λ t u tl ul some same.
               let inside = cut_some (length within) other t some in
               let inside' = cut_some (length within) other u (rw same at some) in
@@ -160,23 +160,23 @@ module _ (g : Signature) (c d : ℕ → ℕ) (active order rank pairs : List ℕ
         omega arith
 
     pub by_greatest : (other : ℕ → ℕ) → IsPartialChoice g c d active within other → members within other (length within) ≤ count_below (by_place pairs) (length within)
-    by_greatest other assigns = rival-low (λ t. other (get_or within t 0)) assigns
+    by_greatest other assigns = rival_low (λ t. other (get_or within t 0)) assigns
 
     module _ (q : ℕ → ℕ) (largest : IsLargestOf (IsTiedTo g c d active within) (length active) q) where
-      place-in : (e : ℕ) → e < length active → q e ≢ 0 → (get_or rank (q e) 0 - 1 < length within) × (get_or within (get_or rank (q e) 0 - 1) 0 ≡ q e)
-      place-in e l some =
+      place_in : (e : ℕ) → e < length active → q e ≢ 0 → (get_or rank (q e) 0 - 1 < length within) × (get_or within (get_or rank (q e) 0 - 1) 0 ≡ q e)
+      place_in e l some =
           let tied = largest.assigns.allowed e l some in
           let at = contains_at within (q e) tied.0 in
-          let is : get_or order at.0 0 ≡ q e = sym (within-at at.0 at.1) ∙ at.2 in
+          let is : get_or order at.0 0 ≡ q e = sym (within_at at.0 at.1) ∙ at.2 in
           let ranked : get_or rank (q e) 0 ≡ suc at.0 = rw is at (ranks.owned at.0 (omega (arith, at.1))) in
           let back : get_or rank (q e) 0 - 1 ≡ at.0 = omega arith in
           rw back (at.1, at.2)
 
       up : count_below q (length active) ≤ count_below (by_place pairs) (length within)
       up =
-          let count = back_count (IsTiedTo g c d active within) (length active) (length within) q (by_place within) (λ j. get_or rank j 0 - 1) largest.assigns within-known within-apart place-in in
-          let assigns = back_assigns (IsTiedTo g c d active within) (length active) (length within) q (by_place within) (λ j. get_or rank j 0 - 1) largest.assigns within-known within-apart place-in in
-          let most = rival-low (λ t. holder q (length active) (get_or within t 0)) (record {
+          let count = back_count (IsTiedTo g c d active within) (length active) (length within) q (by_place within) (λ j. get_or rank j 0 - 1) largest.assigns within_known within_apart place_in in
+          let assigns = back_assigns (IsTiedTo g c d active within) (length active) (length within) q (by_place within) (λ j. get_or rank j 0 - 1) largest.assigns within_known within_apart place_in in
+          let most = rival_low (λ t. holder q (length active) (get_or within t 0)) (record {
             allowed = λ t l some. let at = assigns.allowed t l some in (at.0, at.1, at.2.1);
             apart = assigns.apart;
           }) in
@@ -187,12 +187,12 @@ module _ (g : Signature) (c d : ℕ → ℕ) (active order rank pairs : List ℕ
           let assigns : Assigns (λ t x. (0 < x) × (x ≤ length active) × IsTiedTo g c d active within (x - 1) (get_or within t 0)) (length within) (by_place pairs) = record {
             allowed = λ t l some.
                 let at = greedy.assigns.allowed t (omega arith) some in
-                (at.0, at.1, (at_contains within (get_or within t 0) t l refl, rw (within-at t l) at.2));
+                (at.0, at.1, (at_contains within (get_or within t 0) t l refl, rw (within_at t l) at.2));
             apart = λ t u tl ul. greedy.assigns.apart t u (omega arith) (omega arith);
           } in
-          let count = forth_count (IsTiedTo g c d active within) (length active) (length within) (by_place pairs) (by_place within) assigns within-known within-apart in
-          let rival = forth_assigns (IsTiedTo g c d active within) (length active) (length within) (by_place pairs) (by_place within) assigns within-known within-apart in
-          let most = largest.most (forth (IsTiedTo g c d active within) (length active) (length within) (by_place pairs) (by_place within) assigns within-known within-apart) rival in
+          let count = forth_count (IsTiedTo g c d active within) (length active) (length within) (by_place pairs) (by_place within) assigns within_known within_apart in
+          let rival = forth_assigns (IsTiedTo g c d active within) (length active) (length within) (by_place pairs) (by_place within) assigns within_known within_apart in
+          let most = largest.most (forth (IsTiedTo g c d active within) (length active) (length within) (by_place pairs) (by_place within) assigns within_known within_apart) rival in
           omega arith
 
       pub same_count : count_below q (length active) ≡ count_below (by_place pairs) (length within)
@@ -200,7 +200,7 @@ module _ (g : Signature) (c d : ℕ → ℕ) (active order rank pairs : List ℕ
 
     pub by_level : (count : ℕ) (without : List ℕ) → count ≡ count_below (by_place pairs) (length within) → IsLeft g c d active within without → IsLevel g c d active within by count without
     by_level count without is left = record {
-      chosen = is ∙ sym by-within;
+      chosen = is ∙ sym by_within;
       greatest = λ other assigns. rw is (by_greatest other assigns);
       without = rw (is, ← same_count left.by left.largest) left.without;
     }

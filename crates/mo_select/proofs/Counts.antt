@@ -124,8 +124,8 @@ module _ (g : Signature) (c d level : ℕ → ℕ) (stages : List Stage) (sound 
   dummies_count = length_dummies_from d 1 stages ∙ chosen_sum
 
   module _ (depth : List ℕ) (depths : AreDepths stages g.unknowns (length stages) depth) where
-    level-count : (k : ℕ) → k < length stages → count_below (λ u. over k (get_or depth u 0)) g.unknowns ≡ chosen_size stages k
-    level-count k l =
+    level_count : (k : ℕ) → k < length stages → count_below (λ u. over k (get_or depth u 0)) g.unknowns ≡ chosen_size stages k
+    level_count k l =
         let xs = unknowns_in (get_or stages k no_stage).chosen in
         let size : length (unknowns_in (get_or stages k no_stage).chosen) ≡ chosen_size stages k = length-map (get_or stages k no_stage).chosen (λ (x : ℕ × ℕ). x.0) in
         let unknowns : AreUnknowns g.unknowns (unknowns_in (get_or stages k no_stage).chosen) =
@@ -150,25 +150,25 @@ module _ (g : Signature) (c d level : ℕ → ℕ) (stages : List Stage) (sound 
         unknowns.apart t u tl ul (omega (arith, known.0, known'.0))) in
         omega (arith, count_ones (length xs))
 
-    level-sum : (k : ℕ) → k ≤ length stages → sum_below (λ u. at_most k (get_or depth u 0)) g.unknowns ≡ sum_below (chosen_size stages) k
-    level-sum zero le = sum_zero (λ u. at_most 0 (get_or depth u 0)) g.unknowns (λ u. at_none (get_or depth u 0))
-    level-sum (suc k) le =
-        let rest : sum_below (λ u. at_most k (get_or depth u 0)) g.unknowns ≡ sum_below (chosen_size stages) k = level-sum k (omega arith) in
+    level_sum : (k : ℕ) → k ≤ length stages → sum_below (λ u. at_most k (get_or depth u 0)) g.unknowns ≡ sum_below (chosen_size stages) k
+    level_sum zero le = sum_zero (λ u. at_most 0 (get_or depth u 0)) g.unknowns (λ u. at_none (get_or depth u 0))
+    level_sum (suc k) le =
+        let rest : sum_below (λ u. at_most k (get_or depth u 0)) g.unknowns ≡ sum_below (chosen_size stages) k = level_sum k (omega arith) in
         let split : sum_below (λ u. at_most (suc k) (get_or depth u 0)) g.unknowns ≡ sum_below (λ u. at_most k (get_or depth u 0) + sign (over k (get_or depth u 0))) g.unknowns =
         sum_same (λ u. at_most (suc k) (get_or depth u 0)) (λ u. at_most k (get_or depth u 0) + sign (over k (get_or depth u 0))) g.unknowns (λ u ul. over_cases k (get_or depth u 0)) in
         let both : sum_below (λ u. at_most k (get_or depth u 0) + sign (over k (get_or depth u 0))) g.unknowns ≡ sum_below (λ u. at_most k (get_or depth u 0)) g.unknowns + count_below (λ u. over k (get_or depth u 0)) g.unknowns =
         sum_add (λ u. at_most k (get_or depth u 0)) (λ u. sign (over k (get_or depth u 0))) g.unknowns in
-        omega (arith, level-count k (omega arith))
+        omega (arith, level_count k (omega arith))
 
-    depth-sum : sum_below (λ u. get_or depth u 0) g.unknowns ≡ sum_below c (equations g)
-    depth-sum =
+    depth_sum : sum_below (λ u. get_or depth u 0) g.unknowns ≡ sum_below c (equations g)
+    depth_sum =
         let same : sum_below (λ u. at_most (length stages) (get_or depth u 0)) g.unknowns ≡ sum_below (λ u. get_or depth u 0) g.unknowns =
         sum_same (λ u. at_most (length stages) (get_or depth u 0)) (λ u. get_or depth u 0) g.unknowns (λ u ul. at_all (length stages) (get_or depth u 0) (depths.low u)) in
-        omega (arith, level-sum (length stages) (omega arith), chosen_sum)
+        omega (arith, level_sum (length stages) (omega arith), chosen_sum)
 
-    sum-over : sum_unknowns g d ≡ sum_below (λ u. d (u + 1)) g.unknowns
+    sum_over : sum_unknowns g d ≡ sum_below (λ u. d (u + 1)) g.unknowns
     unfolding sum_unknowns
-    sum-over = refl
+    sum_over = refl
 
     pub states_count : length (derivatives_to (λ u. d (suc u) - get_or depth u 0) g.unknowns) + sum_below c (equations g) ≡ sum_unknowns g d
     states_count =
@@ -181,7 +181,7 @@ module _ (g : Signature) (c d level : ℕ → ℕ) (stages : List Stage) (sound 
         let next : u + 1 ≡ suc u = omega arith in
         let deep = depth_low d stages g.unknowns depth depths (chosen_known g c d level stages sound low whole) u ul in
         rw next (omega arith)) in
-        omega (arith, depth-sum, sum-over)
+        omega (arith, depth_sum, sum_over)
 
     pub states_whole : length (states_to (dummies_from d 1 stages) d g.unknowns) + sum_below c (equations g) ≡ sum_unknowns g d
     states_whole = rw (← states_are d stages g.unknowns depth depths (chosen_known g c d level stages sound low whole) g.unknowns (omega arith)) states_count

@@ -84,8 +84,8 @@ module _ (d : ℕ → ℕ) (stages : List Stage) (n : ℕ) (depth : List ℕ) (d
   ]
 
   module _ (u : ℕ) (l : u < n) where
-    dummy-yes : (k : ℕ) → d (suc u) - get_or depth u 0 ≤ k → k < d (suc u) → is_dummy (dummies_from d 1 stages) (suc u) (suc k) ≡ true
-    dummy-yes k le kl =
+    dummy_yes : (k : ℕ) → d (suc u) - get_or depth u 0 ≤ k → k < d (suc u) → is_dummy (dummies_from d 1 stages) (suc u) (suc k) ≡ true
+    dummy_yes k le kl =
         let low = depth_low u l in
         let top = depths.low u in
         let high : d (suc u) - suc k < get_or depth u 0 = omega arith in
@@ -95,8 +95,8 @@ module _ (d : ℕ → ℕ) (stages : List Stage) (n : ℕ) (depth : List ℕ) (d
         let order : d at.0.0 - (1 + (d (suc u) - suc k)) + 1 ≡ suc k = rw at.2 (omega arith) in
         is_dummy_from (dummies_from d 1 stages) (suc u) (suc k) (made_at d (1 + (d (suc u) - suc k)) at.0) has at.2 order
 
-    dummy-no : (k : ℕ) → k < d (suc u) - get_or depth u 0 → is_dummy (dummies_from d 1 stages) (suc u) (suc k) ≡ false
-    dummy-no k kl = not_true (is_dummy (dummies_from d 1 stages) (suc u) (suc k)) (λ e.
+    dummy_no : (k : ℕ) → k < d (suc u) - get_or depth u 0 → is_dummy (dummies_from d 1 stages) (suc u) (suc k) ≡ false
+    dummy_no k kl = not_true (is_dummy (dummies_from d 1 stages) (suc u) (suc k)) (λ e.
         let y = from_is_dummy (dummies_from d 1 stages) (suc u) (suc k) e in
         let at = dummies_only d 1 stages y.0 y.1 in
         let unknown : at.1.0 ≡ suc u = ap (λ (z : ℕ × ℕ × ℕ × ℕ). z.0) at.4 ∙ y.2 in
@@ -107,27 +107,27 @@ module _ (d : ℕ → ℕ) (stages : List Stage) (n : ℕ) (depth : List ℕ) (d
         let high = known at.0 (suc u) at.2 chosen in
         omega (arith, deep, high.2))
 
-    below-free : (k : ℕ) → k ≤ d (suc u) - get_or depth u 0 → states_below (dummies_from d 1 stages) (suc u) k ≡ derivatives_below (suc u) k
-    below-free zero le = refl
-    below-free (suc k) le = rw (dummy-no k (omega arith)) (ap (λ (z : List (ℕ × ℕ)). z ++ (suc u, k) ∷ []) (below-free k (omega arith)))
+    below_free : (k : ℕ) → k ≤ d (suc u) - get_or depth u 0 → states_below (dummies_from d 1 stages) (suc u) k ≡ derivatives_below (suc u) k
+    below_free zero le = refl
+    below_free (suc k) le = rw (dummy_no k (omega arith)) (ap (λ (z : List (ℕ × ℕ)). z ++ (suc u, k) ∷ []) (below_free k (omega arith)))
 
-    below-rest : (more : ℕ) → d (suc u) - get_or depth u 0 + more ≤ d (suc u)
+    below_rest : (more : ℕ) → d (suc u) - get_or depth u 0 + more ≤ d (suc u)
         → states_below (dummies_from d 1 stages) (suc u) (d (suc u) - get_or depth u 0 + more) ≡ derivatives_below (suc u) (d (suc u) - get_or depth u 0)
-    below-rest zero le = let none : d (suc u) - get_or depth u 0 + 0 ≡ d (suc u) - get_or depth u 0 = omega arith in rw none (below-free (d (suc u) - get_or depth u 0) (omega arith))
-    below-rest (suc more) le =
+    below_rest zero le = let none : d (suc u) - get_or depth u 0 + 0 ≡ d (suc u) - get_or depth u 0 = omega arith in rw none (below_free (d (suc u) - get_or depth u 0) (omega arith))
+    below_rest (suc more) le =
         let next : d (suc u) - get_or depth u 0 + suc more ≡ suc (d (suc u) - get_or depth u 0 + more) = omega arith in
-        rw (next, dummy-yes (d (suc u) - get_or depth u 0 + more) (omega arith) (omega arith)) (below-rest more (omega arith))
+        rw (next, dummy_yes (d (suc u) - get_or depth u 0 + more) (omega arith) (omega arith)) (below_rest more (omega arith))
 
-    states-of-one : states_below (dummies_from d 1 stages) (suc u) (d (suc u)) ≡ derivatives_below (suc u) (d (suc u) - get_or depth u 0)
-    states-of-one =
+    states_of_one : states_below (dummies_from d 1 stages) (suc u) (d (suc u)) ≡ derivatives_below (suc u) (d (suc u) - get_or depth u 0)
+    states_of_one =
         let low = depth_low u l in
         let all : d (suc u) - get_or depth u 0 + get_or depth u 0 ≡ d (suc u) = omega arith in
-        let there = below-rest (get_or depth u 0) (omega arith) in
+        let there = below_rest (get_or depth u 0) (omega arith) in
         rw all at there
 
   pub states_are : (upto : ℕ) → upto ≤ n → derivatives_to (λ u. d (suc u) - get_or depth u 0) upto ≡ states_to (dummies_from d 1 stages) d upto
   states_are zero le = refl
-  states_are (suc upto) le = rw (states_are upto (omega arith), states-of-one upto (omega arith)) refl
+  states_are (suc upto) le = rw (states_are upto (omega arith), states_of_one upto (omega arith)) refl
 
 derivatives_same : (f h : ℕ → ℕ) (n : ℕ) → ((u : ℕ) → f u ≡ h u) → derivatives_to f n ≡ derivatives_to h n
 derivatives_same f h zero same = refl

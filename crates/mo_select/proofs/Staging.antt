@@ -246,8 +246,8 @@ module _ (g : Signature) (c d level : ℕ → ℕ) (active candidates : List ℕ
     abbrev number : ℕ → ℕ
     number e = holder (by_place active) (length active) (get_or next e 0)
 
-    number-is : (e : ℕ) → e < length next → (0 < number e) × (number e ≤ length active) × (get_or active (number e - 1) 0 ≡ get_or next e 0)
-    number-is e l =
+    number_is : (e : ℕ) → e < length next → (0 < number e) × (number e ≤ length active) × (get_or active (number e - 1) 0 ≡ get_or next e 0)
+    number_is e l =
         let at = among e l in
         let some = holder_some (by_place active) (length active) (get_or next e 0) at.0 at.1 at.2 in
         let is = holder_is (by_place active) (length active) (get_or next e 0) some in
@@ -256,9 +256,9 @@ module _ (g : Signature) (c d level : ℕ → ℕ) (active candidates : List ℕ
     abbrev place : ℕ → ℕ
     place e = holder at_place (length order) (number e)
 
-    place-is : (e : ℕ) → e < length next → (place e ≢ 0) × (place e - 1 < length order) × (at_place (place e - 1) ≡ number e)
-    place-is e l =
-        let at = number-is e l in
+    place_is : (e : ℕ) → e < length next → (place e ≢ 0) × (place e - 1 < length order) × (at_place (place e - 1) ≡ number e)
+    place_is e l =
+        let at = number_is e l in
         let some = held (number e) at.0 at.1 in
         let is = holder_is at_place (length order) (number e) some in
         (some, is.0, is.1)
@@ -266,31 +266,31 @@ module _ (g : Signature) (c d level : ℕ → ℕ) (active candidates : List ℕ
     abbrev name : ℕ → ℕ
     name e = name_before (by_place order) (place e)
 
-    name-is : (e : ℕ) → e < length next → name e ≡ get_or order (place e - 1) 0
-    name-is e l = name_some (by_place order) (place e) (place-is e l).0
+    name_is : (e : ℕ) → e < length next → name e ≡ get_or order (place e - 1) 0
+    name_is e l = name_some (by_place order) (place e) (place_is e l).0
 
     pub can_next : CanAssign g c d next (map (λ x. x.0) stage.chosen)
     can_next = rw is_stage.chosen (record {
       by = name;
       assigns = record {
         allowed = λ e l some.
-            let at = number-is e l in
-            let is = place-is e l in
+            let at = number_is e l in
+            let is = place_is e l in
             let full : at_place (place e - 1) ≢ 0 = rw is.2 (omega (arith, at.0)) in
             let can = choice.assigns.allowed (place e - 1) is.1 full in
             let tight : IsTight g c d (get_or next e 0) (get_or order (place e - 1) 0) = rw (is.2, at.2) at can.2 in
             let there = below_level_at level levels candidates (place e - 1) is.1 in
-            rw (name-is e l) (chosen_has active is_stage.by candidates (get_or order (place e - 1) 0) (there.2.0, there.2.1, there.2.2) full, tight);
+            rw (name_is e l) (chosen_has active is_stage.by candidates (get_or order (place e - 1) 0) (there.2.0, there.2.1, there.2.2) full, tight);
         apart = λ e f el fl some same.
-            let is = place-is e el in
-            let is' = place-is f fl in
-            let names : get_or order (place e - 1) 0 ≡ get_or order (place f - 1) 0 = sym (name-is e el) ∙ same ∙ name-is f fl in
+            let is = place_is e el in
+            let is' = place_is f fl in
+            let names : get_or order (place e - 1) 0 ≡ get_or order (place f - 1) 0 = sym (name_is e el) ∙ same ∙ name_is f fl in
             let numbers : number e ≡ number f = sym is.2 ∙ ap is_stage.by names ∙ is'.2 in
-            let at = number-is e el in
-            let at' = number-is f fl in
+            let at = number_is e el in
+            let at' = number_is f fl in
             apart e f el fl (sym at.2 ∙ ap (λ (x : ℕ). get_or active (x - 1) 0) numbers ∙ at'.2);
       };
       covers = λ e l.
-          let is = place-is e l in
-          rw (name-is e l) (ordered_some g c d level active candidates unknowns (place e - 1) is.1);
+          let is = place_is e l in
+          rw (name_is e l) (ordered_some g c d level active candidates unknowns (place e - 1) is.1);
     })

@@ -88,8 +88,8 @@ module _ (g : Signature) (c d : ℕ → ℕ) (active order : List ℕ) (rows : L
     abbrev IsRight : ℕ → ℕ → Type 0
     IsRight u x = (0 < x) × (x ≤ length active) × IsTight g c d (get_or active (x - 1) 0) (get_or order u 0)
 
-    new-right : IsRight t (e + 1)
-    new-right =
+    new_right : IsRight t (e + 1)
+    new_right =
         let back : e + 1 - 1 ≡ e = omega arith in
         (omega arith, omega arith, rw back (need_tight g c d (by_place order) (get_or active e 0) k t kl need))
 
@@ -103,7 +103,7 @@ module _ (g : Signature) (c d : ℕ → ℕ) (active order : List ℕ) (rows : L
     ties_push = record {
       size = size ∙ to.size;
       only = λ u n. elim (eqb_tells u t) [
-        | inl is ↦ rw (is.1, more) (entries_next (get_or rows t []) (e + 1, 0) (IsRight t) (to.only t) new-right n)
+        | inl is ↦ rw (is.1, more) (entries_next (get_or rows t []) (e + 1, 0) (IsRight t) (to.only t) new_right n)
         | inr ne ↦ rw (others u ne.1) (to.only u n)
       ];
       before = λ e' k' u e_l k_l ul there. kept u (suc e') (to.before e' k' u e_l k_l ul there);

@@ -1,7 +1,7 @@
 use Rattle.std.proofs.Common.{rules, ◌∙◌, arith}
 use Rattle.mo_match.proofs.Trees.{unused_back, entry_back, entry_free}
 use Rattle.mo_pantelides.proofs.Looking.{row_few}
-use Rattle.mo_pantelides.proofs.Seeking.{x_in, tree_looked, seek_unused, seek_own, seek_free, seek-reached, holder-in, holder-room, reached-looked, entry_looked}
+use Rattle.mo_pantelides.proofs.Seeking.{x_in, tree_looked, seek_unused, seek_own, seek_free, seek_reached, holder_in, holder_room, reached_looked, entry_looked}
 use Rattle.mo_pantelides.proofs.seek.look.Goals as goal
 
 pub overflow_add-mark : goal.overflow_add-mark
@@ -47,7 +47,7 @@ meet-next-requires-clause-x g c =
     let some = rw c.of_tight-graph.ensures at c.in-Some.ensures.some in
     let known = rw c.of_tight-graph.ensures at c.in-Some.ensures.known in
     let entry = entry_back _ _ _ _ some in
-    let inside = holder-in _ _ _ _ _ _ _ _ _ _ _ _ _ _ c.equations-equations.ensures.sound c.requires.open c.requires.root c.requires.seeking _ c.requires.place _ c.requires.k c.requires.entry
+    let inside = holder_in _ _ _ _ _ _ _ _ _ _ _ _ _ _ c.equations-equations.ensures.sound c.requires.open c.requires.root c.requires.seeking _ c.requires.place _ c.requires.k c.requires.entry
     _ entry.0 known entry.1 c.if-holder-eq0.false in
     let tree = tree_looked _ _ _ _ _ _ _ _ _ _ _ _ _ _ c.equations-equations.ensures.sound c.requires.open c.requires.root c.requires.seeking _ c.requires.place _ c.requires.k c.requires.entry in
     omega (arith, inside, tree.mark_all)
@@ -57,7 +57,7 @@ meet-next-requires-clause-room g c = λ unmarked.
     let some = rw c.of_tight-graph.ensures at c.in-Some.ensures.some in
     let known = rw c.of_tight-graph.ensures at c.in-Some.ensures.known in
     let entry = entry_back _ _ _ _ some in
-    let room = holder-room _ _ _ _ _ _ _ _ _ _ _ _ _ _ c.equations-equations.ensures.sound c.requires.open c.requires.root c.requires.seeking _ c.requires.place _ c.requires.k c.requires.entry
+    let room = holder_room _ _ _ _ _ _ _ _ _ _ _ _ _ _ c.equations-equations.ensures.sound c.requires.open c.requires.root c.requires.seeking _ c.requires.place _ c.requires.k c.requires.entry
     _ entry.0 known entry.1 c.if-holder-eq0.false unmarked in
     (omega (arith, room, c.requires.seeking.tree.queue_all), omega (arith, room, c.requires.seeking.tree.parent_all))
 
@@ -67,7 +67,7 @@ returns-clause-on g c =
     let known = rw c.of_tight-graph.ensures at c.in-Some.ensures.known in
     let entry = entry_back _ _ _ _ some in
     let met = c.meet-next.ensures in
-    rw met.head (seek-reached _ _ _ _ _ _ _ _ _ _ _ _ _ _ c.equations-equations.ensures.sound c.requires.open c.requires.root c.requires.seeking _ c.requires.place _ c.requires.k c.requires.entry
+    rw met.head (seek_reached _ _ _ _ _ _ _ _ _ _ _ _ _ _ c.equations-equations.ensures.sound c.requires.open c.requires.root c.requires.seeking _ c.requires.place _ c.requires.k c.requires.entry
     _ entry.0 known entry.1 c.if-holder-eq0.false _ _ _ _ _ met.reaches met.loose met.row)
 
 pub returns-clause-looked : goal.returns-clause-looked
@@ -76,6 +76,6 @@ returns-clause-looked g c =
     let known = rw c.of_tight-graph.ensures at c.in-Some.ensures.known in
     let entry = entry_back _ _ _ _ some in
     let met = c.meet-next.ensures in
-    reached-looked _ _ _ _ _ _ _ _ _ _ _ _ _ _ c.equations-equations.ensures.sound c.requires.open c.requires.root c.requires.seeking _ c.requires.place _ c.requires.k c.requires.entry
+    reached_looked _ _ _ _ _ _ _ _ _ _ _ _ _ _ c.equations-equations.ensures.sound c.requires.open c.requires.root c.requires.seeking _ c.requires.place _ c.requires.k c.requires.entry
     _ entry.0 known entry.1 c.if-holder-eq0.false _ _ _ _ met.reaches
     ∙ entry_looked _ _ _ _ _ _ _ _ _ _ _ _ _ _ c.equations-equations.ensures.sound c.requires.open c.requires.root c.requires.seeking _ c.requires.place _ c.requires.k c.requires.entry
