@@ -1,10 +1,9 @@
 //! Where a class may not begin, and how it ends.
-ghost use Rattle.std.specs.Prelude.{◌≡◌, ◌<◌, length, IfOk, false, if◌then◌else◌};
+ghost use Rattle.std.specs.Prelude.{◌≡◌, ◌<◌, length, IfOk, false};
 ghost use Rattle.mo_grammar.specs.Lexeme.{lexemes};
 ghost use Rattle.mo_grammar.specs.Classes.{class_end};
-ghost use Rattle.mo_grammar.specs.Reading.{next_in};
 ghost use Rattle.mo_grammar.specs.Language.{reads_form};
-ghost use Rattle.mo_grammar.specs.Answers.{Gives};
+ghost use Rattle.mo_grammar.specs.Answers.{Gives, fault_past_limit};
 ghost use Rattle.mo_class_parts.specs.Starts.{class_codes};
 ghost use Rattle.mo_class_parts.specs.Seen.{ends};
 ghost use Rattle.mo_class_heads.specs.Left.{limits};
@@ -18,7 +17,7 @@ use mo_tables::keywords;
 
 /// Why no class can be opened here, where the limit of nesting is reached.
 pub fn past_classes<'t, 'a>(tokens: &'t [Token<'a>]) -> Halt<'t, 'a>
-    ensures { result ≡ Halt.Stuck (if next_in class_codes (lexemes tokens.now) then Fault.TooDeep else Fault.Misplaced) tokens.exit }
+    ensures { result ≡ Halt.Stuck (fault_past_limit class_codes (lexemes tokens.now)) tokens.exit }
 {
     if opens_class(tokens) {
         Halt::Stuck(Fault::TooDeep, tokens)

@@ -6,9 +6,9 @@ ghost use Rattle.mo_grammar.specs.Grammar.{token};
 ghost use Rattle.mo_grammar.specs.Forms.{behind, between, separated};
 ghost use Rattle.mo_grammar.specs.ClassTrees.{import_of as import_tree};
 ghost use Rattle.mo_grammar.specs.Symbols.{ImportNames};
-ghost use Rattle.mo_grammar.specs.Reading.{read, next_two};
+ghost use Rattle.mo_grammar.specs.Reading.{next_two};
 ghost use Rattle.mo_grammar.specs.Language.{reads, reads_form};
-ghost use Rattle.mo_grammar.specs.Answers.{Gives, with_rest};
+ghost use Rattle.mo_grammar.specs.Answers.{Gives, with_rest, ReadsAs};
 ghost use Rattle.mo_class_heads.specs.Left.{limits};
 ghost use Rattle.mo_class_heads.specs.Imports.{import_tail, imported as imported_form, taken as taken_from, tail};
 
@@ -70,7 +70,7 @@ fn import_names<'t, 'a>(
     left: Left,
     tokens: &'t [Token<'a>],
 ) -> Reading<'t, 'a, (List<Token<'a>>, Taken<'a>)>
-    ensures reads { Gives (λ x. read (lexemes x.0.0, taken_from x.0.1) (lexemes x.1.now)) result (reads ImportNames (limits left.entry) (lexemes tokens.now)) }
+    ensures reads { ReadsAs (λ x. (lexemes x.0, taken_from x.1)) result (reads ImportNames (limits left.entry) (lexemes tokens.now)) }
     ensures shorter { IfOk result (λ x. length x.1.now < length tokens.now) }
 {
     let (first, mut rest) = take(tokens, Ident)?;
@@ -88,7 +88,7 @@ fn import_names<'t, 'a>(
 /// What is taken from the identifiers before.
 fn taken<'t, 'a>(alloc: Global, left: Left, tokens: &'t [Token<'a>]) -> Reading<'t, 'a, Taken<'a>>
     requires last { next_two dot (ident ∷ []) (lexemes tokens.now) ≡ false }
-    ensures reads { Gives (λ x. read (tail x.0) (lexemes x.1.now)) result (reads_form import_tail (limits left.entry) (lexemes tokens.now)) }
+    ensures reads { ReadsAs tail result (reads_form import_tail (limits left.entry) (lexemes tokens.now)) }
     ensures no_longer { IfOk result (λ x. length x.1.now ≤ length tokens.now) }
 {
     if is_next(tokens, Operator(operators::DOT_STAR)) {
@@ -117,7 +117,7 @@ fn group<'t, 'a>(
     left: Left,
     tokens: &'t [Token<'a>],
 ) -> Reading<'t, 'a, List<Token<'a>>>
-    ensures reads { Gives (λ x. read (lexemes x.0) (lexemes x.1.now)) result (reads_form (between open_brace close_brace (separated comma (token (ident ∷ [])))) (limits left.entry) (lexemes tokens.now)) }
+    ensures reads { ReadsAs lexemes result (reads_form (between open_brace close_brace (separated comma (token (ident ∷ [])))) (limits left.entry) (lexemes tokens.now)) }
     ensures shorter { IfOk result (λ x. length x.1.now < length tokens.now) }
 {
     if left.constructs == 0 {

@@ -5,9 +5,8 @@ ghost use Rattle.mo_grammar.specs.Codes.{ident, comma};
 ghost use Rattle.mo_grammar.specs.Grammar.{token};
 ghost use Rattle.mo_grammar.specs.Forms.{behind, separated};
 ghost use Rattle.mo_grammar.specs.Symbols.{Names};
-ghost use Rattle.mo_grammar.specs.Reading.{read};
-ghost use Rattle.mo_grammar.specs.Language.{whole_limits, reads, reads_form};
-ghost use Rattle.mo_grammar.specs.Answers.{Gives};
+ghost use Rattle.mo_grammar.specs.Language.{reads};
+ghost use Rattle.mo_grammar.specs.Answers.{ReadsAs, reads_whole};
 ghost use Rattle.mo_class_heads.specs.Left.{limits};
 
 use crate::nesting::Left;
@@ -23,7 +22,7 @@ pub fn name<'t, 'a>(
     left: Left,
     tokens: &'t [Token<'a>],
 ) -> Reading<'t, 'a, List<Token<'a>>>
-    ensures reads { Gives (λ x. read (lexemes x.0) (lexemes x.1.now)) result (reads Names (limits left.entry) (lexemes tokens.now)) }
+    ensures reads { ReadsAs lexemes result (reads Names (limits left.entry) (lexemes tokens.now)) }
     ensures shorter { IfOk result (λ x. length x.1.now < length tokens.now) }
 {
     mo_expr_parts::name(alloc, left.constructs, tokens)
@@ -34,7 +33,7 @@ pub fn identifiers<'t, 'a>(
     alloc: Global,
     tokens: &'t [Token<'a>],
 ) -> Reading<'t, 'a, List<Token<'a>>>
-    ensures reads { Gives (λ x. read (lexemes x.0) (lexemes x.1.now)) result (reads_form (separated comma (token (ident ∷ []))) whole_limits (lexemes tokens.now)) }
+    ensures reads { ReadsAs lexemes result (reads_whole (separated comma (token (ident ∷ []))) tokens.now) }
     ensures shorter { IfOk result (λ x. length x.1.now < length tokens.now) }
 {
     let (first, mut rest) = take(tokens, Ident)?;
@@ -50,7 +49,7 @@ pub fn identifiers<'t, 'a>(
 
 /// A comma and an identifier.
 fn identifier_behind_comma<'t, 'a>(tokens: &'t [Token<'a>]) -> Reading<'t, 'a, Token<'a>>
-    ensures reads { Gives (λ x. read (lexeme x.0) (lexemes x.1.now)) result (reads_form (behind comma (token (ident ∷ []))) whole_limits (lexemes tokens.now)) }
+    ensures reads { ReadsAs lexeme result (reads_whole (behind comma (token (ident ∷ []))) tokens.now) }
     ensures shorter { IfOk result (λ x. length x.1.now < length tokens.now) }
 {
     let (_, rest) = take(tokens, Operator(operators::COMMA))?;

@@ -1,15 +1,14 @@
 //! What stands before a declaration or an element, and strings.
 ghost use Rattle.std.specs.Prelude.{◌≡◌, ◌<◌, ◌≤◌, [], ◌∷◌, length, map, IfOk, false};
 ghost use Rattle.mo_grammar.specs.Lexeme.{lexeme, lexemes, code_of_kind};
-ghost use Rattle.mo_grammar.specs.Codes.{string, plus, discrete_word, parameter_word, constant_word, input_word, output_word};
-ghost use Rattle.mo_grammar.specs.Grammar.{token, made};
+ghost use Rattle.mo_grammar.specs.Codes.{string, plus};
+ghost use Rattle.mo_grammar.specs.Grammar.{token};
 ghost use Rattle.mo_grammar.specs.Forms.{optional, behind};
-ghost use Rattle.mo_grammar.specs.ClassTrees.{vary_of, way_of, is_code};
-ghost use Rattle.mo_grammar.specs.Classes.{strings as strings_form, prefix, class_prefixes as class_prefixes_form};
-ghost use Rattle.mo_grammar.specs.Reading.{read, next_in, first_codes};
+ghost use Rattle.mo_grammar.specs.ClassTrees.{is_code};
+ghost use Rattle.mo_grammar.specs.Classes.{strings as strings_form, prefix, class_prefixes as class_prefixes_form, variability as variability_form, causality as causality_form};
+ghost use Rattle.mo_grammar.specs.Reading.{next_in, first_codes};
 ghost use Rattle.mo_grammar.specs.Tables.{tables};
-ghost use Rattle.mo_grammar.specs.Language.{whole_limits, reads_form};
-ghost use Rattle.mo_grammar.specs.Answers.{Gives, with_rest};
+ghost use Rattle.mo_grammar.specs.Answers.{Gives, with_rest, ReadsAs, as_read, reads_whole};
 ghost use Rattle.mo_class_parts.specs.Seen.{no_trace, maybe};
 ghost use Rattle.mo_class_heads.specs.Prefixes.{class_words as class_words_form, word_pure, word_operator, words as words_form, words_of};
 
@@ -21,7 +20,7 @@ use mo_tables::{keywords, operators};
 
 /// The tokens behind the strings that stand there, joined by `+`. There may be none.
 pub fn strings<'t, 'a>(tokens: &'t [Token<'a>]) -> Result<&'t [Token<'a>], Halt<'t, 'a>>
-    ensures reads { Gives no_trace result (reads_form strings_form whole_limits (lexemes tokens.now)) }
+    ensures reads { Gives no_trace result (reads_whole strings_form tokens.now) }
     ensures no_longer { IfOk result (λ rest. length rest.now ≤ length tokens.now) }
 {
     if !is_next(tokens, Str) {
@@ -37,7 +36,7 @@ pub fn strings<'t, 'a>(tokens: &'t [Token<'a>]) -> Result<&'t [Token<'a>], Halt<
 
 /// A plus and a string.
 fn string_behind_plus<'t, 'a>(tokens: &'t [Token<'a>]) -> Reading<'t, 'a, Token<'a>>
-    ensures reads { Gives (λ x. read (lexeme x.0) (lexemes x.1.now)) result (reads_form (behind plus (token (string ∷ []))) whole_limits (lexemes tokens.now)) }
+    ensures reads { ReadsAs lexeme result (reads_whole (behind plus (token (string ∷ []))) tokens.now) }
     ensures shorter { IfOk result (λ x. length x.1.now < length tokens.now) }
 {
     let (_, rest) = take(tokens, Operator(operators::PLUS))?;
@@ -50,7 +49,7 @@ pub fn take_optional<'t, 'a>(
     tokens: &'t [Token<'a>],
     wanted: &[TokenKind],
 ) -> (Option<Token<'a>>, &'t [Token<'a>])
-    ensures reads { reads_form (optional (token (map code_of_kind wanted.now))) whole_limits (lexemes tokens.now) ≡ read (maybe result.0) (lexemes result.1.now) }
+    ensures reads { reads_whole (optional (token (map code_of_kind wanted.now))) tokens.now ≡ as_read maybe result }
     ensures no_longer { length result.1.now ≤ length tokens.now }
 {
     match tokens {
@@ -71,7 +70,7 @@ fn is_kind(token: Option<Token>, wanted: TokenKind) -> bool
 
 /// The type prefixes of a component. There may be none.
 pub fn component_prefix<'t, 'a>(tokens: &'t [Token<'a>]) -> Reading<'t, 'a, Prefix>
-    ensures reads { Gives with_rest result (reads_form prefix whole_limits (lexemes tokens.now)) }
+    ensures reads { Gives with_rest result (reads_whole prefix tokens.now) }
     ensures no_longer { IfOk result (λ x. length x.1.now ≤ length tokens.now) }
 {
     let connecting = [Keyword(keywords::FLOW), Keyword(keywords::STREAM)];
@@ -89,7 +88,7 @@ pub fn component_prefix<'t, 'a>(tokens: &'t [Token<'a>]) -> Reading<'t, 'a, Pref
 
 /// The variability prefix that stands there, if one does.
 fn variability<'t, 'a>(tokens: &'t [Token<'a>]) -> (Option<Vary>, &'t [Token<'a>])
-    ensures reads { reads_form (optional (made vary_of (token (discrete_word ∷ parameter_word ∷ constant_word ∷ [])))) whole_limits (lexemes tokens.now) ≡ with_rest result }
+    ensures reads { reads_whole variability_form tokens.now ≡ with_rest result }
     ensures no_longer { length result.1.now ≤ length tokens.now }
 {
     match tokens {
@@ -108,7 +107,7 @@ fn variability<'t, 'a>(tokens: &'t [Token<'a>]) -> (Option<Vary>, &'t [Token<'a>
 
 /// The causality prefix that stands there, if one does.
 pub fn causality<'t, 'a>(tokens: &'t [Token<'a>]) -> (Option<Causal>, &'t [Token<'a>])
-    ensures reads { reads_form (optional (made way_of (token (input_word ∷ output_word ∷ [])))) whole_limits (lexemes tokens.now) ≡ with_rest result }
+    ensures reads { reads_whole causality_form tokens.now ≡ with_rest result }
     ensures no_longer { length result.1.now ≤ length tokens.now }
 {
     match tokens {
@@ -147,7 +146,7 @@ pub fn begins_class_prefixes(tokens: &[Token]) -> bool
 
 /// The words that say which kind of class is defined.
 pub fn class_prefixes<'t, 'a>(tokens: &'t [Token<'a>]) -> Reading<'t, 'a, (ClassKind, ClassFlags)>
-    ensures reads { Gives with_rest result (reads_form class_prefixes_form whole_limits (lexemes tokens.now)) }
+    ensures reads { Gives with_rest result (reads_whole class_prefixes_form tokens.now) }
     ensures shorter { IfOk result (λ x. length x.1.now < length tokens.now) }
 {
     let (partial, rest) = flag(tokens, Keyword(keywords::PARTIAL));
@@ -157,7 +156,7 @@ pub fn class_prefixes<'t, 'a>(tokens: &'t [Token<'a>]) -> Reading<'t, 'a, (Class
 
 /// Those behind `partial`.
 fn class_words<'t, 'a>(tokens: &'t [Token<'a>]) -> Reading<'t, 'a, (ClassKind, ClassFlags)>
-    ensures reads { Gives with_rest result (reads_form class_words_form whole_limits (lexemes tokens.now)) }
+    ensures reads { Gives with_rest result (reads_whole class_words_form tokens.now) }
     ensures shorter { IfOk result (λ x. length x.1.now < length tokens.now) }
 {
     let alone = [
@@ -189,7 +188,7 @@ fn class_words<'t, 'a>(tokens: &'t [Token<'a>]) -> Reading<'t, 'a, (ClassKind, C
 
 /// A function with `pure` or `impure` before it.
 fn pure_function<'t, 'a>(tokens: &'t [Token<'a>]) -> Reading<'t, 'a, (ClassKind, ClassFlags)>
-    ensures reads { Gives with_rest result (reads_form word_pure whole_limits (lexemes tokens.now)) }
+    ensures reads { Gives with_rest result (reads_whole word_pure tokens.now) }
     ensures shorter { IfOk result (λ x. length x.1.now < length tokens.now) }
 {
     let (purity, rest) = take_any(
@@ -210,7 +209,7 @@ fn pure_function<'t, 'a>(tokens: &'t [Token<'a>]) -> Reading<'t, 'a, (ClassKind,
 
 /// An operator, or a record or function with `operator` before it.
 fn operator_class<'t, 'a>(tokens: &'t [Token<'a>]) -> Reading<'t, 'a, (ClassKind, ClassFlags)>
-    ensures reads { Gives with_rest result (reads_form word_operator whole_limits (lexemes tokens.now)) }
+    ensures reads { Gives with_rest result (reads_whole word_operator tokens.now) }
     ensures shorter { IfOk result (λ x. length x.1.now < length tokens.now) }
 {
     let (_, rest) = take(tokens, Keyword(keywords::OPERATOR))?;
@@ -229,7 +228,7 @@ pub fn element_flags<'t, 'a>(
     hidden: bool,
     tokens: &'t [Token<'a>],
 ) -> (ElementFlags, &'t [Token<'a>])
-    ensures reads { reads_form words_form whole_limits (lexemes tokens.now) ≡ read (words_of result.0) (lexemes result.1.now) }
+    ensures reads { reads_whole words_form tokens.now ≡ as_read words_of result }
     ensures hidden { result.0.hidden ≡ hidden }
     ensures kept { result.0.replaceable ≡ false }
     ensures no_longer { length result.1.now ≤ length tokens.now }

@@ -5,9 +5,8 @@ ghost use Rattle.mo_grammar.specs.Grammar.{placed, symbol};
 ghost use Rattle.mo_grammar.specs.Forms.{optional};
 ghost use Rattle.mo_grammar.specs.ClassTrees.{within_of};
 ghost use Rattle.mo_grammar.specs.Symbols.{Names};
-ghost use Rattle.mo_grammar.specs.Reading.{read};
 ghost use Rattle.mo_grammar.specs.Language.{reads_form};
-ghost use Rattle.mo_grammar.specs.Answers.{Gives};
+ghost use Rattle.mo_grammar.specs.Answers.{ReadsAs};
 ghost use Rattle.mo_class_heads.specs.Left.{limits};
 ghost use Rattle.mo_class_heads.specs.Within.{within_clause as within_form, named, within};
 
@@ -42,7 +41,7 @@ pub fn within_clause<'t, 'a>(
     left: Left,
     tokens: &'t [Token<'a>],
 ) -> Reading<'t, 'a, Option<Option<Named<'a>>>>
-    ensures reads { Gives (λ x. read (within x.0) (lexemes x.1.now)) result (reads_form within_form (limits left.entry) (lexemes tokens.now)) }
+    ensures reads { ReadsAs within result (reads_form within_form (limits left.entry) (lexemes tokens.now)) }
     ensures no_longer { IfOk result (λ x. length x.1.now ≤ length tokens.now) }
 {
     if !is_next(tokens, Keyword(keywords::WITHIN)) {
@@ -60,7 +59,7 @@ fn optional_name<'t, 'a>(
     left: Left,
     tokens: &'t [Token<'a>],
 ) -> Reading<'t, 'a, Option<Named<'a>>>
-    ensures reads { Gives (λ x. read (named x.0) (lexemes x.1.now)) result (reads_form (optional (placed (symbol Names))) (limits left.entry) (lexemes tokens.now)) }
+    ensures reads { ReadsAs named result (reads_form (optional (placed (symbol Names))) (limits left.entry) (lexemes tokens.now)) }
     ensures no_longer { IfOk result (λ x. length x.1.now ≤ length tokens.now) }
 {
     if !is_next(tokens, Ident) {

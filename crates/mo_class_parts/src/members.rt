@@ -1,7 +1,7 @@
 //! What prefixes say, and what is made of elements and of calls.
-ghost use Rattle.std.specs.Prelude.{◌≡◌, true, false};
+ghost use Rattle.std.specs.Prelude.{◌≡◌, true};
 ghost use Rattle.mo_grammar.specs.Lexeme.{lexeme};
-ghost use Rattle.mo_grammar.specs.ClassTrees.{name_called, vary_of, way_of, kind_of, way_or_neither, vary_or_free};
+ghost use Rattle.mo_grammar.specs.ClassTrees.{name_called, vary_of, way_of, kind_of, way_or_neither, vary_or_free, flags_of_words};
 
 use mo_grammar::code;
 use mo_syntax::TokenKind::Keyword;
@@ -12,7 +12,7 @@ use mo_tables::keywords;
 
 /// The prefixes of a class that is neither encapsulated nor partial.
 pub fn class_flags(operator: bool, expandable: bool, purity: Option<bool>) -> ClassFlags
-    ensures { result ≡ record { encapsulated = false; partial = false; operator = operator; expandable = expandable; purity = purity } }
+    ensures { result ≡ flags_of_words operator expandable purity }
 {
     ClassFlags {
         encapsulated: false,

@@ -1,11 +1,10 @@
 //! What begins, and what ends, with the next tokens.
-ghost use Rattle.std.specs.Prelude.{◌≡◌, ◌||◌, [], ◌∷◌, false};
+ghost use Rattle.std.specs.Prelude.{◌≡◌, ◌||◌, false};
 ghost use Rattle.mo_grammar.specs.Lexeme.{lexemes};
-ghost use Rattle.mo_grammar.specs.Codes.{else_word, elseif_word, elsewhen_word, end_word, if_word, when_word};
-ghost use Rattle.mo_grammar.specs.Reading.{next_in, next_two, Tables};
+ghost use Rattle.mo_grammar.specs.Reading.{next_in, Tables};
 ghost use Rattle.mo_grammar.specs.Symbols.{ClassDefinitions, ElementItems, EquationItems, StatementItems};
 ghost use Rattle.mo_grammar.specs.Tables.{tables};
-ghost use Rattle.mo_class_parts.specs.Starts.{class_codes, definition_codes, section_codes, equation_follows};
+ghost use Rattle.mo_class_parts.specs.Starts.{if_branch_ends, when_branch_ends, class_codes, definition_codes, section_codes, equation_follows};
 
 use mo_grammar::{are_next, is_next, is_next_any};
 use mo_syntax::Token;
@@ -214,7 +213,7 @@ pub fn begins_statement(tokens: &[Token]) -> bool
 
 /// Whether `elseif`, `else` or `end if` comes next.
 pub fn ends_if_branch(tokens: &[Token]) -> bool
-    ensures { result ≡ (next_in (elseif_word ∷ else_word ∷ []) (lexemes tokens.now) || next_two end_word (if_word ∷ []) (lexemes tokens.now)) }
+    ensures { result ≡ if_branch_ends (lexemes tokens.now) }
 {
     is_next_any(
         tokens,
@@ -224,7 +223,7 @@ pub fn ends_if_branch(tokens: &[Token]) -> bool
 
 /// Whether `elsewhen` or `end when` comes next.
 pub fn ends_when_branch(tokens: &[Token]) -> bool
-    ensures { result ≡ (next_in (elsewhen_word ∷ []) (lexemes tokens.now) || next_two end_word (when_word ∷ []) (lexemes tokens.now)) }
+    ensures { result ≡ when_branch_ends (lexemes tokens.now) }
 {
     is_next(tokens, Keyword(keywords::ELSEWHEN))
         || are_next(tokens, Keyword(keywords::END), &[Keyword(keywords::WHEN)])

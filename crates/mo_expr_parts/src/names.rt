@@ -4,10 +4,9 @@ ghost use Rattle.mo_grammar.specs.Lexeme.{lexeme, lexemes};
 ghost use Rattle.mo_grammar.specs.Codes.{ident, dot};
 ghost use Rattle.mo_grammar.specs.Grammar.{token};
 ghost use Rattle.mo_grammar.specs.Forms.{behind};
-ghost use Rattle.mo_grammar.specs.Reading.{read};
 ghost use Rattle.mo_grammar.specs.Symbols.{TypeSpecs, Names};
-ghost use Rattle.mo_grammar.specs.Language.{limits_inside, whole_limits, reads, reads_form};
-ghost use Rattle.mo_grammar.specs.Answers.{Gives, with_rest};
+ghost use Rattle.mo_grammar.specs.Language.{limits_inside, reads};
+ghost use Rattle.mo_grammar.specs.Answers.{Gives, with_rest, ReadsAs, reads_whole};
 
 use crate::trees::plain_parts;
 use mo_grammar::{Reading, flag, is_next, take};
@@ -39,7 +38,7 @@ pub fn name<'t, 'a>(
     _left: u32,
     tokens: &'t [Token<'a>],
 ) -> Reading<'t, 'a, List<Token<'a>>>
-    ensures reads { Gives (λ x. read (lexemes x.0) (lexemes x.1.now)) result (reads Names (limits_inside _left) (lexemes tokens.now)) }
+    ensures reads { ReadsAs lexemes result (reads Names (limits_inside _left) (lexemes tokens.now)) }
     ensures shorter { IfOk result (λ x. length x.1.now < length tokens.now) }
 {
     let (first, mut rest) = take(tokens, Ident)?;
@@ -55,7 +54,7 @@ pub fn name<'t, 'a>(
 
 /// A dot and an identifier.
 pub fn name_behind_dot<'t, 'a>(tokens: &'t [Token<'a>]) -> Reading<'t, 'a, Token<'a>>
-    ensures reads { Gives (λ x. read (lexeme x.0) (lexemes x.1.now)) result (reads_form (behind dot (token (ident ∷ []))) whole_limits (lexemes tokens.now)) }
+    ensures reads { ReadsAs lexeme result (reads_whole (behind dot (token (ident ∷ []))) tokens.now) }
     ensures shorter { IfOk result (λ x. length x.1.now < length tokens.now) }
 {
     let (_, rest) = take(tokens, Operator(operators::DOT))?;

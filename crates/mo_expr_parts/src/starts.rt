@@ -5,8 +5,7 @@ ghost use Rattle.mo_grammar.specs.Reading.{next_in, Tables};
 ghost use Rattle.mo_grammar.specs.Symbols.{Expressions, Arguments};
 ghost use Rattle.mo_grammar.specs.Tables.{tables};
 ghost use Rattle.mo_grammar.specs.Expressions.{literal as literal_form};
-ghost use Rattle.mo_grammar.specs.Language.{whole_limits, reads_form};
-ghost use Rattle.mo_grammar.specs.Answers.{Gives, with_rest};
+ghost use Rattle.mo_grammar.specs.Answers.{Gives, with_rest, reads_whole};
 
 use crate::marks::{ARGUMENT_STARTS, EXPRESSION_STARTS, LITERALS};
 use crate::trees::{expr_at, literal_node};
@@ -30,7 +29,7 @@ pub fn begins_argument(tokens: &[Token]) -> bool
 
 /// A literal, or `end`.
 pub fn literal<'t, 'a>(alloc: Global, tokens: &'t [Token<'a>]) -> Reading<'t, 'a, Expr>
-    ensures reads { Gives with_rest result (reads_form literal_form whole_limits (lexemes tokens.now)) }
+    ensures reads { Gives with_rest result (reads_whole literal_form tokens.now) }
     ensures shorter { IfOk result (λ x. length x.1.now < length tokens.now) }
 {
     let (token, rest) = take_any(tokens, &LITERALS)?;

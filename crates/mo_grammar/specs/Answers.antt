@@ -1,5 +1,5 @@
 -- What the answer of a reader says of reading by the grammar.
-use Rattle.std.specs.Prelude.{◌≡◌, ◌-◌, ℕ, List, [], ◌∷◌, ◌++◌, ◌⊎◌, drop, Result, Ok, Err}
+use Rattle.std.specs.Prelude.{◌≡◌, ◌-◌, ℕ, List, [], ◌∷◌, ◌++◌, ◌⊎◌, drop, if◌then◌else◌, Result, Ok, Err}
 use Rattle.std.specs.Borrow.{Bor}
 use Rattle.mo_syntax.specs.declared.place.Broken.{Broken}
 use Rattle.mo_syntax.specs.declared.place.Stop.{Stop}
@@ -12,9 +12,9 @@ use Rattle.mo_grammar.specs.declared.reading.Halt.TheVariants.{NoMemory, Stuck}
 use Rattle.mo_grammar.specs.Faults.{rule_of}
 use Rattle.mo_grammar.specs.Lexeme.{Lexeme, lexemes}
 use Rattle.mo_grammar.specs.Grammar.{Limits, this_name, end_name_in}
-use Rattle.mo_grammar.specs.Reading.{Outcome, read, stuck, place_of_first}
-use Rattle.mo_grammar.specs.Symbols.{Symbol, ValueOf}
-use Rattle.mo_grammar.specs.Language.{Spells, Begins, BeginsAtAnyDepth, IsLongestFront, IsImpossibleAfter, limits_inside}
+use Rattle.mo_grammar.specs.Reading.{Outcome, read, stuck, next_in, place_of_first}
+use Rattle.mo_grammar.specs.Symbols.{Symbol, ValueOf, Form}
+use Rattle.mo_grammar.specs.Language.{Spells, Begins, BeginsAtAnyDepth, IsLongestFront, IsImpossibleAfter, limits_inside, whole_limits, reads_form}
 
 -- A value is what is read, and a halt at a token is where reading is stuck, for that reason; want of memory says nothing.
 abbrev pub Gives : {A B : Type 0} → (A → Outcome B) → Result A Halt → Outcome B → Type 0
@@ -33,6 +33,26 @@ broken_at fault rest = record { rule = rule_of fault; place = place_of_first res
 -- a value with the tokens behind it
 abbrev pub with_rest : {A : Type 0} → A × Bor (List Token) → Outcome A
 with_rest x = read x.0 (lexemes x.1.now)
+
+-- the same, of what a value is seen as
+abbrev pub as_read : {A B : Type 0} → (A → B) → A × Bor (List Token) → Outcome B
+as_read seen x = read (seen x.0) (lexemes x.1.now)
+
+-- What a value is seen as is what is read, with the tokens behind it, and a halt is where reading is stuck.
+abbrev pub ReadsAs : {A B : Type 0} → (A → B) → Result (A × Bor (List Token)) Halt → Outcome B → Type 0
+ReadsAs seen result outcome = Gives (as_read seen) result outcome
+
+-- reading by a part of the grammar inside so many constructs less than the limit
+abbrev pub reads_inside : {A : Type 0} → Form A → ℕ → List Token → Outcome A
+reads_inside g left tokens = reads_form g (limits_inside left) (lexemes tokens)
+
+-- reading by a part of the grammar that holds no construct
+abbrev pub reads_whole : {A : Type 0} → Form A → List Token → Outcome A
+reads_whole g tokens = reads_form g whole_limits (lexemes tokens)
+
+-- Why a construct that one of these codes opens cannot stand here, where the limit of nesting is reached.
+abbrev pub fault_past_limit : List ℕ → List Lexeme → Fault
+fault_past_limit openings tokens = if next_in openings tokens then TooDeep else Misplaced
 
 -- ---- what a call answers that reads one production from a place on
 
@@ -73,6 +93,11 @@ pub record IsTooDeep (x : Symbol) (l : Limits) (tokens : List Lexeme) (b : Broke
   pub impossible : IsImpossibleAfter x l before token
   pub past : BeginsAtAnyDepth (this_name []) x (before ++ token ∷ [])
   pub is : b ≡ broken_at TooDeep (token ∷ rest)
+
+-- Where the longest run of the tokens from a place on that begins the production spells a value within the limits, the answer is that value.
+abbrev pub AnswersLongest : (x : Symbol) → ℕ → List Token → ℕ → Result (ValueOf x × ℕ) Stop → Type 0
+AnswersLongest x nest tokens at result = (front rest : List Lexeme) (a : ValueOf x) → IsLongestFront x (this_name []) (from tokens at) front rest
+    → Spells x (limits_at nest) front a → IsAnswer a rest tokens result
 
 -- A refusal is one of the two; want of memory says nothing.
 abbrev pub IsRefusal : {A : Type 0} → (x : Symbol) → ℕ → List Lexeme → Result A Stop → Type 0

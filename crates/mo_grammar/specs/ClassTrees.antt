@@ -334,8 +334,13 @@ imported (t, Some x) = (t ∷ x.0, x.1)
 abbrev pub Kinded : Type 0
 Kinded = ClassKind × ClassFlags
 
+-- the flags of a class that is neither encapsulated nor partial
+abbrev pub flags_of_words : (operator expandable : Bool) → Option Bool → ClassFlags
+flags_of_words operator expandable purity =
+    record { encapsulated = false; partial = false; operator = operator; expandable = expandable; purity = purity }
+
 abbrev pub kinded : ClassKind → (operator expandable : Bool) → Option Bool → Kinded
-kinded kind operator expandable purity = (kind, record { encapsulated = false; partial = false; operator = operator; expandable = expandable; purity = purity })
+kinded kind operator expandable purity = (kind, flags_of_words operator expandable purity)
 
 abbrev pub kind_of : Lexeme → ClassKind
 kind_of t =

@@ -11,6 +11,8 @@ use Rattle.mo_syntax.specs.declared.class.Give.{Give}
 use Rattle.mo_syntax.specs.declared.class.Item.{Item}
 use Rattle.mo_syntax.specs.declared.class.Import.{Import}
 use Rattle.mo_syntax.specs.declared.class.Prefix.{Prefix}
+use Rattle.mo_syntax.specs.declared.class.Vary.{Vary}
+use Rattle.mo_syntax.specs.declared.class.Causal.{Causal}
 use Rattle.mo_syntax.specs.declared.class.FileTree.{FileTree}
 use Rattle.mo_grammar.specs.Lexeme.{Lexeme}
 use Rattle.mo_grammar.specs.Codes.{ident, string, end_of_file, open_paren, close_paren, open_brace, close_brace, semicolon, comma, dot, dot_times, times, plus, colon, equals, assigns, annotation_word, each_word, final_word, redeclare_word, replaceable_word, constrainedby_word, if_word, then_word, elseif_word, else_word, for_word, loop_word, when_word, elsewhen_word, while_word, end_word, connect_word, break_word, return_word, import_word, extends_word, inner_word, outer_word, flow_word, stream_word, discrete_word, parameter_word, constant_word, input_word, output_word, partial_word, class_word, model_word, operator_word, record_word, block_word, expandable_word, connector_word, type_word, package_word, pure_word, impure_word, function_word, enumeration_word, der_word, encapsulated_word, public_word, protected_word, initial_word, equation_word, algorithm_word, external_word, within_word}
@@ -19,7 +21,7 @@ use Rattle.mo_grammar.specs.Forms.{first_of, second_of, joined, dropped, optiona
 use Rattle.mo_grammar.specs.ClassTrees.{Mods, Binding, Declares, Limit, Equation, Statement, Branched, BranchedElse, Declared, Components, Imported, Kinded, Inside, mods_of, text_of, value_only, limit_of, argument_of, modifies, replaces, redeclares, redeclares_replaceable, equation_of, is_call, equality, equal_sides, calls_reference, connection, equation_loop, no_branches, branch_before, branched_more, when_tree, no_branches_else, else_only, branch_before_else, branched_else_more, if_equation_tree, no_equations, statement_of, assigns_value, calls_it, reference_statement, outputs_statement, break_statement, return_statement, if_statement_tree, statement_loop, while_tree, when_statement_tree, way_of, vary_of, prefix_of, declares_component, whats_of_class, whats_of_components, kept_whats, replaceable_whats, elements_of, import_items, extends_items, renamed_import, import_of, from_all, all_names, from_group, imported, one_word_kind, expandable_kind, pure_kind, operator_or, partial_kind, class_tree, declares_class, items_before, nothing_more, external_clause, equations_section, algorithm_section, no_more_equations, one_more_equation, long_body, extending_body, short_body, open_enumeration, listed_enumeration, der_body, file_tree}
 use Rattle.mo_grammar.specs.Trees.{or_nothing}
 use Rattle.mo_grammar.specs.Symbols.{Form, Expressions, Simples, CallArguments, Indices, References, Subscripts, TypeSpecs, Names, ClassMods, ModArguments, EquationItems, ForEquations, WhenEquations, ElseEquations, IfEquations, StatementItems, ImportNames, ElementItems, Compositions, Sections, SectionEquations, ClassDefinitions}
-use Rattle.mo_grammar.specs.Expressions.{outputs}
+use Rattle.mo_grammar.specs.Expressions.{outputs, expression_behind}
 
 -- strings: [STRING {"+" STRING}]
 abbrev pub strings : Form (Unit {0})
@@ -45,15 +47,23 @@ class_mod = made mods_of (between open_paren close_paren (optional (separated co
 
 -- modification: class_mod ["=" expr] | "=" expr | ":=" expr
 abbrev pub modification : Form Binding
-modification = either (seq (symbol ClassMods) (optional (behind equals (symbol Expressions)))) (made value_only (seq (token (equals ∷ assigns ∷ [])) (symbol Expressions)))
+modification = either (seq (symbol ClassMods) (optional (expression_behind equals))) (made value_only (seq (token (equals ∷ assigns ∷ [])) (symbol Expressions)))
 
 -- declaration: IDENT [subscripts] [modification]
 abbrev pub declaration : Form Declared
 declaration = seq (token (ident ∷ [])) (seq (optional (symbol Subscripts)) (optional modification))
 
+-- [discrete | parameter | constant]
+abbrev pub variability : Form (Option Vary)
+variability = optional (made vary_of (token (discrete_word ∷ parameter_word ∷ constant_word ∷ [])))
+
+-- [input | output]
+abbrev pub causality : Form (Option Causal)
+causality = optional (made way_of (token (input_word ∷ output_word ∷ [])))
+
 -- prefix: [flow | stream] [discrete | parameter | constant] [input | output]
 abbrev pub prefix : Form Prefix
-prefix = made prefix_of (seq (optional (token (flow_word ∷ stream_word ∷ []))) (seq (optional (made vary_of (token (discrete_word ∷ parameter_word ∷ constant_word ∷ [])))) (optional (made way_of (token (input_word ∷ output_word ∷ []))))))
+prefix = made prefix_of (seq (optional (token (flow_word ∷ stream_word ∷ []))) (seq variability causality))
 
 -- component1: prefix type_spec declaration comment
 abbrev pub component1 : Form Declares
@@ -85,7 +95,7 @@ enumeration =
 
 -- [input | output] type_spec [subscripts] [class_mod] comment
 abbrev pub short_class : Form Body
-short_class = made short_body (seq (optional (made way_of (token (input_word ∷ output_word ∷ [])))) (seq (symbol TypeSpecs) (seq (optional (symbol Subscripts)) (commented (optional (symbol ClassMods))))))
+short_class = made short_body (seq causality (seq (symbol TypeSpecs) (seq (optional (symbol Subscripts)) (commented (optional (symbol ClassMods))))))
 
 -- short_spec: IDENT "=" [input | output] type_spec [subscripts] [class_mod] comment
 --    | IDENT "=" enumeration "(" ( [literal {"," literal}] | ":" ) ")" comment
@@ -114,6 +124,14 @@ argument =
 abbrev pub printed_equations : {A : Type 0} → Form A → Form (List Equation)
 printed_equations closing = made first_of (seq (many (before (symbol EquationItems) semicolon)) closing)
 
+-- {equation_item ";"} end for
+abbrev pub printed_for_equations : Form (List Equation)
+printed_for_equations = printed_equations (seq (token (end_word ∷ [])) (token (for_word ∷ [])))
+
+-- {equation_item ";"} end if, behind `else`
+abbrev pub printed_else_equations : Form (List Equation)
+printed_else_equations = printed_equations (seq (token (end_word ∷ [])) (token (if_word ∷ [])))
+
 -- Equations up to `end for`: {equation_item ";"} end for. An equation may begin with `end`, so the token behind it tells; this
 -- is why the list and its end are one production. `equation_lists` says that it spells what the printed form spells.
 abbrev pub for_equations : Form (List Equation)
@@ -130,6 +148,10 @@ printed_branch c = behind c (seq (symbol Expressions) (behind then_word (many (b
 -- {equation_item ";"} {c expr then {equation_item ";"}} with what ends it, as it is printed
 abbrev pub printed_branched : {A : Type 0} → ℕ → Form A → Form Branched
 printed_branched c closing = seq (many (before (symbol EquationItems) semicolon)) (made first_of (seq (many (printed_branch c)) closing))
+
+-- {equation_item ";"} {elsewhen expr then {equation_item ";"}} end when
+abbrev pub printed_when_equations : Form Branched
+printed_when_equations = printed_branched elsewhen_word (seq (token (end_word ∷ [])) (token (when_word ∷ [])))
 
 -- Equations up to `end when`: {equation_item ";"} {elsewhen expr then {equation_item ";"}} end when
 abbrev pub when_equations : Form Branched

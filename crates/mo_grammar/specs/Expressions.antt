@@ -51,6 +51,10 @@ index = made index_of (seq (token (ident ∷ [])) (optional (behind in_word (sym
 abbrev pub indices : Form (List (IndexOf Expr))
 indices = separated comma index
 
+-- c expr
+abbrev pub expression_behind : ℕ → Form Expr
+expression_behind c = behind c (symbol Expressions)
+
 -- named: IDENT "=" arg
 abbrev pub named : Form (List ℕ × Arg)
 named = made named_argument (seq (token (ident ∷ [])) (behind equals (symbol OneArgument)))

@@ -2,10 +2,9 @@
 ghost use Rattle.std.specs.Prelude.{◌≡◌, ◌==◌, ◌<◌, ◌≤◌, ◌+◌, List as Seq, [], ◌∷◌, length, drop, map, IfOk, IfErr, IfSome, IfNone, Some, None, IsTrue, ◌↔◌, if◌then◌else◌};
 ghost use Rattle.mo_grammar.specs.Lexeme.{lexeme, lexemes, code_of, code_of_kind};
 ghost use Rattle.mo_grammar.specs.Grammar.{has};
-ghost use Rattle.mo_grammar.specs.Reading.{read, reads_token, next_in, next_two, place_of_first};
+ghost use Rattle.mo_grammar.specs.Reading.{reads_token, next_in, next_two, place_of_first};
 ghost use Rattle.mo_grammar.specs.Forms.{flag as flag_form};
-ghost use Rattle.mo_grammar.specs.Language.{whole_limits, reads_form};
-ghost use Rattle.mo_grammar.specs.Answers.{Gives, with_rest, from, broken_at};
+ghost use Rattle.mo_grammar.specs.Answers.{with_rest, from, broken_at, ReadsAs, fault_past_limit, reads_whole};
 
 use crate::fault::Fault;
 use crate::token_code::code;
@@ -55,7 +54,7 @@ pub fn is(token: &Token, wanted: TokenKind) -> bool
 
 /// The next token, which has that kind, or stuck at it.
 pub fn take<'t, 'a>(tokens: &'t [Token<'a>], wanted: TokenKind) -> Reading<'t, 'a, Token<'a>>
-    ensures reads { Gives (λ x. read (lexeme x.0) (lexemes x.1.now)) result (reads_token (code_of_kind wanted ∷ []) (lexemes tokens.now)) }
+    ensures reads { ReadsAs lexeme result (reads_token (code_of_kind wanted ∷ []) (lexemes tokens.now)) }
     ensures shorter { IfOk result (λ x. length x.1.now < length tokens.now) }
 {
     match tokens {
@@ -66,7 +65,7 @@ pub fn take<'t, 'a>(tokens: &'t [Token<'a>], wanted: TokenKind) -> Reading<'t, '
 
 /// The next token, which has one of these kinds, or stuck at it.
 pub fn take_any<'t, 'a>(tokens: &'t [Token<'a>], wanted: &[TokenKind]) -> Reading<'t, 'a, Token<'a>>
-    ensures reads { Gives (λ x. read (lexeme x.0) (lexemes x.1.now)) result (reads_token (map code_of_kind wanted.now) (lexemes tokens.now)) }
+    ensures reads { ReadsAs lexeme result (reads_token (map code_of_kind wanted.now) (lexemes tokens.now)) }
     ensures shorter { IfOk result (λ x. length x.1.now < length tokens.now) }
 {
     match tokens {
@@ -107,7 +106,7 @@ pub fn are_next(tokens: &[Token], first: TokenKind, second: &[TokenKind]) -> boo
 
 /// Whether the next token has that kind, and the tokens behind it if it has.
 pub fn flag<'t, 'a>(tokens: &'t [Token<'a>], wanted: TokenKind) -> (bool, &'t [Token<'a>])
-    ensures reads { reads_form (flag_form (code_of_kind wanted)) whole_limits (lexemes tokens.now) ≡ with_rest result }
+    ensures reads { reads_whole (flag_form (code_of_kind wanted)) tokens.now ≡ with_rest result }
     ensures no_longer { length result.1.now ≤ length tokens.now }
 {
     match tokens {
@@ -136,7 +135,7 @@ pub fn place_of(tokens: &[Token]) -> Place
 
 /// Why no construct that a token of that kind opens can stand here, where the limit of nesting is reached.
 pub fn past_limit<'t, 'a>(tokens: &'t [Token<'a>], opening: TokenKind) -> Halt<'t, 'a>
-    ensures { result ≡ Halt.Stuck (if next_in (code_of_kind opening ∷ []) (lexemes tokens.now) then Fault.TooDeep else Fault.Misplaced) tokens.exit }
+    ensures { result ≡ Halt.Stuck (fault_past_limit (code_of_kind opening ∷ []) (lexemes tokens.now)) tokens.exit }
 {
     if is_next(tokens, opening) {
         Halt::Stuck(Fault::TooDeep, tokens)

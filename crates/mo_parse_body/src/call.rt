@@ -1,11 +1,7 @@
 //! The modification, equation or statement at a place.
-ghost use Rattle.std.specs.Prelude.{◌<◌, ◌≤◌, List as Seq, [], length, IfOk};
-ghost use Rattle.mo_grammar.specs.Lexeme.{Lexeme};
-ghost use Rattle.mo_grammar.specs.Grammar.{this_name};
-ghost use Rattle.mo_grammar.specs.ClassTrees.{Mods as ModsTree, Equation as EquationTree, Statement as StatementTree};
+ghost use Rattle.std.specs.Prelude.{◌<◌, ◌≤◌, length, IfOk};
 ghost use Rattle.mo_grammar.specs.Symbols.{ClassMods, EquationItems, StatementItems};
-ghost use Rattle.mo_grammar.specs.Language.{IsLongestFront, Spells};
-ghost use Rattle.mo_grammar.specs.Answers.{from, limits_at, IsLongestSpelling, IsAnswer, IsRefusal};
+ghost use Rattle.mo_grammar.specs.Answers.{from, IsLongestSpelling, IsRefusal, AnswersLongest};
 
 use mo_grammar::{Halt, rest_from, stop_at};
 use mo_read_body as readers;
@@ -28,7 +24,7 @@ pub fn class_mod(
 ) -> Result<(Mods, usize), Stop>
     requires { at ≤ length tokens.now }
     ensures found { IfOk result (λ x. IsLongestSpelling ClassMods nest tokens.now at x.0 x.1) }
-    ensures only { (front rest : Seq Lexeme) (a : ModsTree) → IsLongestFront ClassMods (this_name []) (from tokens.now at) front rest → Spells ClassMods (limits_at nest) front a → IsAnswer a rest tokens.now result }
+    ensures only { AnswersLongest ClassMods nest tokens.now at result }
     ensures refused { IsRefusal ClassMods nest (from tokens.now at) result }
     ensures later { IfOk result (λ x. at < x.1) }
     ensures within { IfOk result (λ x. x.1 ≤ length tokens.now) }
@@ -56,7 +52,7 @@ pub fn equation_item(
 ) -> Result<(Equation, usize), Stop>
     requires { at ≤ length tokens.now }
     ensures found { IfOk result (λ x. IsLongestSpelling EquationItems nest tokens.now at x.0 x.1) }
-    ensures only { (front rest : Seq Lexeme) (a : EquationTree) → IsLongestFront EquationItems (this_name []) (from tokens.now at) front rest → Spells EquationItems (limits_at nest) front a → IsAnswer a rest tokens.now result }
+    ensures only { AnswersLongest EquationItems nest tokens.now at result }
     ensures refused { IsRefusal EquationItems nest (from tokens.now at) result }
     ensures later { IfOk result (λ x. at < x.1) }
     ensures within { IfOk result (λ x. x.1 ≤ length tokens.now) }
@@ -84,7 +80,7 @@ pub fn statement(
 ) -> Result<(Statement, usize), Stop>
     requires { at ≤ length tokens.now }
     ensures found { IfOk result (λ x. IsLongestSpelling StatementItems nest tokens.now at x.0 x.1) }
-    ensures only { (front rest : Seq Lexeme) (a : StatementTree) → IsLongestFront StatementItems (this_name []) (from tokens.now at) front rest → Spells StatementItems (limits_at nest) front a → IsAnswer a rest tokens.now result }
+    ensures only { AnswersLongest StatementItems nest tokens.now at result }
     ensures refused { IsRefusal StatementItems nest (from tokens.now at) result }
     ensures later { IfOk result (λ x. at < x.1) }
     ensures within { IfOk result (λ x. x.1 ≤ length tokens.now) }

@@ -1,11 +1,10 @@
 //! The file that a list of tokens spells.
-ghost use Rattle.std.specs.Prelude.{◌≡◌, IfOk, IfErr, IsTrue};
-ghost use Rattle.mo_syntax.specs.SoundTree.{Naming, is_sound_file};
+ghost use Rattle.std.specs.Prelude.{◌≡◌, IfOk, IfErr};
 ghost use Rattle.mo_syntax.specs.declared.class.FileTree.{FileTree as Tree};
 ghost use Rattle.mo_grammar.specs.Lexeme.{lexemes};
 ghost use Rattle.mo_grammar.specs.Symbols.{Files};
 ghost use Rattle.mo_grammar.specs.Language.{whole_limits, Spells};
-ghost use Rattle.mo_grammar.specs.Naming.{IdentifiersPass};
+ghost use Rattle.mo_grammar.specs.Naming.{IsSoundByNames};
 ghost use Rattle.mo_parse_class.specs.WholeFiles.{EndsAtEnd, IsTree, IsFirstImpossible, answered, answered_tree};
 
 use crate::file::file;
@@ -25,7 +24,7 @@ pub fn stored_definition(alloc: Global, tokens: &[Token]) -> Result<FileTree, St
     requires ends { EndsAtEnd (lexemes tokens.now) }
     ensures found { IfOk result (λ tree. Spells Files whole_limits (lexemes tokens.now) tree) }
     ensures only { (tree : Tree) → Spells Files whole_limits (lexemes tokens.now) tree → IsTree tree result }
-    ensures sound { (is_name : Naming) → IdentifiersPass is_name (lexemes tokens.now) → IfOk result (λ tree. IsTrue (is_sound_file is_name tree)) }
+    ensures sound { IsSoundByNames (lexemes tokens.now) result }
     ensures refused { IfErr result (IsFirstImpossible (lexemes tokens.now)) }
 {
     let left = Left {

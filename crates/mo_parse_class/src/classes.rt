@@ -5,7 +5,7 @@ ghost use Rattle.mo_grammar.specs.Symbols.{ClassDefinitions};
 ghost use Rattle.mo_grammar.specs.Classes.{class_spec, extends_spec, long_spec, equals_spec, der_spec};
 ghost use Rattle.mo_grammar.specs.Reading.{read};
 ghost use Rattle.mo_grammar.specs.Language.{reads, reads_form};
-ghost use Rattle.mo_grammar.specs.Answers.{Gives, with_rest};
+ghost use Rattle.mo_grammar.specs.Answers.{Gives, with_rest, ReadsAs};
 ghost use Rattle.mo_class_heads.specs.Left.{limits};
 ghost use Rattle.mo_parse_class.specs.steps.Parts.{derived as derived_form};
 
@@ -62,7 +62,7 @@ fn class_specifier<'t, 'a>(
     left: Left<'a>,
     tokens: &'t [Token<'a>],
 ) -> Reading<'t, 'a, (Token<'a>, Body)>
-    ensures reads { Gives (λ x. read (lexeme x.0.0, x.0.1) (lexemes x.1.now)) result (reads_form class_spec (limits left.entry) (lexemes tokens.now)) }
+    ensures reads { ReadsAs (λ x. (lexeme x.0, x.1)) result (reads_form class_spec (limits left.entry) (lexemes tokens.now)) }
     ensures shorter { IfOk result (λ x. length x.1.now < length tokens.now) }
 {
     if is_next(tokens, Keyword(keywords::EXTENDS)) {
@@ -81,7 +81,7 @@ fn extending_class<'t, 'a>(
     left: Left<'a>,
     tokens: &'t [Token<'a>],
 ) -> Reading<'t, 'a, (Token<'a>, Body)>
-    ensures reads { Gives (λ x. read (lexeme x.0.0, x.0.1) (lexemes x.1.now)) result (reads_form extends_spec (limits left.entry) (lexemes tokens.now)) }
+    ensures reads { ReadsAs (λ x. (lexeme x.0, x.1)) result (reads_form extends_spec (limits left.entry) (lexemes tokens.now)) }
     ensures shorter { IfOk result (λ x. length x.1.now < length tokens.now) }
 {
     let (_, rest) = take(tokens, Keyword(keywords::EXTENDS))?;
@@ -109,7 +109,7 @@ fn long_class<'t, 'a>(
     left: Left<'a>,
     tokens: &'t [Token<'a>],
 ) -> Reading<'t, 'a, (Token<'a>, Body)>
-    ensures reads { Gives (λ x. read (lexeme x.0.0, x.0.1) (lexemes x.1.now)) result (reads_form long_spec (limits left.entry) (lexemes tokens.now)) }
+    ensures reads { ReadsAs (λ x. (lexeme x.0, x.1)) result (reads_form long_spec (limits left.entry) (lexemes tokens.now)) }
     ensures shorter { IfOk result (λ x. length x.1.now < length tokens.now) }
 {
     let (name, rest) = take(tokens, Ident)?;
@@ -134,7 +134,7 @@ fn short_class<'t, 'a>(
     left: Left,
     tokens: &'t [Token<'a>],
 ) -> Reading<'t, 'a, (Token<'a>, Body)>
-    ensures reads { Gives (λ x. read (lexeme x.0.0, x.0.1) (lexemes x.1.now)) result (reads_form equals_spec (limits left.entry) (lexemes tokens.now)) }
+    ensures reads { ReadsAs (λ x. (lexeme x.0, x.1)) result (reads_form equals_spec (limits left.entry) (lexemes tokens.now)) }
     ensures shorter { IfOk result (λ x. length x.1.now < length tokens.now) }
 {
     let (name, rest) = take(tokens, Ident)?;

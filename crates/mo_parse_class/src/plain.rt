@@ -2,11 +2,10 @@
 ghost use Rattle.std.specs.Prelude.{◌≡◌, ◌<◌, ◌≤◌, length, IfOk};
 ghost use Rattle.mo_grammar.specs.Lexeme.{lexemes};
 ghost use Rattle.mo_grammar.specs.Grammar.{either};
-ghost use Rattle.mo_grammar.specs.Reading.{read};
 ghost use Rattle.mo_grammar.specs.Symbols.{Expressions, References, Subscripts, TypeSpecs, ClassMods, EquationItems};
 ghost use Rattle.mo_grammar.specs.Classes.{annotation_part, comment as comment_form, declaration as declaration_form, constraint as constraint_form, enumeration, short_class, statements as statements_form};
 ghost use Rattle.mo_grammar.specs.Language.{reads, reads_form};
-ghost use Rattle.mo_grammar.specs.Answers.{Gives, with_rest};
+ghost use Rattle.mo_grammar.specs.Answers.{Gives, with_rest, ReadsAs};
 ghost use Rattle.mo_class_parts.specs.Seen.{no_trace, declared};
 ghost use Rattle.mo_class_heads.specs.Left.{limits};
 
@@ -84,7 +83,7 @@ pub(crate) fn declaration<'t, 'a>(
     left: Left,
     tokens: &'t [Token<'a>],
 ) -> Reading<'t, 'a, Declaration<'a>>
-    ensures reads { Gives (λ x. read (declared x.0) (lexemes x.1.now)) result (reads_form declaration_form (limits left.entry) (lexemes tokens.now)) }
+    ensures reads { ReadsAs declared result (reads_form declaration_form (limits left.entry) (lexemes tokens.now)) }
     ensures shorter { IfOk result (λ x. length x.1.now < length tokens.now) }
 {
     bodies::declaration(alloc, left.constructs, tokens)

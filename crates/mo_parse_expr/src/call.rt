@@ -1,11 +1,7 @@
 //! The expression at a place.
-ghost use Rattle.std.specs.Prelude.{◌<◌, ◌≤◌, List as Seq, [], length, IfOk};
-ghost use Rattle.mo_syntax.specs.declared.expr.Expr.{Expr as Tree};
-ghost use Rattle.mo_grammar.specs.Lexeme.{Lexeme};
-ghost use Rattle.mo_grammar.specs.Grammar.{this_name};
+ghost use Rattle.std.specs.Prelude.{◌<◌, ◌≤◌, length, IfOk};
 ghost use Rattle.mo_grammar.specs.Symbols.{Expressions};
-ghost use Rattle.mo_grammar.specs.Language.{IsLongestFront, Spells};
-ghost use Rattle.mo_grammar.specs.Answers.{from, limits_at, IsLongestSpelling, IsAnswer, IsRefusal};
+ghost use Rattle.mo_grammar.specs.Answers.{from, IsLongestSpelling, IsRefusal, AnswersLongest};
 
 use mo_grammar::{Halt, rest_from, stop_at};
 use mo_read_expr as readers;
@@ -27,7 +23,7 @@ pub fn expression(
 ) -> Result<(Expr, usize), Stop>
     requires { at ≤ length tokens.now }
     ensures found { IfOk result (λ x. IsLongestSpelling Expressions nest tokens.now at x.0 x.1) }
-    ensures only { (front rest : Seq Lexeme) (a : Tree) → IsLongestFront Expressions (this_name []) (from tokens.now at) front rest → Spells Expressions (limits_at nest) front a → IsAnswer a rest tokens.now result }
+    ensures only { AnswersLongest Expressions nest tokens.now at result }
     ensures refused { IsRefusal Expressions nest (from tokens.now at) result }
     ensures later { IfOk result (λ x. at < x.1) }
     ensures within { IfOk result (λ x. x.1 ≤ length tokens.now) }

@@ -3,8 +3,8 @@ ghost use Rattle.std.specs.Prelude.{◌≡◌, ◌<◌, ◌≤◌, length, IfOk}
 ghost use Rattle.mo_grammar.specs.Lexeme.{lexemes};
 ghost use Rattle.mo_grammar.specs.Symbols.{StatementItems};
 ghost use Rattle.mo_grammar.specs.Classes.{statements as statements_form, statement_kind as statement_kind_form};
-ghost use Rattle.mo_grammar.specs.Language.{limits_inside, reads, reads_form};
-ghost use Rattle.mo_grammar.specs.Answers.{Gives, with_rest};
+ghost use Rattle.mo_grammar.specs.Language.{limits_inside, reads};
+ghost use Rattle.mo_grammar.specs.Answers.{Gives, with_rest, reads_inside};
 ghost use Rattle.mo_read_body.specs.steps.StatementParts.{statement_line as statement_line_form, from_outputs, enclosed_outputs as enclosed_outputs_form, from_reference};
 
 use crate::declarations::comment;
@@ -41,7 +41,7 @@ pub fn statements<'t, 'a>(
     left: u32,
     tokens: &'t [Token<'a>],
 ) -> Reading<'t, 'a, List<Statement>>
-    ensures reads { Gives with_rest result (reads_form statements_form (limits_inside left) (lexemes tokens.now)) }
+    ensures reads { Gives with_rest result (reads_inside statements_form left tokens.now) }
     ensures no_longer { IfOk result (λ x. length x.1.now ≤ length tokens.now) }
 {
     let (mut all, mut rest) = none_yet(alloc, tokens);
@@ -60,7 +60,7 @@ fn statement_line<'t, 'a>(
     left: u32,
     tokens: &'t [Token<'a>],
 ) -> Reading<'t, 'a, Statement>
-    ensures reads { Gives with_rest result (reads_form statement_line_form (limits_inside left) (lexemes tokens.now)) }
+    ensures reads { Gives with_rest result (reads_inside statement_line_form left tokens.now) }
     ensures shorter { IfOk result (λ x. length x.1.now < length tokens.now) }
 {
     let (statement, rest) = statement(alloc, left, tokens)?;
@@ -75,7 +75,7 @@ fn statement_kind<'t, 'a>(
     left: u32,
     tokens: &'t [Token<'a>],
 ) -> Reading<'t, 'a, StatementKind>
-    ensures reads { Gives with_rest result (reads_form statement_kind_form (limits_inside left) (lexemes tokens.now)) }
+    ensures reads { Gives with_rest result (reads_inside statement_kind_form left tokens.now) }
     ensures shorter { IfOk result (λ x. length x.1.now < length tokens.now) }
 {
     if is_next(tokens, Keyword(keywords::BREAK)) {
@@ -105,7 +105,7 @@ fn outputs_statement<'t, 'a>(
     left: u32,
     tokens: &'t [Token<'a>],
 ) -> Reading<'t, 'a, StatementKind>
-    ensures reads { Gives with_rest result (reads_form from_outputs (limits_inside left) (lexemes tokens.now)) }
+    ensures reads { Gives with_rest result (reads_inside from_outputs left tokens.now) }
     ensures shorter { IfOk result (λ x. length x.1.now < length tokens.now) }
 {
     let (outputs, rest) = enclosed_outputs(alloc, left, tokens)?;
@@ -122,7 +122,7 @@ fn enclosed_outputs<'t, 'a>(
     left: u32,
     tokens: &'t [Token<'a>],
 ) -> Reading<'t, 'a, List<Option<Expr>>>
-    ensures reads { Gives with_rest result (reads_form enclosed_outputs_form (limits_inside left) (lexemes tokens.now)) }
+    ensures reads { Gives with_rest result (reads_inside enclosed_outputs_form left tokens.now) }
     ensures shorter { IfOk result (λ x. length x.1.now < length tokens.now) }
 {
     if left == 0 {
@@ -140,7 +140,7 @@ fn reference_statement<'t, 'a>(
     left: u32,
     tokens: &'t [Token<'a>],
 ) -> Reading<'t, 'a, StatementKind>
-    ensures reads { Gives with_rest result (reads_form from_reference (limits_inside left) (lexemes tokens.now)) }
+    ensures reads { Gives with_rest result (reads_inside from_reference left tokens.now) }
     ensures shorter { IfOk result (λ x. length x.1.now < length tokens.now) }
 {
     let (name, rest) = reference(alloc, left, tokens)?;

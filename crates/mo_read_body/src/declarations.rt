@@ -1,10 +1,7 @@
 //! Declarations of components, and comments.
 ghost use Rattle.std.specs.Prelude.{◌≡◌, ◌<◌, ◌≤◌, length, IfOk};
-ghost use Rattle.mo_grammar.specs.Lexeme.{lexemes};
-ghost use Rattle.mo_grammar.specs.Reading.{read};
 ghost use Rattle.mo_grammar.specs.Classes.{annotation_part, comment as comment_form, declaration as declaration_form, constraint as constraint_form, component1, argument_declares};
-ghost use Rattle.mo_grammar.specs.Language.{limits_inside, reads_form};
-ghost use Rattle.mo_grammar.specs.Answers.{Gives, with_rest};
+ghost use Rattle.mo_grammar.specs.Answers.{Gives, with_rest, ReadsAs, reads_inside};
 ghost use Rattle.mo_class_parts.specs.Seen.{no_trace, declared, declares};
 
 use crate::modifications::{class_modification, optional_modification, optional_modifiers};
@@ -26,7 +23,7 @@ pub fn declares<'t, 'a>(
     left: u32,
     tokens: &'t [Token<'a>],
 ) -> Reading<'t, 'a, (Token<'a>, What)>
-    ensures reads { Gives (λ x. read (declares x.0) (lexemes x.1.now)) result (reads_form argument_declares (limits_inside left) (lexemes tokens.now)) }
+    ensures reads { ReadsAs declares result (reads_inside argument_declares left tokens.now) }
     ensures shorter { IfOk result (λ x. length x.1.now < length tokens.now) }
 {
     if begins_class_prefixes(tokens) {
@@ -43,7 +40,7 @@ fn argument_component<'t, 'a>(
     left: u32,
     tokens: &'t [Token<'a>],
 ) -> Reading<'t, 'a, (Token<'a>, What)>
-    ensures reads { Gives (λ x. read (declares x.0) (lexemes x.1.now)) result (reads_form component1 (limits_inside left) (lexemes tokens.now)) }
+    ensures reads { ReadsAs declares result (reads_inside component1 left tokens.now) }
     ensures shorter { IfOk result (λ x. length x.1.now < length tokens.now) }
 {
     let (prefix, rest) = component_prefix(tokens)?;
@@ -62,7 +59,7 @@ pub fn declaration<'t, 'a>(
     left: u32,
     tokens: &'t [Token<'a>],
 ) -> Reading<'t, 'a, Declaration<'a>>
-    ensures reads { Gives (λ x. read (declared x.0) (lexemes x.1.now)) result (reads_form declaration_form (limits_inside left) (lexemes tokens.now)) }
+    ensures reads { ReadsAs declared result (reads_inside declaration_form left tokens.now) }
     ensures shorter { IfOk result (λ x. length x.1.now < length tokens.now) }
 {
     let (name, rest) = take(tokens, Ident)?;
@@ -85,7 +82,7 @@ pub fn constraint<'t, 'a>(
     left: u32,
     tokens: &'t [Token<'a>],
 ) -> Reading<'t, 'a, (Reference, Mods)>
-    ensures reads { Gives with_rest result (reads_form constraint_form (limits_inside left) (lexemes tokens.now)) }
+    ensures reads { Gives with_rest result (reads_inside constraint_form left tokens.now) }
     ensures shorter { IfOk result (λ x. length x.1.now < length tokens.now) }
 {
     let (_, rest) = take(tokens, Keyword(keywords::CONSTRAINEDBY))?;
@@ -101,7 +98,7 @@ pub fn comment<'t, 'a>(
     left: u32,
     tokens: &'t [Token<'a>],
 ) -> Result<&'t [Token<'a>], Halt<'t, 'a>>
-    ensures reads { Gives no_trace result (reads_form comment_form (limits_inside left) (lexemes tokens.now)) }
+    ensures reads { Gives no_trace result (reads_inside comment_form left tokens.now) }
     ensures no_longer { IfOk result (λ rest. length rest.now ≤ length tokens.now) }
 {
     let rest = strings(tokens)?;
@@ -119,7 +116,7 @@ pub fn annotation<'t, 'a>(
     left: u32,
     tokens: &'t [Token<'a>],
 ) -> Result<&'t [Token<'a>], Halt<'t, 'a>>
-    ensures reads { Gives no_trace result (reads_form annotation_part (limits_inside left) (lexemes tokens.now)) }
+    ensures reads { Gives no_trace result (reads_inside annotation_part left tokens.now) }
     ensures shorter { IfOk result (λ rest. length rest.now < length tokens.now) }
 {
     let (_, rest) = take(tokens, Keyword(keywords::ANNOTATION))?;

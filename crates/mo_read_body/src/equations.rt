@@ -3,8 +3,8 @@ ghost use Rattle.std.specs.Prelude.{◌≡◌, ◌<◌, ◌≤◌, length, IfOk}
 ghost use Rattle.mo_grammar.specs.Lexeme.{lexemes};
 ghost use Rattle.mo_grammar.specs.Symbols.{EquationItems, ForEquations};
 ghost use Rattle.mo_grammar.specs.Classes.{for_eq, connect_eq, equality_or_call as equality_or_call_form};
-ghost use Rattle.mo_grammar.specs.Language.{limits_inside, reads, reads_form};
-ghost use Rattle.mo_grammar.specs.Answers.{Gives, with_rest};
+ghost use Rattle.mo_grammar.specs.Language.{limits_inside, reads};
+ghost use Rattle.mo_grammar.specs.Answers.{Gives, with_rest, reads_inside};
 ghost use Rattle.mo_read_body.specs.steps.EquationParts.{equation_kind as equation_kind_form, equation_line as equation_line_form, connected};
 
 use crate::declarations::comment;
@@ -44,7 +44,7 @@ pub fn equation_line<'t, 'a>(
     left: u32,
     tokens: &'t [Token<'a>],
 ) -> Reading<'t, 'a, Equation>
-    ensures reads { Gives with_rest result (reads_form equation_line_form (limits_inside left) (lexemes tokens.now)) }
+    ensures reads { Gives with_rest result (reads_inside equation_line_form left tokens.now) }
     ensures shorter { IfOk result (λ x. length x.1.now < length tokens.now) }
 {
     let (equation, rest) = equation(alloc, left, tokens)?;
@@ -59,7 +59,7 @@ fn equation_kind<'t, 'a>(
     left: u32,
     tokens: &'t [Token<'a>],
 ) -> Reading<'t, 'a, EquationKind>
-    ensures reads { Gives with_rest result (reads_form equation_kind_form (limits_inside left) (lexemes tokens.now)) }
+    ensures reads { Gives with_rest result (reads_inside equation_kind_form left tokens.now) }
     ensures shorter { IfOk result (λ x. length x.1.now < length tokens.now) }
 {
     if is_next(tokens, Keyword(keywords::IF)) {
@@ -83,7 +83,7 @@ fn for_equation<'t, 'a>(
     left: u32,
     tokens: &'t [Token<'a>],
 ) -> Reading<'t, 'a, EquationKind>
-    ensures reads { Gives with_rest result (reads_form for_eq (limits_inside left) (lexemes tokens.now)) }
+    ensures reads { Gives with_rest result (reads_inside for_eq left tokens.now) }
     ensures shorter { IfOk result (λ x. length x.1.now < length tokens.now) }
 {
     if left == 0 {
@@ -124,7 +124,7 @@ fn connect_equation<'t, 'a>(
     left: u32,
     tokens: &'t [Token<'a>],
 ) -> Reading<'t, 'a, EquationKind>
-    ensures reads { Gives with_rest result (reads_form connect_eq (limits_inside left) (lexemes tokens.now)) }
+    ensures reads { Gives with_rest result (reads_inside connect_eq left tokens.now) }
     ensures shorter { IfOk result (λ x. length x.1.now < length tokens.now) }
 {
     let (_, rest) = take(tokens, Keyword(keywords::CONNECT))?;
@@ -139,7 +139,7 @@ fn connected_ends<'t, 'a>(
     left: u32,
     tokens: &'t [Token<'a>],
 ) -> Reading<'t, 'a, (Reference, Reference)>
-    ensures reads { Gives with_rest result (reads_form connected (limits_inside left) (lexemes tokens.now)) }
+    ensures reads { Gives with_rest result (reads_inside connected left tokens.now) }
     ensures shorter { IfOk result (λ x. length x.1.now < length tokens.now) }
 {
     if left == 0 {
@@ -159,7 +159,7 @@ fn equality_or_call<'t, 'a>(
     left: u32,
     tokens: &'t [Token<'a>],
 ) -> Reading<'t, 'a, EquationKind>
-    ensures reads { Gives with_rest result (reads_form equality_or_call_form (limits_inside left) (lexemes tokens.now)) }
+    ensures reads { Gives with_rest result (reads_inside equality_or_call_form left tokens.now) }
     ensures shorter { IfOk result (λ x. length x.1.now < length tokens.now) }
 {
     let (one, rest) = simple_expression(alloc, left, tokens)?;

@@ -3,8 +3,8 @@ ghost use Rattle.std.specs.Prelude.{◌<◌, ◌≤◌, length, IfOk};
 ghost use Rattle.mo_grammar.specs.Lexeme.{lexemes};
 ghost use Rattle.mo_grammar.specs.Symbols.{IfEquations, ElseEquations};
 ghost use Rattle.mo_grammar.specs.Classes.{if_eq};
-ghost use Rattle.mo_grammar.specs.Language.{limits_inside, reads, reads_form};
-ghost use Rattle.mo_grammar.specs.Answers.{Gives, with_rest};
+ghost use Rattle.mo_grammar.specs.Language.{limits_inside, reads};
+ghost use Rattle.mo_grammar.specs.Answers.{Gives, with_rest, reads_inside};
 ghost use Rattle.mo_read_body.specs.steps.EquationParts.{in_if, if_branch as if_branch_form, if_end as if_end_form, elseif_tail, reads_if_tail, behind_equations, behind_branch, joined_branch_else};
 
 use crate::equations::equation_line;
@@ -24,7 +24,7 @@ pub fn if_equation<'t, 'a>(
     left: u32,
     tokens: &'t [Token<'a>],
 ) -> Reading<'t, 'a, EquationKind>
-    ensures reads { Gives with_rest result (reads_form if_eq (limits_inside left) (lexemes tokens.now)) }
+    ensures reads { Gives with_rest result (reads_inside if_eq left tokens.now) }
     ensures shorter { IfOk result (λ x. length x.1.now < length tokens.now) }
 {
     if left == 0 {
@@ -42,7 +42,7 @@ fn if_branches<'t, 'a>(
     left: u32,
     tokens: &'t [Token<'a>],
 ) -> Reading<'t, 'a, EquationKind>
-    ensures reads { Gives with_rest result (reads_form in_if (limits_inside left) (lexemes tokens.now)) }
+    ensures reads { Gives with_rest result (reads_inside in_if left tokens.now) }
     ensures shorter { IfOk result (λ x. length x.1.now < length tokens.now) }
 {
     let (first, mut rest) = if_branch(alloc, left, tokens)?;
@@ -64,7 +64,7 @@ fn if_end<'t, 'a>(
     left: u32,
     tokens: &'t [Token<'a>],
 ) -> Reading<'t, 'a, List<Equation>>
-    ensures reads { Gives with_rest result (reads_form if_end_form (limits_inside left) (lexemes tokens.now)) }
+    ensures reads { Gives with_rest result (reads_inside if_end_form left tokens.now) }
     ensures shorter { IfOk result (λ x. length x.1.now < length tokens.now) }
 {
     if is_next(tokens, Keyword(keywords::ELSE)) {
@@ -106,7 +106,7 @@ fn elseif_branch<'t, 'a>(
     left: u32,
     tokens: &'t [Token<'a>],
 ) -> Reading<'t, 'a, (Expr, List<Equation>)>
-    ensures reads { Gives (λ x. joined_branch_else x.0 (reads_if_tail (limits_inside left) (lexemes x.1.now))) result (reads_form elseif_tail (limits_inside left) (lexemes tokens.now)) }
+    ensures reads { Gives (λ x. joined_branch_else x.0 (reads_if_tail (limits_inside left) (lexemes x.1.now))) result (reads_inside elseif_tail left tokens.now) }
     ensures shorter { IfOk result (λ x. length x.1.now < length tokens.now) }
 {
     let (_, rest) = take(tokens, Keyword(keywords::ELSEIF))?;
@@ -120,7 +120,7 @@ fn if_branch<'t, 'a>(
     left: u32,
     tokens: &'t [Token<'a>],
 ) -> Reading<'t, 'a, (Expr, List<Equation>)>
-    ensures reads { Gives (λ x. behind_branch x.0 (reads_if_tail (limits_inside left) (lexemes x.1.now))) result (reads_form if_branch_form (limits_inside left) (lexemes tokens.now)) }
+    ensures reads { Gives (λ x. behind_branch x.0 (reads_if_tail (limits_inside left) (lexemes x.1.now))) result (reads_inside if_branch_form left tokens.now) }
     ensures shorter { IfOk result (λ x. length x.1.now < length tokens.now) }
 {
     let (condition, rest) = expression(alloc, left, tokens)?;

@@ -4,11 +4,10 @@ ghost use Rattle.mo_grammar.specs.Lexeme.{lexemes};
 ghost use Rattle.mo_grammar.specs.Codes.{comma};
 ghost use Rattle.mo_grammar.specs.Grammar.{symbol};
 ghost use Rattle.mo_grammar.specs.Forms.{optional, behind, separated};
-ghost use Rattle.mo_grammar.specs.Reading.{read};
 ghost use Rattle.mo_grammar.specs.Symbols.{ClassMods, ModArguments};
 ghost use Rattle.mo_grammar.specs.Classes.{modification as modification_form, replaceable_arg};
-ghost use Rattle.mo_grammar.specs.Language.{limits_inside, reads, reads_form};
-ghost use Rattle.mo_grammar.specs.Answers.{Gives, with_rest};
+ghost use Rattle.mo_grammar.specs.Language.{limits_inside, reads};
+ghost use Rattle.mo_grammar.specs.Answers.{Gives, with_rest, ReadsAs, reads_inside};
 ghost use Rattle.mo_read_body.specs.steps.Parts.{redeclared as redeclared_form, given as given_form, modifying as modifying_form};
 ghost use Rattle.mo_class_parts.specs.Seen.{declares_limited, argued};
 
@@ -53,7 +52,7 @@ pub fn optional_modifiers<'t, 'a>(
     left: u32,
     tokens: &'t [Token<'a>],
 ) -> Reading<'t, 'a, Option<Mods>>
-    ensures reads { Gives with_rest result (reads_form (optional (symbol ClassMods)) (limits_inside left) (lexemes tokens.now)) }
+    ensures reads { Gives with_rest result (reads_inside (optional (symbol ClassMods)) left tokens.now) }
     ensures no_longer { IfOk result (λ x. length x.1.now ≤ length tokens.now) }
 {
     if !is_next(tokens, Operator(operators::OPEN_PAREN)) {
@@ -70,7 +69,7 @@ fn arguments<'t, 'a>(
     left: u32,
     tokens: &'t [Token<'a>],
 ) -> Reading<'t, 'a, Option<List<Argument>>>
-    ensures reads { Gives with_rest result (reads_form (optional (separated comma (symbol ModArguments))) (limits_inside left) (lexemes tokens.now)) }
+    ensures reads { Gives with_rest result (reads_inside (optional (separated comma (symbol ModArguments))) left tokens.now) }
     ensures no_longer { IfOk result (λ x. length x.1.now ≤ length tokens.now) }
 {
     if !is_next_any(
@@ -96,7 +95,7 @@ fn listed_arguments<'t, 'a>(
     left: u32,
     tokens: &'t [Token<'a>],
 ) -> Reading<'t, 'a, List<Argument>>
-    ensures reads { Gives with_rest result (reads_form (separated comma (symbol ModArguments)) (limits_inside left) (lexemes tokens.now)) }
+    ensures reads { Gives with_rest result (reads_inside (separated comma (symbol ModArguments)) left tokens.now) }
     ensures shorter { IfOk result (λ x. length x.1.now < length tokens.now) }
 {
     let (first, mut rest) = argument(alloc, left, tokens)?;
@@ -117,7 +116,7 @@ fn next_argument<'t, 'a>(
     left: u32,
     tokens: &'t [Token<'a>],
 ) -> Reading<'t, 'a, Argument>
-    ensures reads { Gives with_rest result (reads_form (behind comma (symbol ModArguments)) (limits_inside left) (lexemes tokens.now)) }
+    ensures reads { Gives with_rest result (reads_inside (behind comma (symbol ModArguments)) left tokens.now) }
     ensures shorter { IfOk result (λ x. length x.1.now < length tokens.now) }
 {
     let (_, rest) = take(tokens, Operator(operators::COMMA))?;
@@ -152,7 +151,7 @@ fn redeclared<'t, 'a>(
     left: u32,
     tokens: &'t [Token<'a>],
 ) -> Reading<'t, 'a, Argued<'a>>
-    ensures reads { Gives (λ x. read (argued x.0) (lexemes x.1.now)) result (reads_form redeclared_form (limits_inside left) (lexemes tokens.now)) }
+    ensures reads { ReadsAs argued result (reads_inside redeclared_form left tokens.now) }
     ensures shorter { IfOk result (λ x. length x.1.now < length tokens.now) }
 {
     if is_next(tokens, Keyword(keywords::REPLACEABLE)) {
@@ -169,7 +168,7 @@ fn redeclared<'t, 'a>(
 /// What an argument replaces or modifies.
 #[cycle(modification)]
 fn given<'t, 'a>(alloc: Global, left: u32, tokens: &'t [Token<'a>]) -> Reading<'t, 'a, Argued<'a>>
-    ensures reads { Gives (λ x. read (argued x.0) (lexemes x.1.now)) result (reads_form given_form (limits_inside left) (lexemes tokens.now)) }
+    ensures reads { ReadsAs argued result (reads_inside given_form left tokens.now) }
     ensures shorter { IfOk result (λ x. length x.1.now < length tokens.now) }
 {
     if is_next(tokens, Keyword(keywords::REPLACEABLE)) {
@@ -188,7 +187,7 @@ fn replaceable_argument<'t, 'a>(
     left: u32,
     tokens: &'t [Token<'a>],
 ) -> Reading<'t, 'a, ((Token<'a>, What), Option<(Reference, Mods)>)>
-    ensures reads { Gives (λ x. read (declares_limited x.0) (lexemes x.1.now)) result (reads_form replaceable_arg (limits_inside left) (lexemes tokens.now)) }
+    ensures reads { ReadsAs declares_limited result (reads_inside replaceable_arg left tokens.now) }
     ensures shorter { IfOk result (λ x. length x.1.now < length tokens.now) }
 {
     let (_, rest) = take(tokens, Keyword(keywords::REPLACEABLE))?;
@@ -208,7 +207,7 @@ fn modifying<'t, 'a>(
     left: u32,
     tokens: &'t [Token<'a>],
 ) -> Reading<'t, 'a, Argued<'a>>
-    ensures reads { Gives (λ x. read (argued x.0) (lexemes x.1.now)) result (reads_form modifying_form (limits_inside left) (lexemes tokens.now)) }
+    ensures reads { ReadsAs argued result (reads_inside modifying_form left tokens.now) }
     ensures shorter { IfOk result (λ x. length x.1.now < length tokens.now) }
 {
     let place = place_of(tokens);
@@ -226,7 +225,7 @@ pub fn optional_modification<'t, 'a>(
     left: u32,
     tokens: &'t [Token<'a>],
 ) -> Reading<'t, 'a, Option<(Mods, Option<Expr>)>>
-    ensures reads { Gives with_rest result (reads_form (optional modification_form) (limits_inside left) (lexemes tokens.now)) }
+    ensures reads { Gives with_rest result (reads_inside (optional modification_form) left tokens.now) }
     ensures no_longer { IfOk result (λ x. length x.1.now ≤ length tokens.now) }
 {
     if !is_next_any(
@@ -250,7 +249,7 @@ fn modification<'t, 'a>(
     left: u32,
     tokens: &'t [Token<'a>],
 ) -> Reading<'t, 'a, (Mods, Option<Expr>)>
-    ensures reads { Gives with_rest result (reads_form modification_form (limits_inside left) (lexemes tokens.now)) }
+    ensures reads { Gives with_rest result (reads_inside modification_form left tokens.now) }
     ensures shorter { IfOk result (λ x. length x.1.now < length tokens.now) }
 {
     if is_next(tokens, Operator(operators::OPEN_PAREN)) {

@@ -1,10 +1,8 @@
 //! Statements that hold statements.
 ghost use Rattle.std.specs.Prelude.{◌≡◌, ◌<◌, ◌≤◌, length, IfOk};
-ghost use Rattle.mo_grammar.specs.Lexeme.{lexemes};
 ghost use Rattle.mo_grammar.specs.Grammar.{many};
 ghost use Rattle.mo_grammar.specs.Classes.{statement_branch, if_st, for_st, while_st, when_st};
-ghost use Rattle.mo_grammar.specs.Language.{limits_inside, reads_form};
-ghost use Rattle.mo_grammar.specs.Answers.{Gives, with_rest};
+ghost use Rattle.mo_grammar.specs.Answers.{Gives, with_rest, reads_inside};
 ghost use Rattle.mo_read_body.specs.steps.StatementParts.{elseif_branch as elseif_branch_form, elsewhen_branch as elsewhen_branch_form, otherwise as otherwise_form};
 
 use crate::algorithms::statements;
@@ -25,7 +23,7 @@ pub fn if_statement<'t, 'a>(
     left: u32,
     tokens: &'t [Token<'a>],
 ) -> Reading<'t, 'a, StatementKind>
-    ensures reads { Gives with_rest result (reads_form if_st (limits_inside left) (lexemes tokens.now)) }
+    ensures reads { Gives with_rest result (reads_inside if_st left tokens.now) }
     ensures shorter { IfOk result (λ x. length x.1.now < length tokens.now) }
 {
     if left == 0 {
@@ -51,7 +49,7 @@ fn branch<'t, 'a>(
     left: u32,
     tokens: &'t [Token<'a>],
 ) -> Reading<'t, 'a, (Expr, List<Statement>)>
-    ensures reads { Gives with_rest result (reads_form statement_branch (limits_inside left) (lexemes tokens.now)) }
+    ensures reads { Gives with_rest result (reads_inside statement_branch left tokens.now) }
     ensures shorter { IfOk result (λ x. length x.1.now < length tokens.now) }
 {
     let (condition, rest) = expression(alloc, left, tokens)?;
@@ -67,7 +65,7 @@ fn elseif_branches<'t, 'a>(
     left: u32,
     tokens: &'t [Token<'a>],
 ) -> Reading<'t, 'a, List<(Expr, List<Statement>)>>
-    ensures reads { Gives with_rest result (reads_form (many elseif_branch_form) (limits_inside left) (lexemes tokens.now)) }
+    ensures reads { Gives with_rest result (reads_inside (many elseif_branch_form) left tokens.now) }
     ensures no_longer { IfOk result (λ x. length x.1.now ≤ length tokens.now) }
 {
     let (mut all, mut rest) = none_yet(alloc, tokens);
@@ -86,7 +84,7 @@ fn elseif_branch<'t, 'a>(
     left: u32,
     tokens: &'t [Token<'a>],
 ) -> Reading<'t, 'a, (Expr, List<Statement>)>
-    ensures reads { Gives with_rest result (reads_form elseif_branch_form (limits_inside left) (lexemes tokens.now)) }
+    ensures reads { Gives with_rest result (reads_inside elseif_branch_form left tokens.now) }
     ensures shorter { IfOk result (λ x. length x.1.now < length tokens.now) }
 {
     let (_, rest) = take(tokens, Keyword(keywords::ELSEIF))?;
@@ -100,7 +98,7 @@ fn otherwise<'t, 'a>(
     left: u32,
     tokens: &'t [Token<'a>],
 ) -> Reading<'t, 'a, Option<List<Statement>>>
-    ensures reads { Gives with_rest result (reads_form otherwise_form (limits_inside left) (lexemes tokens.now)) }
+    ensures reads { Gives with_rest result (reads_inside otherwise_form left tokens.now) }
     ensures no_longer { IfOk result (λ x. length x.1.now ≤ length tokens.now) }
 {
     if !is_next(tokens, Keyword(keywords::ELSE)) {
@@ -119,7 +117,7 @@ pub fn for_statement<'t, 'a>(
     left: u32,
     tokens: &'t [Token<'a>],
 ) -> Reading<'t, 'a, StatementKind>
-    ensures reads { Gives with_rest result (reads_form for_st (limits_inside left) (lexemes tokens.now)) }
+    ensures reads { Gives with_rest result (reads_inside for_st left tokens.now) }
     ensures shorter { IfOk result (λ x. length x.1.now < length tokens.now) }
 {
     if left == 0 {
@@ -142,7 +140,7 @@ pub fn while_statement<'t, 'a>(
     left: u32,
     tokens: &'t [Token<'a>],
 ) -> Reading<'t, 'a, StatementKind>
-    ensures reads { Gives with_rest result (reads_form while_st (limits_inside left) (lexemes tokens.now)) }
+    ensures reads { Gives with_rest result (reads_inside while_st left tokens.now) }
     ensures shorter { IfOk result (λ x. length x.1.now < length tokens.now) }
 {
     if left == 0 {
@@ -165,7 +163,7 @@ pub fn when_statement<'t, 'a>(
     left: u32,
     tokens: &'t [Token<'a>],
 ) -> Reading<'t, 'a, StatementKind>
-    ensures reads { Gives with_rest result (reads_form when_st (limits_inside left) (lexemes tokens.now)) }
+    ensures reads { Gives with_rest result (reads_inside when_st left tokens.now) }
     ensures shorter { IfOk result (λ x. length x.1.now < length tokens.now) }
 {
     if left == 0 {
@@ -186,7 +184,7 @@ fn elsewhen_branches<'t, 'a>(
     left: u32,
     tokens: &'t [Token<'a>],
 ) -> Reading<'t, 'a, List<(Expr, List<Statement>)>>
-    ensures reads { Gives with_rest result (reads_form (many elsewhen_branch_form) (limits_inside left) (lexemes tokens.now)) }
+    ensures reads { Gives with_rest result (reads_inside (many elsewhen_branch_form) left tokens.now) }
     ensures no_longer { IfOk result (λ x. length x.1.now ≤ length tokens.now) }
 {
     let (mut all, mut rest) = none_yet(alloc, tokens);
@@ -205,7 +203,7 @@ fn elsewhen_branch<'t, 'a>(
     left: u32,
     tokens: &'t [Token<'a>],
 ) -> Reading<'t, 'a, (Expr, List<Statement>)>
-    ensures reads { Gives with_rest result (reads_form elsewhen_branch_form (limits_inside left) (lexemes tokens.now)) }
+    ensures reads { Gives with_rest result (reads_inside elsewhen_branch_form left tokens.now) }
     ensures shorter { IfOk result (λ x. length x.1.now < length tokens.now) }
 {
     let (_, rest) = take(tokens, Keyword(keywords::ELSEWHEN))?;

@@ -1,13 +1,10 @@
 //! Short class definitions.
 ghost use Rattle.std.specs.Prelude.{◌≡◌, ◌<◌, ◌≤◌, length, IfOk};
-ghost use Rattle.mo_grammar.specs.Lexeme.{lexemes};
 ghost use Rattle.mo_grammar.specs.Codes.{comma};
 ghost use Rattle.mo_grammar.specs.Grammar.{either};
 ghost use Rattle.mo_grammar.specs.Forms.{behind};
-ghost use Rattle.mo_grammar.specs.Reading.{read};
 ghost use Rattle.mo_grammar.specs.Classes.{enumeration as enumeration_form, literals as literals_form, short_class as short_class_form};
-ghost use Rattle.mo_grammar.specs.Language.{limits_inside, reads_form};
-ghost use Rattle.mo_grammar.specs.Answers.{Gives, with_rest};
+ghost use Rattle.mo_grammar.specs.Answers.{Gives, with_rest, ReadsAs, reads_inside};
 ghost use Rattle.mo_read_body.specs.steps.Parts.{short_definition, literal as literal_form, in_enumeration, between_parens};
 ghost use Rattle.mo_class_parts.specs.Seen.{declares};
 
@@ -30,7 +27,7 @@ pub fn short_class_definition<'t, 'a>(
     left: u32,
     tokens: &'t [Token<'a>],
 ) -> Reading<'t, 'a, (Token<'a>, What)>
-    ensures reads { Gives (λ x. read (declares x.0) (lexemes x.1.now)) result (reads_form short_definition (limits_inside left) (lexemes tokens.now)) }
+    ensures reads { ReadsAs declares result (reads_inside short_definition left tokens.now) }
     ensures shorter { IfOk result (λ x. length x.1.now < length tokens.now) }
 {
     let ((kind, flags), rest) = class_prefixes(tokens)?;
@@ -55,7 +52,7 @@ pub fn short_body<'t, 'a>(
     left: u32,
     tokens: &'t [Token<'a>],
 ) -> Reading<'t, 'a, Body>
-    ensures reads { Gives with_rest result (reads_form (either enumeration_form short_class_form) (limits_inside left) (lexemes tokens.now)) }
+    ensures reads { Gives with_rest result (reads_inside (either enumeration_form short_class_form) left tokens.now) }
     ensures shorter { IfOk result (λ x. length x.1.now < length tokens.now) }
 {
     if is_next(tokens, Keyword(keywords::ENUMERATION)) {
@@ -68,7 +65,7 @@ pub fn short_body<'t, 'a>(
 /// A type with its dimensions and its modifiers.
 #[cycle(modification)]
 fn short_class<'t, 'a>(alloc: Global, left: u32, tokens: &'t [Token<'a>]) -> Reading<'t, 'a, Body>
-    ensures reads { Gives with_rest result (reads_form short_class_form (limits_inside left) (lexemes tokens.now)) }
+    ensures reads { Gives with_rest result (reads_inside short_class_form left tokens.now) }
     ensures shorter { IfOk result (λ x. length x.1.now < length tokens.now) }
 {
     let (way, rest) = causality(tokens);
@@ -88,7 +85,7 @@ fn short_class<'t, 'a>(alloc: Global, left: u32, tokens: &'t [Token<'a>]) -> Rea
 /// An enumeration with its comment.
 #[cycle(modification)]
 fn enumeration<'t, 'a>(alloc: Global, left: u32, tokens: &'t [Token<'a>]) -> Reading<'t, 'a, Body>
-    ensures reads { Gives with_rest result (reads_form enumeration_form (limits_inside left) (lexemes tokens.now)) }
+    ensures reads { Gives with_rest result (reads_inside enumeration_form left tokens.now) }
     ensures shorter { IfOk result (λ x. length x.1.now < length tokens.now) }
 {
     let (_, rest) = take(tokens, Keyword(keywords::ENUMERATION))?;
@@ -105,7 +102,7 @@ fn enclosed_literals<'t, 'a>(
     left: u32,
     tokens: &'t [Token<'a>],
 ) -> Reading<'t, 'a, Option<List<Text>>>
-    ensures reads { Gives with_rest result (reads_form (between_parens in_enumeration) (limits_inside left) (lexemes tokens.now)) }
+    ensures reads { Gives with_rest result (reads_inside (between_parens in_enumeration) left tokens.now) }
     ensures shorter { IfOk result (λ x. length x.1.now < length tokens.now) }
 {
     if left == 0 {
@@ -124,7 +121,7 @@ fn literals_or_open<'t, 'a>(
     left: u32,
     tokens: &'t [Token<'a>],
 ) -> Reading<'t, 'a, Option<List<Text>>>
-    ensures reads { Gives with_rest result (reads_form in_enumeration (limits_inside left) (lexemes tokens.now)) }
+    ensures reads { Gives with_rest result (reads_inside in_enumeration left tokens.now) }
     ensures no_longer { IfOk result (λ x. length x.1.now ≤ length tokens.now) }
 {
     if is_next(tokens, Operator(operators::COLON)) {
@@ -145,7 +142,7 @@ fn literals<'t, 'a>(
     left: u32,
     tokens: &'t [Token<'a>],
 ) -> Reading<'t, 'a, List<Text>>
-    ensures reads { Gives with_rest result (reads_form literals_form (limits_inside left) (lexemes tokens.now)) }
+    ensures reads { Gives with_rest result (reads_inside literals_form left tokens.now) }
     ensures shorter { IfOk result (λ x. length x.1.now < length tokens.now) }
 {
     let (first, mut rest) = literal(alloc, left, tokens)?;
@@ -162,7 +159,7 @@ fn literals<'t, 'a>(
 /// A comma and a literal.
 #[cycle(modification)]
 fn next_literal<'t, 'a>(alloc: Global, left: u32, tokens: &'t [Token<'a>]) -> Reading<'t, 'a, Text>
-    ensures reads { Gives with_rest result (reads_form (behind comma literal_form) (limits_inside left) (lexemes tokens.now)) }
+    ensures reads { Gives with_rest result (reads_inside (behind comma literal_form) left tokens.now) }
     ensures shorter { IfOk result (λ x. length x.1.now < length tokens.now) }
 {
     let (_, rest) = take(tokens, Operator(operators::COMMA))?;
@@ -172,7 +169,7 @@ fn next_literal<'t, 'a>(alloc: Global, left: u32, tokens: &'t [Token<'a>]) -> Re
 /// A literal of an enumeration with its comment.
 #[cycle(modification)]
 fn literal<'t, 'a>(alloc: Global, left: u32, tokens: &'t [Token<'a>]) -> Reading<'t, 'a, Text>
-    ensures reads { Gives with_rest result (reads_form literal_form (limits_inside left) (lexemes tokens.now)) }
+    ensures reads { Gives with_rest result (reads_inside literal_form left tokens.now) }
     ensures shorter { IfOk result (λ x. length x.1.now < length tokens.now) }
 {
     let (name, rest) = take(tokens, Ident)?;

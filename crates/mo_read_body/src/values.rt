@@ -1,12 +1,11 @@
 //! Dimensions and values that may be left out.
 ghost use Rattle.std.specs.Prelude.{◌≤◌, length, IfOk};
-ghost use Rattle.mo_grammar.specs.Lexeme.{lexemes};
 ghost use Rattle.mo_grammar.specs.Codes.{equals};
 ghost use Rattle.mo_grammar.specs.Grammar.{symbol};
-ghost use Rattle.mo_grammar.specs.Symbols.{Expressions, Subscripts};
-ghost use Rattle.mo_grammar.specs.Forms.{optional, behind};
-ghost use Rattle.mo_grammar.specs.Language.{limits_inside, reads_form};
-ghost use Rattle.mo_grammar.specs.Answers.{Gives, with_rest};
+ghost use Rattle.mo_grammar.specs.Expressions.{expression_behind};
+ghost use Rattle.mo_grammar.specs.Symbols.{Subscripts};
+ghost use Rattle.mo_grammar.specs.Forms.{optional};
+ghost use Rattle.mo_grammar.specs.Answers.{Gives, with_rest, reads_inside};
 
 use mo_grammar::{Reading, is_next, take};
 use mo_read_expr::{expression, subscripts};
@@ -21,7 +20,7 @@ pub fn optional_subscripts<'t, 'a>(
     left: u32,
     tokens: &'t [Token<'a>],
 ) -> Reading<'t, 'a, Option<List<Option<Expr>>>>
-    ensures reads { Gives with_rest result (reads_form (optional (symbol Subscripts)) (limits_inside left) (lexemes tokens.now)) }
+    ensures reads { Gives with_rest result (reads_inside (optional (symbol Subscripts)) left tokens.now) }
     ensures no_longer { IfOk result (λ x. length x.1.now ≤ length tokens.now) }
 {
     if !is_next(tokens, Operator(operators::OPEN_BRACKET)) {
@@ -37,7 +36,7 @@ pub fn optional_value<'t, 'a>(
     left: u32,
     tokens: &'t [Token<'a>],
 ) -> Reading<'t, 'a, Option<Expr>>
-    ensures reads { Gives with_rest result (reads_form (optional (behind equals (symbol Expressions))) (limits_inside left) (lexemes tokens.now)) }
+    ensures reads { Gives with_rest result (reads_inside (optional (expression_behind equals)) left tokens.now) }
     ensures no_longer { IfOk result (λ x. length x.1.now ≤ length tokens.now) }
 {
     if !is_next(tokens, Operator(operators::EQUALS)) {

@@ -3,8 +3,8 @@ ghost use Rattle.std.specs.Prelude.{◌<◌, ◌≤◌, length, IfOk};
 ghost use Rattle.mo_grammar.specs.Lexeme.{lexemes};
 ghost use Rattle.mo_grammar.specs.Symbols.{WhenEquations};
 ghost use Rattle.mo_grammar.specs.Classes.{when_eq};
-ghost use Rattle.mo_grammar.specs.Language.{limits_inside, reads, reads_form};
-ghost use Rattle.mo_grammar.specs.Answers.{Gives, with_rest};
+ghost use Rattle.mo_grammar.specs.Language.{limits_inside, reads};
+ghost use Rattle.mo_grammar.specs.Answers.{Gives, with_rest, reads_inside};
 ghost use Rattle.mo_read_body.specs.steps.EquationParts.{in_when, when_branch as when_branch_form, elsewhen_tail, reads_when_tail, behind_equations, behind_branch, joined_branch};
 
 use crate::equations::equation_line;
@@ -24,7 +24,7 @@ pub fn when_equation<'t, 'a>(
     left: u32,
     tokens: &'t [Token<'a>],
 ) -> Reading<'t, 'a, EquationKind>
-    ensures reads { Gives with_rest result (reads_form when_eq (limits_inside left) (lexemes tokens.now)) }
+    ensures reads { Gives with_rest result (reads_inside when_eq left tokens.now) }
     ensures shorter { IfOk result (λ x. length x.1.now < length tokens.now) }
 {
     if left == 0 {
@@ -42,7 +42,7 @@ fn when_branches<'t, 'a>(
     left: u32,
     tokens: &'t [Token<'a>],
 ) -> Reading<'t, 'a, EquationKind>
-    ensures reads { Gives with_rest result (reads_form in_when (limits_inside left) (lexemes tokens.now)) }
+    ensures reads { Gives with_rest result (reads_inside in_when left tokens.now) }
     ensures shorter { IfOk result (λ x. length x.1.now < length tokens.now) }
 {
     let (first, mut rest) = when_branch(alloc, left, tokens)?;
@@ -65,7 +65,7 @@ fn elsewhen_branch<'t, 'a>(
     left: u32,
     tokens: &'t [Token<'a>],
 ) -> Reading<'t, 'a, (Expr, List<Equation>)>
-    ensures reads { Gives (λ x. joined_branch x.0 (reads_when_tail (limits_inside left) (lexemes x.1.now))) result (reads_form elsewhen_tail (limits_inside left) (lexemes tokens.now)) }
+    ensures reads { Gives (λ x. joined_branch x.0 (reads_when_tail (limits_inside left) (lexemes x.1.now))) result (reads_inside elsewhen_tail left tokens.now) }
     ensures shorter { IfOk result (λ x. length x.1.now < length tokens.now) }
 {
     let (_, rest) = take(tokens, Keyword(keywords::ELSEWHEN))?;
@@ -79,7 +79,7 @@ fn when_branch<'t, 'a>(
     left: u32,
     tokens: &'t [Token<'a>],
 ) -> Reading<'t, 'a, (Expr, List<Equation>)>
-    ensures reads { Gives (λ x. behind_branch x.0 (reads_when_tail (limits_inside left) (lexemes x.1.now))) result (reads_form when_branch_form (limits_inside left) (lexemes tokens.now)) }
+    ensures reads { Gives (λ x. behind_branch x.0 (reads_when_tail (limits_inside left) (lexemes x.1.now))) result (reads_inside when_branch_form left tokens.now) }
     ensures shorter { IfOk result (λ x. length x.1.now < length tokens.now) }
 {
     let (condition, rest) = expression(alloc, left, tokens)?;

@@ -6,8 +6,8 @@ ghost use Rattle.mo_grammar.specs.Grammar.{many, symbol};
 ghost use Rattle.mo_grammar.specs.Forms.{behind, between, optional};
 ghost use Rattle.mo_grammar.specs.Symbols.{CallArguments, Arguments, MoreArguments, OneArgument, Indices};
 ghost use Rattle.mo_grammar.specs.Expressions.{function_argument as function_argument_form, named as named_form, named_list as named_list_form, index as index_form};
-ghost use Rattle.mo_grammar.specs.Language.{limits_inside, reads, reads_form};
-ghost use Rattle.mo_grammar.specs.Answers.{Gives, with_rest};
+ghost use Rattle.mo_grammar.specs.Language.{limits_inside, reads};
+ghost use Rattle.mo_grammar.specs.Answers.{Gives, with_rest, reads_inside};
 
 use crate::expressions::{expression, expression_behind};
 use mo_expr_parts::{
@@ -80,7 +80,7 @@ fn optional_arguments<'t, 'a>(
     left: u32,
     tokens: &'t [Token<'a>],
 ) -> Reading<'t, 'a, Option<Given>>
-    ensures reads { Gives with_rest result (reads_form (optional (behind comma (symbol MoreArguments))) (limits_inside left) (lexemes tokens.now)) }
+    ensures reads { Gives with_rest result (reads_inside (optional (behind comma (symbol MoreArguments))) left tokens.now) }
     ensures no_longer { IfOk result (λ x. length x.1.now ≤ length tokens.now) }
 {
     if is_next(tokens, Operator(operators::COMMA)) {
@@ -139,7 +139,7 @@ fn function_argument<'t, 'a>(
     left: u32,
     tokens: &'t [Token<'a>],
 ) -> Reading<'t, 'a, Arg>
-    ensures reads { Gives with_rest result (reads_form function_argument_form (limits_inside left) (lexemes tokens.now)) }
+    ensures reads { Gives with_rest result (reads_inside function_argument_form left tokens.now) }
     ensures shorter { IfOk result (λ x. length x.1.now < length tokens.now) }
 {
     let (_, rest) = take(tokens, Keyword(keywords::FUNCTION))?;
@@ -156,7 +156,7 @@ fn enclosed_named<'t, 'a>(
     left: u32,
     tokens: &'t [Token<'a>],
 ) -> Reading<'t, 'a, Option<List<(Text, Arg)>>>
-    ensures reads { Gives with_rest result (reads_form (between open_paren close_paren (optional named_list_form)) (limits_inside left) (lexemes tokens.now)) }
+    ensures reads { Gives with_rest result (reads_inside (between open_paren close_paren (optional named_list_form)) left tokens.now) }
     ensures shorter { IfOk result (λ x. length x.1.now < length tokens.now) }
 {
     if left == 0 {
@@ -181,7 +181,7 @@ fn named_list<'t, 'a>(
     left: u32,
     tokens: &'t [Token<'a>],
 ) -> Reading<'t, 'a, List<(Text, Arg)>>
-    ensures reads { Gives with_rest result (reads_form named_list_form (limits_inside left) (lexemes tokens.now)) }
+    ensures reads { Gives with_rest result (reads_inside named_list_form left tokens.now) }
     ensures shorter { IfOk result (λ x. length x.1.now < length tokens.now) }
 {
     let (name, rest) = take(tokens, Ident)?;
@@ -198,7 +198,7 @@ fn further_named<'t, 'a>(
     left: u32,
     tokens: &'t [Token<'a>],
 ) -> Reading<'t, 'a, List<(Text, Arg)>>
-    ensures reads { Gives with_rest result (reads_form (many (behind comma named_form)) (limits_inside left) (lexemes tokens.now)) }
+    ensures reads { Gives with_rest result (reads_inside (many (behind comma named_form)) left tokens.now) }
     ensures no_longer { IfOk result (λ x. length x.1.now ≤ length tokens.now) }
 {
     let (mut all, mut rest) = none_yet(alloc, tokens);
@@ -217,7 +217,7 @@ fn named_behind_comma<'t, 'a>(
     left: u32,
     tokens: &'t [Token<'a>],
 ) -> Reading<'t, 'a, (Text, Arg)>
-    ensures reads { Gives with_rest result (reads_form (behind comma named_form) (limits_inside left) (lexemes tokens.now)) }
+    ensures reads { Gives with_rest result (reads_inside (behind comma named_form) left tokens.now) }
     ensures shorter { IfOk result (λ x. length x.1.now < length tokens.now) }
 {
     let (_, rest) = take(tokens, Operator(operators::COMMA))?;
@@ -233,7 +233,7 @@ fn argument_behind_equals<'t, 'a>(
     left: u32,
     tokens: &'t [Token<'a>],
 ) -> Reading<'t, 'a, Arg>
-    ensures reads { Gives with_rest result (reads_form (behind equals (symbol OneArgument)) (limits_inside left) (lexemes tokens.now)) }
+    ensures reads { Gives with_rest result (reads_inside (behind equals (symbol OneArgument)) left tokens.now) }
     ensures shorter { IfOk result (λ x. length x.1.now < length tokens.now) }
 {
     let (_, rest) = take(tokens, Operator(operators::EQUALS))?;
@@ -263,7 +263,7 @@ fn further_indices<'t, 'a>(
     left: u32,
     tokens: &'t [Token<'a>],
 ) -> Reading<'t, 'a, List<Index>>
-    ensures reads { Gives with_rest result (reads_form (many (behind comma index_form)) (limits_inside left) (lexemes tokens.now)) }
+    ensures reads { Gives with_rest result (reads_inside (many (behind comma index_form)) left tokens.now) }
     ensures no_longer { IfOk result (λ x. length x.1.now ≤ length tokens.now) }
 {
     let (mut all, mut rest) = none_yet(alloc, tokens);
@@ -282,7 +282,7 @@ fn index_behind_comma<'t, 'a>(
     left: u32,
     tokens: &'t [Token<'a>],
 ) -> Reading<'t, 'a, Index>
-    ensures reads { Gives with_rest result (reads_form (behind comma index_form) (limits_inside left) (lexemes tokens.now)) }
+    ensures reads { Gives with_rest result (reads_inside (behind comma index_form) left tokens.now) }
     ensures shorter { IfOk result (λ x. length x.1.now < length tokens.now) }
 {
     let (_, rest) = take(tokens, Operator(operators::COMMA))?;
@@ -292,7 +292,7 @@ fn index_behind_comma<'t, 'a>(
 /// An iteration variable, with its range if one is given.
 #[cycle(readers)]
 fn index<'t, 'a>(alloc: Global, left: u32, tokens: &'t [Token<'a>]) -> Reading<'t, 'a, Index>
-    ensures reads { Gives with_rest result (reads_form index_form (limits_inside left) (lexemes tokens.now)) }
+    ensures reads { Gives with_rest result (reads_inside index_form left tokens.now) }
     ensures shorter { IfOk result (λ x. length x.1.now < length tokens.now) }
 {
     let (name, rest) = take(tokens, Ident)?;

@@ -5,9 +5,9 @@ ghost use Rattle.mo_grammar.specs.Codes.{or_word, and_word};
 ghost use Rattle.mo_grammar.specs.Grammar.{seq, many, symbol};
 ghost use Rattle.mo_grammar.specs.Forms.{behind, optional};
 ghost use Rattle.mo_grammar.specs.Symbols.{Expressions, Simples, Logicals, Conjunctions, Negations, Relations, Sums, Products, Powers};
-ghost use Rattle.mo_grammar.specs.Expressions.{if_expression as if_expression_form, further_branch as further_branch_form, further_term as further_term_form, further_factor as further_factor_form};
-ghost use Rattle.mo_grammar.specs.Language.{limits_inside, reads, reads_form};
-ghost use Rattle.mo_grammar.specs.Answers.{Gives, with_rest};
+ghost use Rattle.mo_grammar.specs.Expressions.{expression_behind as expression_behind_form, if_expression as if_expression_form, further_branch as further_branch_form, further_term as further_term_form, further_factor as further_factor_form};
+ghost use Rattle.mo_grammar.specs.Language.{limits_inside, reads};
+ghost use Rattle.mo_grammar.specs.Answers.{Gives, with_rest, reads_inside};
 
 use crate::primaries::primary;
 use mo_expr_parts::marks::{FACTOR_MARKS, POWER_MARKS, RELATIONS, SIGNS};
@@ -45,7 +45,7 @@ pub fn expression<'t, 'a>(
 #[cycle(readers)]
 #[tactic(auto, using(mo_grammar::proofs::Readers::none_left, mo_grammar::proofs::Readers::some_left))]
 fn if_expression<'t, 'a>(alloc: Global, left: u32, tokens: &'t [Token<'a>]) -> Reading<'t, 'a, Expr>
-    ensures reads { Gives with_rest result (reads_form if_expression_form (limits_inside left) (lexemes tokens.now)) }
+    ensures reads { Gives with_rest result (reads_inside if_expression_form left tokens.now) }
     ensures shorter { IfOk result (λ x. length x.1.now < length tokens.now) }
 {
     if left == 0 {
@@ -71,7 +71,7 @@ fn further_branches<'t, 'a>(
     left: u32,
     tokens: &'t [Token<'a>],
 ) -> Reading<'t, 'a, List<Branch>>
-    ensures reads { Gives with_rest result (reads_form (many further_branch_form) (limits_inside left) (lexemes tokens.now)) }
+    ensures reads { Gives with_rest result (reads_inside (many further_branch_form) left tokens.now) }
     ensures no_longer { IfOk result (λ x. length x.1.now ≤ length tokens.now) }
 {
     let (mut all, mut rest) = none_yet(alloc, tokens);
@@ -90,7 +90,7 @@ fn further_branch<'t, 'a>(
     left: u32,
     tokens: &'t [Token<'a>],
 ) -> Reading<'t, 'a, Branch>
-    ensures reads { Gives with_rest result (reads_form further_branch_form (limits_inside left) (lexemes tokens.now)) }
+    ensures reads { Gives with_rest result (reads_inside further_branch_form left tokens.now) }
     ensures shorter { IfOk result (λ x. length x.1.now < length tokens.now) }
 {
     let (condition, rest) = expression_behind(alloc, left, tokens, Keyword(keywords::ELSEIF))?;
@@ -106,7 +106,7 @@ pub fn expression_behind<'t, 'a>(
     tokens: &'t [Token<'a>],
     mark: TokenKind,
 ) -> Reading<'t, 'a, Expr>
-    ensures reads { Gives with_rest result (reads_form (behind (code_of_kind mark) (symbol Expressions)) (limits_inside left) (lexemes tokens.now)) }
+    ensures reads { Gives with_rest result (reads_inside (expression_behind_form (code_of_kind mark)) left tokens.now) }
     ensures shorter { IfOk result (λ x. length x.1.now < length tokens.now) }
 {
     let (_, rest) = take(tokens, mark)?;
@@ -120,7 +120,7 @@ pub(crate) fn optional_expression<'t, 'a>(
     left: u32,
     tokens: &'t [Token<'a>],
 ) -> Reading<'t, 'a, Option<Expr>>
-    ensures reads { Gives with_rest result (reads_form (optional (symbol Expressions)) (limits_inside left) (lexemes tokens.now)) }
+    ensures reads { Gives with_rest result (reads_inside (optional (symbol Expressions)) left tokens.now) }
     ensures no_longer { IfOk result (λ x. length x.1.now ≤ length tokens.now) }
 {
     if begins_expression(tokens) {
@@ -187,7 +187,7 @@ fn further_conjunctions<'t, 'a>(
     left: u32,
     tokens: &'t [Token<'a>],
 ) -> Reading<'t, 'a, List<Expr>>
-    ensures reads { Gives with_rest result (reads_form (many (behind or_word (symbol Conjunctions))) (limits_inside left) (lexemes tokens.now)) }
+    ensures reads { Gives with_rest result (reads_inside (many (behind or_word (symbol Conjunctions))) left tokens.now) }
     ensures no_longer { IfOk result (λ x. length x.1.now ≤ length tokens.now) }
 {
     let (mut all, mut rest) = none_yet(alloc, tokens);
@@ -206,7 +206,7 @@ fn conjunction_behind_or<'t, 'a>(
     left: u32,
     tokens: &'t [Token<'a>],
 ) -> Reading<'t, 'a, Expr>
-    ensures reads { Gives with_rest result (reads_form (behind or_word (symbol Conjunctions)) (limits_inside left) (lexemes tokens.now)) }
+    ensures reads { Gives with_rest result (reads_inside (behind or_word (symbol Conjunctions)) left tokens.now) }
     ensures shorter { IfOk result (λ x. length x.1.now < length tokens.now) }
 {
     let (_, rest) = take(tokens, Keyword(keywords::OR))?;
@@ -237,7 +237,7 @@ fn further_negations<'t, 'a>(
     left: u32,
     tokens: &'t [Token<'a>],
 ) -> Reading<'t, 'a, List<Expr>>
-    ensures reads { Gives with_rest result (reads_form (many (behind and_word (symbol Negations))) (limits_inside left) (lexemes tokens.now)) }
+    ensures reads { Gives with_rest result (reads_inside (many (behind and_word (symbol Negations))) left tokens.now) }
     ensures no_longer { IfOk result (λ x. length x.1.now ≤ length tokens.now) }
 {
     let (mut all, mut rest) = none_yet(alloc, tokens);
@@ -256,7 +256,7 @@ fn negation_behind_and<'t, 'a>(
     left: u32,
     tokens: &'t [Token<'a>],
 ) -> Reading<'t, 'a, Expr>
-    ensures reads { Gives with_rest result (reads_form (behind and_word (symbol Negations)) (limits_inside left) (lexemes tokens.now)) }
+    ensures reads { Gives with_rest result (reads_inside (behind and_word (symbol Negations)) left tokens.now) }
     ensures shorter { IfOk result (λ x. length x.1.now < length tokens.now) }
 {
     let (_, rest) = take(tokens, Keyword(keywords::AND))?;
@@ -321,7 +321,7 @@ fn terms<'t, 'a>(
     left: u32,
     tokens: &'t [Token<'a>],
 ) -> Reading<'t, 'a, (Expr, List<Term>)>
-    ensures reads { Gives with_rest result (reads_form (seq (symbol Products) (many further_term_form)) (limits_inside left) (lexemes tokens.now)) }
+    ensures reads { Gives with_rest result (reads_inside (seq (symbol Products) (many further_term_form)) left tokens.now) }
     ensures shorter { IfOk result (λ x. length x.1.now < length tokens.now) }
 {
     let (first, rest) = product(alloc, left, tokens)?;
@@ -336,7 +336,7 @@ fn further_terms<'t, 'a>(
     left: u32,
     tokens: &'t [Token<'a>],
 ) -> Reading<'t, 'a, List<Term>>
-    ensures reads { Gives with_rest result (reads_form (many further_term_form) (limits_inside left) (lexemes tokens.now)) }
+    ensures reads { Gives with_rest result (reads_inside (many further_term_form) left tokens.now) }
     ensures no_longer { IfOk result (λ x. length x.1.now ≤ length tokens.now) }
 {
     let (mut all, mut rest) = none_yet(alloc, tokens);
@@ -351,7 +351,7 @@ fn further_terms<'t, 'a>(
 /// A sign and a term.
 #[cycle(readers)]
 fn further_term<'t, 'a>(alloc: Global, left: u32, tokens: &'t [Token<'a>]) -> Reading<'t, 'a, Term>
-    ensures reads { Gives with_rest result (reads_form further_term_form (limits_inside left) (lexemes tokens.now)) }
+    ensures reads { Gives with_rest result (reads_inside further_term_form left tokens.now) }
     ensures shorter { IfOk result (λ x. length x.1.now < length tokens.now) }
 {
     let (sign, rest) = take_any(tokens, &SIGNS)?;
@@ -379,7 +379,7 @@ fn further_factors<'t, 'a>(
     left: u32,
     tokens: &'t [Token<'a>],
 ) -> Reading<'t, 'a, List<Factor>>
-    ensures reads { Gives with_rest result (reads_form (many further_factor_form) (limits_inside left) (lexemes tokens.now)) }
+    ensures reads { Gives with_rest result (reads_inside (many further_factor_form) left tokens.now) }
     ensures no_longer { IfOk result (λ x. length x.1.now ≤ length tokens.now) }
 {
     let (mut all, mut rest) = none_yet(alloc, tokens);
@@ -398,7 +398,7 @@ fn further_factor<'t, 'a>(
     left: u32,
     tokens: &'t [Token<'a>],
 ) -> Reading<'t, 'a, Factor>
-    ensures reads { Gives with_rest result (reads_form further_factor_form (limits_inside left) (lexemes tokens.now)) }
+    ensures reads { Gives with_rest result (reads_inside further_factor_form left tokens.now) }
     ensures shorter { IfOk result (λ x. length x.1.now < length tokens.now) }
 {
     let (mark, rest) = take_any(tokens, &FACTOR_MARKS)?;

@@ -7,8 +7,8 @@ ghost use Rattle.mo_grammar.specs.Forms.{behind, optional, separated};
 ghost use Rattle.mo_grammar.specs.Trees.{reference_tree};
 ghost use Rattle.mo_grammar.specs.Symbols.{Expressions, Primaries, References, CallArguments};
 ghost use Rattle.mo_grammar.specs.Expressions.{word_call as word_call_form, output_list as output_list_form, outputs as outputs_form, matrix as matrix_form, exprs, array as array_form};
-ghost use Rattle.mo_grammar.specs.Language.{limits_inside, reads, reads_form};
-ghost use Rattle.mo_grammar.specs.Answers.{Gives, with_rest};
+ghost use Rattle.mo_grammar.specs.Language.{limits_inside, reads};
+ghost use Rattle.mo_grammar.specs.Answers.{Gives, with_rest, reads_inside};
 
 use crate::arguments::{call_arguments, indices};
 use crate::expressions::{expression, expression_behind, optional_expression};
@@ -52,7 +52,7 @@ pub(crate) fn primary<'t, 'a>(
 /// A call of `der`, `initial` or `pure`.
 #[cycle(readers)]
 fn word_call<'t, 'a>(alloc: Global, left: u32, tokens: &'t [Token<'a>]) -> Reading<'t, 'a, Expr>
-    ensures reads { Gives with_rest result (reads_form word_call_form (limits_inside left) (lexemes tokens.now)) }
+    ensures reads { Gives with_rest result (reads_inside word_call_form left tokens.now) }
     ensures shorter { IfOk result (λ x. length x.1.now < length tokens.now) }
 {
     let (word, rest) = take_any(tokens, &CALLED_WORDS)?;
@@ -68,7 +68,7 @@ fn reference_or_call<'t, 'a>(
     left: u32,
     tokens: &'t [Token<'a>],
 ) -> Reading<'t, 'a, Expr>
-    ensures reads { Gives with_rest result (reads_form (made reference_tree (placed (seq (symbol References) (optional (symbol CallArguments))))) (limits_inside left) (lexemes tokens.now)) }
+    ensures reads { Gives with_rest result (reads_inside (made reference_tree (placed (seq (symbol References) (optional (symbol CallArguments))))) left tokens.now) }
     ensures shorter { IfOk result (λ x. length x.1.now < length tokens.now) }
 {
     let place = place_of(tokens);
@@ -88,7 +88,7 @@ fn reference_or_call<'t, 'a>(
 #[cycle(readers)]
 #[tactic(auto, using(mo_grammar::proofs::Readers::none_left, mo_grammar::proofs::Readers::some_left))]
 fn output_list<'t, 'a>(alloc: Global, left: u32, tokens: &'t [Token<'a>]) -> Reading<'t, 'a, Expr>
-    ensures reads { Gives with_rest result (reads_form output_list_form (limits_inside left) (lexemes tokens.now)) }
+    ensures reads { Gives with_rest result (reads_inside output_list_form left tokens.now) }
     ensures shorter { IfOk result (λ x. length x.1.now < length tokens.now) }
 {
     if left == 0 {
@@ -108,7 +108,7 @@ pub fn outputs<'t, 'a>(
     left: u32,
     tokens: &'t [Token<'a>],
 ) -> Reading<'t, 'a, List<Option<Expr>>>
-    ensures reads { Gives with_rest result (reads_form outputs_form (limits_inside left) (lexemes tokens.now)) }
+    ensures reads { Gives with_rest result (reads_inside outputs_form left tokens.now) }
     ensures no_longer { IfOk result (λ x. length x.1.now ≤ length tokens.now) }
 {
     let (first, rest) = optional_expression(alloc, left, tokens)?;
@@ -123,7 +123,7 @@ fn further_outputs<'t, 'a>(
     left: u32,
     tokens: &'t [Token<'a>],
 ) -> Reading<'t, 'a, List<Option<Expr>>>
-    ensures reads { Gives with_rest result (reads_form (many (behind comma (optional (symbol Expressions)))) (limits_inside left) (lexemes tokens.now)) }
+    ensures reads { Gives with_rest result (reads_inside (many (behind comma (optional (symbol Expressions)))) left tokens.now) }
     ensures no_longer { IfOk result (λ x. length x.1.now ≤ length tokens.now) }
 {
     let (mut all, mut rest) = none_yet(alloc, tokens);
@@ -142,7 +142,7 @@ fn output_behind_comma<'t, 'a>(
     left: u32,
     tokens: &'t [Token<'a>],
 ) -> Reading<'t, 'a, Option<Expr>>
-    ensures reads { Gives with_rest result (reads_form (behind comma (optional (symbol Expressions))) (limits_inside left) (lexemes tokens.now)) }
+    ensures reads { Gives with_rest result (reads_inside (behind comma (optional (symbol Expressions))) left tokens.now) }
     ensures shorter { IfOk result (λ x. length x.1.now < length tokens.now) }
 {
     let (_, rest) = take(tokens, Operator(operators::COMMA))?;
@@ -153,7 +153,7 @@ fn output_behind_comma<'t, 'a>(
 #[cycle(readers)]
 #[tactic(auto, using(mo_grammar::proofs::Readers::none_left, mo_grammar::proofs::Readers::some_left))]
 fn matrix<'t, 'a>(alloc: Global, left: u32, tokens: &'t [Token<'a>]) -> Reading<'t, 'a, Expr>
-    ensures reads { Gives with_rest result (reads_form matrix_form (limits_inside left) (lexemes tokens.now)) }
+    ensures reads { Gives with_rest result (reads_inside matrix_form left tokens.now) }
     ensures shorter { IfOk result (λ x. length x.1.now < length tokens.now) }
 {
     if left == 0 {
@@ -173,7 +173,7 @@ fn rows<'t, 'a>(
     left: u32,
     tokens: &'t [Token<'a>],
 ) -> Reading<'t, 'a, List<List<Expr>>>
-    ensures reads { Gives with_rest result (reads_form (separated semicolon exprs) (limits_inside left) (lexemes tokens.now)) }
+    ensures reads { Gives with_rest result (reads_inside (separated semicolon exprs) left tokens.now) }
     ensures shorter { IfOk result (λ x. length x.1.now < length tokens.now) }
 {
     let (first, rest) = expressions(alloc, left, tokens)?;
@@ -188,7 +188,7 @@ fn further_rows<'t, 'a>(
     left: u32,
     tokens: &'t [Token<'a>],
 ) -> Reading<'t, 'a, List<List<Expr>>>
-    ensures reads { Gives with_rest result (reads_form (many (behind semicolon exprs)) (limits_inside left) (lexemes tokens.now)) }
+    ensures reads { Gives with_rest result (reads_inside (many (behind semicolon exprs)) left tokens.now) }
     ensures no_longer { IfOk result (λ x. length x.1.now ≤ length tokens.now) }
 {
     let (mut all, mut rest) = none_yet(alloc, tokens);
@@ -207,7 +207,7 @@ fn row_behind_semicolon<'t, 'a>(
     left: u32,
     tokens: &'t [Token<'a>],
 ) -> Reading<'t, 'a, List<Expr>>
-    ensures reads { Gives with_rest result (reads_form (behind semicolon exprs) (limits_inside left) (lexemes tokens.now)) }
+    ensures reads { Gives with_rest result (reads_inside (behind semicolon exprs) left tokens.now) }
     ensures shorter { IfOk result (λ x. length x.1.now < length tokens.now) }
 {
     let (_, rest) = take(tokens, Operator(operators::SEMICOLON))?;
@@ -221,7 +221,7 @@ fn expressions<'t, 'a>(
     left: u32,
     tokens: &'t [Token<'a>],
 ) -> Reading<'t, 'a, List<Expr>>
-    ensures reads { Gives with_rest result (reads_form exprs (limits_inside left) (lexemes tokens.now)) }
+    ensures reads { Gives with_rest result (reads_inside exprs left tokens.now) }
     ensures shorter { IfOk result (λ x. length x.1.now < length tokens.now) }
 {
     let (first, rest) = expression(alloc, left, tokens)?;
@@ -236,7 +236,7 @@ fn further_expressions<'t, 'a>(
     left: u32,
     tokens: &'t [Token<'a>],
 ) -> Reading<'t, 'a, List<Expr>>
-    ensures reads { Gives with_rest result (reads_form (many (behind comma (symbol Expressions))) (limits_inside left) (lexemes tokens.now)) }
+    ensures reads { Gives with_rest result (reads_inside (many (behind comma (symbol Expressions))) left tokens.now) }
     ensures no_longer { IfOk result (λ x. length x.1.now ≤ length tokens.now) }
 {
     let (mut all, mut rest) = none_yet(alloc, tokens);
@@ -252,7 +252,7 @@ fn further_expressions<'t, 'a>(
 #[cycle(readers)]
 #[tactic(auto, using(mo_grammar::proofs::Readers::none_left, mo_grammar::proofs::Readers::some_left))]
 fn array<'t, 'a>(alloc: Global, left: u32, tokens: &'t [Token<'a>]) -> Reading<'t, 'a, Expr>
-    ensures reads { Gives with_rest result (reads_form array_form (limits_inside left) (lexemes tokens.now)) }
+    ensures reads { Gives with_rest result (reads_inside array_form left tokens.now) }
     ensures shorter { IfOk result (λ x. length x.1.now < length tokens.now) }
 {
     if left == 0 {

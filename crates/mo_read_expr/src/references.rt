@@ -6,8 +6,8 @@ ghost use Rattle.mo_grammar.specs.Grammar.{many};
 ghost use Rattle.mo_grammar.specs.Forms.{behind};
 ghost use Rattle.mo_grammar.specs.Symbols.{References, Subscripts};
 ghost use Rattle.mo_grammar.specs.Expressions.{part as part_form, subscript as subscript_form};
-ghost use Rattle.mo_grammar.specs.Language.{limits_inside, reads, reads_form};
-ghost use Rattle.mo_grammar.specs.Answers.{Gives, with_rest};
+ghost use Rattle.mo_grammar.specs.Language.{limits_inside, reads};
+ghost use Rattle.mo_grammar.specs.Answers.{Gives, with_rest, reads_inside};
 
 use crate::expressions::expression;
 use mo_expr_parts::{joined, part_of};
@@ -42,7 +42,7 @@ fn further_parts<'t, 'a>(
     left: u32,
     tokens: &'t [Token<'a>],
 ) -> Reading<'t, 'a, List<Part>>
-    ensures reads { Gives with_rest result (reads_form (many (behind dot part_form)) (limits_inside left) (lexemes tokens.now)) }
+    ensures reads { Gives with_rest result (reads_inside (many (behind dot part_form)) left tokens.now) }
     ensures no_longer { IfOk result (λ x. length x.1.now ≤ length tokens.now) }
 {
     let (mut all, mut rest) = none_yet(alloc, tokens);
@@ -61,7 +61,7 @@ fn part_behind_dot<'t, 'a>(
     left: u32,
     tokens: &'t [Token<'a>],
 ) -> Reading<'t, 'a, Part>
-    ensures reads { Gives with_rest result (reads_form (behind dot part_form) (limits_inside left) (lexemes tokens.now)) }
+    ensures reads { Gives with_rest result (reads_inside (behind dot part_form) left tokens.now) }
     ensures shorter { IfOk result (λ x. length x.1.now < length tokens.now) }
 {
     let (_, rest) = take(tokens, Operator(operators::DOT))?;
@@ -71,7 +71,7 @@ fn part_behind_dot<'t, 'a>(
 /// An identifier with its subscripts.
 #[cycle(readers)]
 fn part<'t, 'a>(alloc: Global, left: u32, tokens: &'t [Token<'a>]) -> Reading<'t, 'a, Part>
-    ensures reads { Gives with_rest result (reads_form part_form (limits_inside left) (lexemes tokens.now)) }
+    ensures reads { Gives with_rest result (reads_inside part_form left tokens.now) }
     ensures shorter { IfOk result (λ x. length x.1.now < length tokens.now) }
 {
     let (name, rest) = take(tokens, Ident)?;
@@ -112,7 +112,7 @@ fn further_subscripts<'t, 'a>(
     left: u32,
     tokens: &'t [Token<'a>],
 ) -> Reading<'t, 'a, List<Option<Expr>>>
-    ensures reads { Gives with_rest result (reads_form (many (behind comma subscript_form)) (limits_inside left) (lexemes tokens.now)) }
+    ensures reads { Gives with_rest result (reads_inside (many (behind comma subscript_form)) left tokens.now) }
     ensures no_longer { IfOk result (λ x. length x.1.now ≤ length tokens.now) }
 {
     let (mut all, mut rest) = none_yet(alloc, tokens);
@@ -131,7 +131,7 @@ fn subscript_behind_comma<'t, 'a>(
     left: u32,
     tokens: &'t [Token<'a>],
 ) -> Reading<'t, 'a, Option<Expr>>
-    ensures reads { Gives with_rest result (reads_form (behind comma subscript_form) (limits_inside left) (lexemes tokens.now)) }
+    ensures reads { Gives with_rest result (reads_inside (behind comma subscript_form) left tokens.now) }
     ensures shorter { IfOk result (λ x. length x.1.now < length tokens.now) }
 {
     let (_, rest) = take(tokens, Operator(operators::COMMA))?;
@@ -145,7 +145,7 @@ fn subscript<'t, 'a>(
     left: u32,
     tokens: &'t [Token<'a>],
 ) -> Reading<'t, 'a, Option<Expr>>
-    ensures reads { Gives with_rest result (reads_form subscript_form (limits_inside left) (lexemes tokens.now)) }
+    ensures reads { Gives with_rest result (reads_inside subscript_form left tokens.now) }
     ensures shorter { IfOk result (λ x. length x.1.now < length tokens.now) }
 {
     if is_next(tokens, Operator(operators::COLON)) {
