@@ -1,9 +1,10 @@
 -- What the whole program writes, and where its answers come from.
-use Rattle.std.specs.Prelude.{◌≡◌, ℕ, List, [], ◌∷◌, ◌++◌, map, Option, Some, None, Contains, string_bytes}
+use Rattle.std.specs.Prelude.{◌≡◌, ◌⊎◌, ℕ, List, [], ◌∷◌, ◌++◌, map, IfSome, Option, Some, None, Contains, string_bytes}
 use Rattle.std.specs.declared.string.String.{String}
 use Rattle.std.specs.declared.alloc.Global.{Global}
 use Rattle.mo_syntax.specs.declared.text.Path.{Path}
 use Rattle.mo_ports.specs.Contents.{Contents}
+use Rattle.mo_ports.specs.Counts.{Rose}
 use Rattle.mo_ports.specs.Written.{AppendsFront, appended}
 use Rattle.mo_front.specs.declared.status.Status.{Status}
 use Rattle.mo_front.specs.declared.status.Status.TheVariants.{Done, Refused, Singular, Usage, ReadFault, WriteFault, NoMemory, Differs}
@@ -81,6 +82,49 @@ pub record WritesFront (Tells : Status → List ℕ → Type 0) (before after : 
   pub text : List ℕ
   pub told : Tells status text
   pub written : AppendsFront before after text
+
+-- the same of what is told of the files that the shelf holds; nothing is said of a shelf that tells nothing
+abbrev pub WritesOf : (Contents → Status → List ℕ → Type 0) → Option Contents → (before after : Option (List ℕ)) → Status → Type 0
+WritesOf tells told before after status = IfSome told (λ contents. WritesTold (tells contents) before after status)
+
+abbrev pub WritesFrontOf : (Contents → Status → List ℕ → Type 0) → Option Contents → (before after : Option (List ℕ)) → Type 0
+WritesFrontOf tells told before after = IfSome told (λ contents. WritesFront (tells contents) before after)
+
+-- With a status that comes with a text, one that is told of the words and of what the shelf holds was appended.
+abbrev pub Answers : List (String Global) → Option Contents → (before after : Option (List ℕ)) → Status → Type 0
+Answers words told before after status = IsAnswer status → WritesOf (TellsWords (words_of words)) told before after status
+
+-- Where a write failed, some of the first bytes of such a text were appended.
+abbrev pub BeginsAnswer : List (String Global) → Option Contents → (before after : Option (List ℕ)) → Status → Type 0
+BeginsAnswer words told before after status = status ≡ WriteFault → WritesFrontOf (TellsWords (words_of words)) told before after
+
+-- the words ask for nothing
+abbrev pub NamesNothing : List (List ℕ) → Type 0
+NamesNothing words = (asked : Words) → Names words asked → ⊥
+
+-- what holds where the words ask for that of a class in files, with no printed report
+abbrev pub WhereAsked : Emit → List (List ℕ) → Type 0 → Type 0
+WhereAsked emit words P = (class : Path) → (files : List (List ℕ)) → Names words (Job class emit files None) → P
+
+-- what holds where they ask for a ladder
+abbrev pub WhereLadder : List (List ℕ) → Type 0 → Type 0
+WhereLadder words P = (n : ℕ) → Names words (Make n) → P
+
+-- the count of faults stays
+abbrev pub Kept : {A : Type 0} → (A → ℕ) → (old new : A) → Type 0
+Kept faults old new = Rose (faults old) (faults new) → ⊥
+
+-- Where the words ask for something, the program ends with an answer or for want of memory.
+abbrev pub IsAnswered : List (String Global) → Status → Type 0
+IsAnswered words status = (asked : Words) → Names (words_of words) asked → IsAnswer status ⊎ (status ≡ NoMemory)
+
+-- two texts that are told are equal, and so are their statuses
+abbrev pub TellsOne : (Status → List ℕ → Type 0) → Type 0
+TellsOne tells = (status other : Status) (text more : List ℕ) → tells status text → tells other more → (status ≡ other) × (text ≡ more)
+
+-- what is told of a class in named files, whatever they hold
+abbrev pub FilesTellOne : (path names : List (List ℕ)) → Emit → Type 0
+FilesTellOne path names emit = (contents : Contents) → TellsOne (Tells path emit names contents)
 
 -- the name of the last failed read is one of these
 pub record IsNamedFault (failed : Option (List ℕ)) (names : List (List ℕ)) : Type 0 where

@@ -39,6 +39,10 @@ pub data FilesGive (path names : List (List ℕ)) (contents : Contents) (o : Out
   unread : (b : Broken) → Reads contents 1 all_files_limit names (Err b) → o ≡ broken b → FilesGive path names contents o
   read : (texts : List (List ℕ)) → Reads contents 1 all_files_limit names (Ok texts) → TextsGive path texts o → FilesGive path names contents o
 
+-- it gives at most one outcome
+abbrev pub GivesOne : (Outcome → Type 0) → Type 0
+GivesOne gives = (o p : Outcome) → gives o → gives p → o ≡ p
+
 -- ---- what is told
 
 -- what belongs to the file of that number, from 1

@@ -1,12 +1,11 @@
 //! The program over any shelf and sink.
-ghost use Rattle.std.specs.Prelude.{◌≡◌, ◌≢◌, ℕ, ◌≤◌, ◌⊎◌, List as Seq, length, IfOk, IfErr, IfSome, All};
+ghost use Rattle.std.specs.Prelude.{◌≡◌, ◌≢◌, ◌≤◌, ◌⊎◌, length, IfOk, IfErr, IfSome, All};
 ghost use Rattle.mo_ports.specs.Counts.{Rose};
 ghost use Rattle.mo_front.specs.Ladder.{TellsLadder};
 ghost use Rattle.mo_front.specs.Limits.{most_files, file_limit};
 ghost use Rattle.mo_front.specs.steps.Loading.{TellsTexts};
-ghost use Rattle.mo_front.specs.Run.{IsAnswer, IsNamedFault, IsSilent, NamesFault, NamesReport, TellsFiles, TellsWords, WritesTold, WritesFront, with_report, words_of};
+ghost use Rattle.mo_front.specs.Run.{IsAnswer, IsNamedFault, IsSilent, NamesFault, NamesReport, TellsFiles, WritesTold, WritesFront, with_report, words_of, Answers, BeginsAnswer, Kept, IsAnswered, NamesNothing, WhereAsked, WhereLadder, WritesFrontOf, WritesOf};
 ghost use Rattle.mo_front.specs.Told.{Breaks, Tells, TextsGive, WritesGiven, line_of_broken};
-ghost use Rattle.mo_front.specs.Words.{Names};
 ghost use Rattle.mo_syntax.specs.Outcome.{IfBroken};
 
 use crate::answer::of_texts;
@@ -28,21 +27,21 @@ use std::alloc::Global;
 /// All memory is taken before the first write.
 pub fn run<S: Shelf, W: Sink>(alloc: Global, words: &[String], shelf: &mut S, out: &mut W) -> Status
     // What is written: exactly a text that is told of what the shelf holds, nothing, or the front of such a text.
-    ensures told { IsAnswer result → IfSome (S.told shelf.old) (λ contents. WritesTold (TellsWords (words_of words.now) contents) (W.written out.old) (W.written out.new) result) }
+    ensures told { Answers words.now (S.told shelf.old) (W.written out.old) (W.written out.new) result }
     ensures silent { IsSilent result → W.written out.new ≡ W.written out.old }
-    ensures front { result ≡ Status.WriteFault → IfSome (S.told shelf.old) (λ contents. WritesFront (TellsWords (words_of words.now) contents) (W.written out.old) (W.written out.new)) }
+    ensures front { BeginsAnswer words.now (S.told shelf.old) (W.written out.old) (W.written out.new) result }
 
     // Where each answer comes from. Want of memory is the one free answer.
-    ensures usage { result ≡ Status.Usage → (asked : Words) → Names (words_of words.now) asked → ⊥ }
-    ensures only_usage { ((asked : Words) → Names (words_of words.now) asked → ⊥) → (result ≡ Status.Usage) ⊎ (result ≡ Status.NoMemory) }
-    ensures flat { (class : Path) → (files : Seq (Seq ℕ)) → Names (words_of words.now) (Words.Job class Emit.Flat files None) → result ≢ Status.Singular }
-    ensures alias { (class : Path) → (files : Seq (Seq ℕ)) → Names (words_of words.now) (Words.Job class Emit.Alias files None) → result ≢ Status.Singular }
+    ensures usage { result ≡ Status.Usage → NamesNothing (words_of words.now) }
+    ensures only_usage { NamesNothing (words_of words.now) → (result ≡ Status.Usage) ⊎ (result ≡ Status.NoMemory) }
+    ensures flat { WhereAsked Emit.Flat (words_of words.now) (result ≢ Status.Singular) }
+    ensures alias { WhereAsked Emit.Alias (words_of words.now) (result ≢ Status.Singular) }
     ensures differs { result ≡ Status.Differs → NamesReport (words_of words.now) }
-    ensures ladder { (n : ℕ) → Names (words_of words.now) (Words.Make n) → (result ≢ Status.Singular) × (result ≢ Status.ReadFault) }
+    ensures ladder { WhereLadder (words_of words.now) ((result ≢ Status.Singular) × (result ≢ Status.ReadFault)) }
     ensures read { result ≡ Status.ReadFault → Rose (S.faults shelf.old) (S.faults shelf.new) }
     ensures read_name { result ≡ Status.ReadFault → NamesFault (words_of words.now) (S.failed shelf.new) }
     ensures write { result ≡ Status.WriteFault → Rose (W.faults out.old) (W.faults out.new) }
-    ensures complete { (asked : Words) → Names (words_of words.now) asked → (Rose (S.faults shelf.old) (S.faults shelf.new) → ⊥) → (Rose (W.faults out.old) (W.faults out.new) → ⊥) → IsAnswer result ⊎ (result ≡ Status.NoMemory) }
+    ensures complete { Kept S.faults shelf.old shelf.new → Kept W.faults out.old out.new → IsAnswered words.now result }
 {
     match read_words(alloc, words) {
         Ok(
@@ -70,9 +69,9 @@ fn run_files<S: Shelf, W: Sink>(
     out: &mut W,
 ) -> Status
     requires few { length files.now ≤ most_files }
-    ensures told { IsAnswer result → IfSome (S.told shelf.old) (λ contents. WritesTold (TellsFiles class.now.0 emit files.now verify.now contents) (W.written out.old) (W.written out.new) result) }
+    ensures told { IsAnswer result → WritesOf (TellsFiles class.now.0 emit files.now verify.now) (S.told shelf.old) (W.written out.old) (W.written out.new) result }
     ensures silent { IsSilent result → W.written out.new ≡ W.written out.old }
-    ensures front { result ≡ Status.WriteFault → IfSome (S.told shelf.old) (λ contents. WritesFront (TellsFiles class.now.0 emit files.now verify.now contents) (W.written out.old) (W.written out.new)) }
+    ensures front { result ≡ Status.WriteFault → WritesFrontOf (TellsFiles class.now.0 emit files.now verify.now) (S.told shelf.old) (W.written out.old) (W.written out.new) }
     ensures usage { result ≢ Status.Usage }
     ensures flat { verify.now ≡ None → emit ≡ Emit.Flat → result ≢ Status.Singular }
     ensures alias { verify.now ≡ None → emit ≡ Emit.Alias → result ≢ Status.Singular }
@@ -120,9 +119,9 @@ fn run_job<S: Shelf, W: Sink>(
     out: &mut W,
 ) -> Status
     requires few { length files.now ≤ most_files }
-    ensures told { IsAnswer result → IfSome (S.told shelf.old) (λ contents. WritesTold (Tells class.now.0 emit files.now contents) (W.written out.old) (W.written out.new) result) }
+    ensures told { IsAnswer result → WritesOf (Tells class.now.0 emit files.now) (S.told shelf.old) (W.written out.old) (W.written out.new) result }
     ensures silent { IsSilent result → W.written out.new ≡ W.written out.old }
-    ensures front { result ≡ Status.WriteFault → IfSome (S.told shelf.old) (λ contents. WritesFront (Tells class.now.0 emit files.now contents) (W.written out.old) (W.written out.new)) }
+    ensures front { result ≡ Status.WriteFault → WritesFrontOf (Tells class.now.0 emit files.now) (S.told shelf.old) (W.written out.old) (W.written out.new) }
 
     ensures usage { result ≢ Status.Usage }
     ensures flat { emit ≡ Emit.Flat → result ≢ Status.Singular }

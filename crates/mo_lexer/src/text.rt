@@ -33,12 +33,12 @@ pub fn tokens<'a>(alloc: Global, file: u32, text: &'a str) -> Result<List<Token<
 
     // What is answered are the tokens of the text, no other list of tokens is, and the text breaks no rule.
     ensures lexes { IfOk result (λ tokens. Lexes file text.now (lexemes tokens)) }
-    ensures only { IfOk result (λ tokens. (others : Seq Lexeme) → Lexes file text.now others → others ≡ lexemes tokens) }
+    ensures only { IfOk result (λ tokens. (more : Seq Lexeme) → Lexes file text.now more → more ≡ lexemes tokens) }
     ensures not_refused { IfOk result (λ _. (broken : Refusal) → IsRefused file text.now broken → ⊥) }
 
     // A refusal comes exactly where the text has no tokens, with the rule and the place that the definition gives.
     ensures refused { IfBroken result (λ broken. IsRefused file text.now broken) }
-    ensures only_refused { IfBroken result (λ broken. (other : Refusal) → IsRefused file text.now other → other ≡ broken) }
+    ensures only_refused { IfBroken result (λ broken. (b : Refusal) → IsRefused file text.now b → b ≡ broken) }
     ensures no_tokens { IfBroken result (λ _. (tokens : Seq Lexeme) → Lexes file text.now tokens → ⊥) }
 {
     let mut found = List::new(alloc);

@@ -50,6 +50,10 @@ joined_by mark part xs = in_row (λ first x. (if first then [] else mark) ++ par
 abbrev pub a_comma : List Piece
 a_comma = a_mark (codes ",") ∷ a_blank ∷ []
 
+-- a comma between two lists, none where one of them is empty
+abbrev pub comma_where : (first_empty second_empty : Bool) → List Piece
+comma_where first_empty second_empty = if first_empty then [] else (if second_empty then [] else a_comma)
+
 abbrev pub a_semicolon : List Piece
 a_semicolon = a_mark (codes ";") ∷ a_blank ∷ []
 

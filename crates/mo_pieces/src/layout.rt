@@ -2,7 +2,7 @@
 ghost use Rattle.std.specs.Prelude.{◌≡◌, [], ◌∷◌, ◌++◌, codes, if◌then◌else◌, OnOk};
 ghost use Rattle.mo_pieces.specs.Pieces.{a_mark, a_word};
 ghost use Rattle.mo_pieces.specs.Gathered.{gathered};
-ghost use Rattle.mo_pieces.specs.ShownExpressions.{a_comma, a_semicolon, branch_word, power_mark, relation_mark, sign_before, sign_mark, spaced, times_before, times_mark};
+ghost use Rattle.mo_pieces.specs.ShownExpressions.{a_comma, a_semicolon, branch_word, power_mark, relation_mark, sign_before, sign_mark, spaced, times_before, times_mark, comma_where};
 
 use crate::piece::Pieces;
 use mo_syntax::{NoMemory, RelOp};
@@ -42,7 +42,7 @@ pub fn comma_between(
     first_empty: bool,
     second_empty: bool,
 ) -> Result<(), NoMemory>
-    ensures { OnOk result (gathered out.new ≡ gathered out.old ++ (if first_empty then [] else (if second_empty then [] else a_comma))) }
+    ensures { OnOk result (gathered out.new ≡ gathered out.old ++ comma_where first_empty second_empty) }
 {
     if first_empty {
         return Ok(());

@@ -1,5 +1,5 @@
 -- What a shelf holds, and what a read of it gives.
-use Rattle.std.specs.Prelude.{◌≡◌, ℕ, ◌-◌, ◌<◌, ◌≤◌, List, [], ◌∷◌, ◌++◌, length, take, drop, Option, Some, None, unwrap_or, bytes_eq, if◌then◌else◌}
+use Rattle.std.specs.Prelude.{◌≡◌, ℕ, ◌-◌, ◌<◌, ◌≤◌, List, [], ◌∷◌, ◌++◌, length, take, drop, IfSome, IsSomeAnd, Option, Some, None, unwrap_or, bytes_eq, if◌then◌else◌}
 
 -- the bytes of each name; an absent name has none
 abbrev pub Contents : Type 0
@@ -32,3 +32,7 @@ newest (piece ∷ pieces) = Some piece
 abbrev pub joined : List (List ℕ) → List ℕ
 joined [] = []
 joined (piece ∷ pieces) = joined pieces ++ piece
+
+-- where the contents are told, the name has more than so many bytes
+abbrev pub HoldsMoreThan : ℕ → List ℕ → Option Contents → Type 0
+HoldsMoreThan limit name told = IfSome told (λ contents. IsSomeAnd (contents name) (λ bytes. limit < length bytes))

@@ -1,5 +1,5 @@
 -- What contracts see of a shelf and of a sink in memory.
-use Rattle.std.specs.Prelude.{ℕ, ◌-◌, ◌==◌, ◌||◌, ◌&&◌, Bool, not, List, length, Option, is_none}
+use Rattle.std.specs.Prelude.{ℕ, ◌-◌, ◌==◌, ◌||◌, ◌&&◌, Bool, not, List, [], length, Option, None, is_none}
 use Rattle.std.specs.List.{list_any}
 use Rattle.mo_ports.specs.Contents.{bytes_of}
 use Rattle.mo_ports.specs.Counts.{raised}
@@ -32,3 +32,11 @@ pub record SinkState : Type 0 where
 -- whether the next write fails: it is one that is to fail, or it has bytes and there is no room for one
 abbrev pub write_fails : SinkState → List ℕ → Bool
 write_fails s piece = list_any (λ n. n == raised s.calls 1) s.failing || (s.room - length s.bytes == 0 && not (length piece == 0))
+
+-- a shelf of which nothing was read
+abbrev pub unread : List (List ℕ × List ℕ) → ℕ → List ℕ → ShelfState
+unread files most failing = record { files = files; most = most; failing = failing; calls = 0; taken = 0; faults = 0; failed = None }
+
+-- a sink to which nothing was written
+abbrev pub unwritten : ℕ → ℕ → List ℕ → SinkState
+unwritten room most failing = record { bytes = []; room = room; most = most; failing = failing; calls = 0; faults = 0 }

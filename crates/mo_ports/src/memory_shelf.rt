@@ -1,9 +1,9 @@
 //! A shelf that holds its files in memory, and fails where it is told to.
-ghost use Rattle.std.specs.Prelude.{◌≡◌, ℕ, ◌≤◌, ◌+◌, ◌-◌, ◌<◌, min, length, take, drop, Some, None, is_err, IfOk, IfSome, OnErr};
+ghost use Rattle.std.specs.Prelude.{◌≡◌, ℕ, ◌≤◌, ◌+◌, ◌-◌, ◌<◌, min, length, take, drop, Some, is_err, IfOk, IfSome, OnErr};
 ghost use Rattle.std.specs.Option.{option_copied};
 ghost use Rattle.mo_ports.specs.Contents.{bytes_of, ReadsAt};
 ghost use Rattle.mo_ports.specs.Counts.{raised};
-ghost use Rattle.mo_ports.specs.Memory.{read_fails};
+ghost use Rattle.mo_ports.specs.Memory.{read_fails, unread};
 
 use crate::shelf::{Failed, ReadCounts, Shelf};
 use mo_syntax::{List, Text};
@@ -44,7 +44,7 @@ impl MemoryShelf {
     /// A shelf of which nothing was read.
     pub fn new(files: List<(Text, List<u8>)>, most: usize, failing: List<u64>) -> MemoryShelf
         requires { 0 < most }
-        ensures { result ≡ record { files = files; most = most; failing = failing; calls = 0; taken = 0; faults = 0; failed = None } }
+        ensures { result ≡ unread files most failing }
     {
         MemoryShelf {
             files,

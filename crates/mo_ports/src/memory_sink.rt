@@ -1,7 +1,7 @@
 //! A sink that keeps its bytes in memory, and fails where it is told to.
-ghost use Rattle.std.specs.Prelude.{◌≡◌, ◌<◌, ◌≤◌, ◌-◌, ◌++◌, [], min, length, take, IfOk, OnErr, is_err, Some};
+ghost use Rattle.std.specs.Prelude.{◌≡◌, ◌<◌, ◌≤◌, ◌-◌, ◌++◌, min, length, take, IfOk, OnErr, is_err, Some};
 ghost use Rattle.mo_ports.specs.Counts.{raised};
-ghost use Rattle.mo_ports.specs.Memory.{write_fails};
+ghost use Rattle.mo_ports.specs.Memory.{unwritten, write_fails};
 
 use crate::shelf::Failed;
 use crate::sink::Sink;
@@ -48,7 +48,7 @@ impl MemorySink {
         failing: List<u64>,
     ) -> Result<MemorySink, NoMemory>
         requires { 0 < most }
-        ensures { IfOk result (λ s. s ≡ record { bytes = []; room = room; most = most; failing = failing; calls = 0; faults = 0 }) }
+        ensures { IfOk result (λ s. s ≡ unwritten room most failing) }
     {
         let bytes = Vec::with_capacity(alloc, room)?;
         Ok(MemorySink {

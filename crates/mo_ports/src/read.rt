@@ -1,5 +1,6 @@
 //! Reading the whole of a name.
-ghost use Rattle.std.specs.Prelude.{◌≡◌, ℕ, ◌≤◌, ◌<◌, Some, length, IfOk, OnOk, IfSome, IsSomeAnd, IsErrOf};
+ghost use Rattle.std.specs.Prelude.{◌≡◌, ℕ, ◌≤◌, ◌<◌, Some, length, IfOk, OnOk, IfSome, IsErrOf};
+ghost use Rattle.mo_ports.specs.Contents.{HoldsMoreThan};
 ghost use Rattle.mo_ports.specs.Counts.{Rose, RoseBeyond};
 
 use crate::shelf::Shelf;
@@ -41,7 +42,7 @@ pub fn read_all<S: Shelf>(
     ensures fault_name { IsErrOf result ReadStop.ReadFault → S.failed shelf.new ≡ Some name.now }
 
     ensures long { IsErrOf result ReadStop.TooLong → RoseBeyond limit (S.taken shelf.old) (S.taken shelf.new) }
-    ensures long_told { IsErrOf result ReadStop.TooLong → IfSome (S.told shelf.old) (λ contents. IsSomeAnd (contents name.now) (λ bytes. limit < length bytes)) }
+    ensures long_told { IsErrOf result ReadStop.TooLong → HoldsMoreThan limit name.now (S.told shelf.old) }
 
     ensures same { S.told shelf.new ≡ S.told shelf.old }
     ensures faults_later { S.faults shelf.old ≤ S.faults shelf.new }

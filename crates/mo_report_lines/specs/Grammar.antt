@@ -110,3 +110,12 @@ pub record IsUnknownLine (line : List ℕ) (unknown : List ℕ) (highest : ℕ) 
   pub is : line ≡ codes "unknown " ++ (unknown ++ (codes " d " ++ decimal highest))
   pub is_name : IsName unknown
   pub fits : highest < 4294967296
+
+-- each reading of the line as that of an equation is this one
+abbrev pub IsOnlyEquationLine : (line : List ℕ) → (number offset : ℕ) → (unknown : List ℕ) → (order : ℕ) → Type 0
+IsOnlyEquationLine line number offset unknown order =
+    (i c k : ℕ) (name : List ℕ) → IsEquationLine line i c name k → (i ≡ number) × (c ≡ offset) × (name ≡ unknown) × (k ≡ order)
+
+-- each reading of the line as that of an unknown is this one
+abbrev pub IsOnlyUnknownLine : (line unknown : List ℕ) → ℕ → Type 0
+IsOnlyUnknownLine line unknown highest = (name : List ℕ) (d : ℕ) → IsUnknownLine line name d → (name ≡ unknown) × (d ≡ highest)

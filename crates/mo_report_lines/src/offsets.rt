@@ -1,6 +1,6 @@
 //! The lines that hold the offsets of equations and unknowns.
-ghost use Rattle.std.specs.Prelude.{◌≡◌, ℕ, List as Seq, IfSome, IfNone};
-ghost use Rattle.mo_report_lines.specs.Grammar.{IsEquationLine, IsUnknownLine};
+ghost use Rattle.std.specs.Prelude.{ℕ, List as Seq, IfSome, IfNone};
+ghost use Rattle.mo_report_lines.specs.Grammar.{IsEquationLine, IsOnlyEquationLine, IsOnlyUnknownLine, IsUnknownLine};
 ghost use Rattle.mo_report_lines.specs.steps.Reading.{IsNumberedAt, IsNoNumberAt, IsNamedAt, IsNoNameAt};
 
 use crate::bytes::after_word;
@@ -52,7 +52,7 @@ fn named<'t>(text: &'t [u8], word: &str) -> Option<(&'t [u8], &'t [u8])>
 /// What the line of an equation says, without its line feed; None where it is none.
 pub fn equation_line(line: &[u8]) -> Option<EquationLine<'_>>
     ensures some { IfSome result (λ e. IsEquationLine line.now e.number e.offset e.unknown.now e.order) }
-    ensures only { IfSome result (λ e. (i c k : ℕ) (name : Seq ℕ) → IsEquationLine line.now i c name k → (i ≡ e.number) × (c ≡ e.offset) × (name ≡ e.unknown.now) × (k ≡ e.order)) }
+    ensures only { IfSome result (λ e. IsOnlyEquationLine line.now e.number e.offset e.unknown.now e.order) }
     ensures none { IfNone result ((i c k : ℕ) (name : Seq ℕ) → IsEquationLine line.now i c name k → ⊥) }
 {
     let (number, rest) = numbered(line, "equation ")?;
@@ -73,7 +73,7 @@ pub fn equation_line(line: &[u8]) -> Option<EquationLine<'_>>
 /// What the line of an unknown says, without its line feed; None where it is none.
 pub fn unknown_line(line: &[u8]) -> Option<UnknownLine<'_>>
     ensures some { IfSome result (λ u. IsUnknownLine line.now u.unknown.now u.highest) }
-    ensures only { IfSome result (λ u. (name : Seq ℕ) (d : ℕ) → IsUnknownLine line.now name d → (name ≡ u.unknown.now) × (d ≡ u.highest)) }
+    ensures only { IfSome result (λ u. IsOnlyUnknownLine line.now u.unknown.now u.highest) }
     ensures none { IfNone result ((name : Seq ℕ) (d : ℕ) → IsUnknownLine line.now name d → ⊥) }
 {
     let (unknown, rest) = named(line, "unknown ")?;

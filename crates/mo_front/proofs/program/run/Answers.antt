@@ -36,7 +36,7 @@ returns-in-Ok-Job-clause-read_name g c = λ fault.
     names_fault _ _ _ _ _ _ (rw c.in-Ok-Job.field-0-is at c.in-Ok-Job.ensures.names) (rw c.as_slice.ensures at (c.run_files.ensures.read_name fault))
 
 pub returns-in-Ok-Job-clause-complete : goal.returns-in-Ok-Job-clause-complete
-returns-in-Ok-Job-clause-complete g c = λ asked names read write.
+returns-in-Ok-Job-clause-complete g c = λ read write asked names.
     answered c.run_files.result c.run_files.ensures.usage (λ e. read (c.run_files.ensures.read e)) (λ e. write (c.run_files.ensures.write e))
 
 pub run_ladder-requires : goal.run_ladder-requires
@@ -63,7 +63,7 @@ pub returns-in-Ok-Make-clause-only_usage : goal.returns-in-Ok-Make-clause-only_u
 returns-in-Ok-Make-clause-only_usage g c = λ none. absurd (none _ (rw c.in-Ok-Make.field-0-is at c.in-Ok-Make.ensures.names))
 
 pub returns-in-Ok-Make-clause-complete : goal.returns-in-Ok-Make-clause-complete
-returns-in-Ok-Make-clause-complete g c = λ asked names read write.
+returns-in-Ok-Make-clause-complete g c = λ read write asked names.
     answered c.run_ladder.result c.run_ladder.ensures.usage (λ e. absurd (c.run_ladder.ensures.read e)) (λ e. write (c.run_ladder.ensures.write e))
 
 pub returns-in-Ok-Make-clause-differs : goal.returns-in-Ok-Make-clause-differs
