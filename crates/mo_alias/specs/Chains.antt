@@ -29,6 +29,10 @@ IsLinkBelow said (suc n) e = IsLinkBelow said n e ⊎ (e ≡ n) × IsNew said (I
 abbrev pub IsJoined : List (Option Alias) → ℕ → ℕ → ℕ → Bool → Type 0
 IsJoined said n u v minus = (es : List ℕ) × Chain said (IsLinkBelow said n) u v minus es
 
+-- all chains of links among the first n equations that join two unknowns say one thing
+abbrev pub SayOneSign : List (Option Alias) → ℕ → ℕ → ℕ → Type 0
+SayOneSign said n u v = (one other : Bool) → IsJoined said n u v one → IsJoined said n u v other → one ≡ other
+
 -- a link
 abbrev pub IsLink : List (Option Alias) → ℕ → Type 0
 IsLink said e = IsNew said (IsLinkBelow said e) e

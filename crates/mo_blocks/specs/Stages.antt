@@ -2,7 +2,9 @@
 -- differential-algebraic equations using dummy derivatives, SIAM J. Sci. Comput. 14, 1993).
 use Rattle.std.specs.Prelude.{◌≡◌, ℕ, ◌+◌, ◌-◌, ◌<◌, ◌≤◌, Contains, if◌then◌else◌, List, [], ◌∷◌, ◌++◌, nat_lt}
 use Rattle.std.proofs.Common.{zero, suc}
-use Rattle.mo_incidence.specs.Signature.{Signature, row_len, unknown_at, order_at}
+use Rattle.mo_incidence.specs.declared.findings.Offsets.{Offsets}
+use Rattle.mo_incidence.specs.Offsets.{c_of, pairs_of}
+use Rattle.mo_incidence.specs.Signature.{Signature, equations, row_len, unknown_at, order_at}
 
 -- the first k derivatives of unknown j
 abbrev pub derivatives_below : ℕ → ℕ → List (ℕ × ℕ)
@@ -23,6 +25,9 @@ kept c s (i ∷ is) = if nat_lt (c i) s then kept c s is else i ∷ kept c s is
 pub record HaveOwn (c t : ℕ → ℕ) (m : ℕ) (dummies : List (ℕ × ℕ × ℕ × ℕ)) : Type 0 where
   pub some : (i s : ℕ) → i < m → 0 < s → s ≤ c i → (k : ℕ) × Contains dummies (t i, k, s, suc i)
   pub own : (x y : ℕ × ℕ × ℕ × ℕ) → Contains dummies x → Contains dummies y → x.2 ≡ y.2 → x.0 ≡ y.0 → x ≡ y
+
+abbrev pub HaveOwnBy : Signature → Offsets → List (ℕ × ℕ × ℕ × ℕ) → Type 0
+HaveOwnBy g offsets = HaveOwn (c_of offsets) (pairs_of offsets) (equations g)
 
 -- a dummy of stage s is the highest derivative of its unknown in derivative c - s + 1 of its equation: that of the entry's order raised
 -- by the number of derivatives

@@ -1,12 +1,11 @@
 //! Dummy derivatives, and the states that are left.
 ghost use Rattle.std.specs.Prelude.{◌≡◌, ◌≢◌, ℕ, ◌+◌, ◌-◌, ◌<◌, ◌≤◌, ◌++◌, length, map, slice_index, IfOk, OnOk};
 ghost use Rattle.std.proofs.Common.{suc};
-ghost use Rattle.mo_incidence.specs.Counting.{sum_below};
 ghost use Rattle.mo_incidence.specs.Signature.{equations};
 ghost use Rattle.mo_incidence.specs.Assignment.{Assigns, CoversAll};
-ghost use Rattle.mo_incidence.specs.Offsets.{IsTight, by_place, by_number, sum_unknowns, c_of, d_of, pairs_of};
-ghost use Rattle.mo_incidence.specs.Dummies.{differentiated, dummy, dummies_of, states_of};
-ghost use Rattle.mo_blocks.specs.Stages.{kept, derivatives_below, derivatives_to, HaveOwn, AreHighest, AreFollowed};
+ghost use Rattle.mo_incidence.specs.Offsets.{HasFreedom, HasPairs, HasSizes, IsTight, by_number, by_place, c_of, differentiations, pairs_of};
+ghost use Rattle.mo_incidence.specs.Dummies.{differentiated, dummies_by, dummies_of, dummy, states_by};
+ghost use Rattle.mo_blocks.specs.Stages.{AreFollowed, AreHighest, HaveOwnBy, derivatives_below, derivatives_to, kept};
 
 use mo_incidence::{Dummies, Incidence, Offsets};
 use mo_syntax::NoMemory;
@@ -128,16 +127,16 @@ fn list_states(alloc: Global, d: &[u32], depth: &[u32]) -> Result<Vec<(u32, u32)
 /// equations by tight entries. `NoMemory` is the only other answer.
 pub fn dummies(alloc: Global, inc: &Incidence, offsets: &Offsets) -> Result<Dummies, NoMemory>
     requires square { equations inc.now ≡ inc.now.unknowns }
-    requires lengths { (length offsets.now.c.items ≡ equations inc.now) × (length offsets.now.d.items ≡ inc.now.unknowns) × (length offsets.now.pairs.items ≡ equations inc.now) }
-    requires tight { Assigns (IsTight inc.now (c_of offsets.now) (d_of offsets.now)) (equations inc.now) (pairs_of offsets.now) }
+    requires lengths { HasSizes inc.now offsets.now }
+    requires tight { HasPairs inc.now offsets.now }
     requires all { CoversAll inc.now (pairs_of offsets.now) }
-    ensures chosen { IfOk result (λ found. found.chosen.items ≡ dummies_of (c_of offsets.now) (d_of offsets.now) (pairs_of offsets.now) (equations inc.now)) }
-    ensures states { IfOk result (λ found. found.states.items ≡ states_of (c_of offsets.now) (d_of offsets.now) (pairs_of offsets.now) (equations inc.now) inc.now.unknowns) }
-    ensures own { IfOk result (λ found. HaveOwn (c_of offsets.now) (pairs_of offsets.now) (equations inc.now) found.chosen.items) }
+    ensures chosen { IfOk result (λ found. found.chosen.items ≡ dummies_by inc.now offsets.now) }
+    ensures states { IfOk result (λ found. found.states.items ≡ states_by inc.now offsets.now) }
+    ensures own { IfOk result (λ found. HaveOwnBy inc.now offsets.now found.chosen.items) }
     ensures highest { IfOk result (λ found. AreHighest inc.now (c_of offsets.now) found.chosen.items) }
     ensures followed { IfOk result (λ found. AreFollowed found.chosen.items) }
-    ensures dummies_count { IfOk result (λ found. length found.chosen.items ≡ sum_below (c_of offsets.now) (equations inc.now)) }
-    ensures states_count { IfOk result (λ found. length found.states.items + sum_below (c_of offsets.now) (equations inc.now) ≡ sum_unknowns inc.now (d_of offsets.now)) }
+    ensures dummies_count { IfOk result (λ found. length found.chosen.items ≡ differentiations inc.now offsets.now) }
+    ensures states_count { IfOk result (λ found. HasFreedom inc.now offsets.now (length found.states.items)) }
 {
     let _equations = inc.equations();
     let chosen = choose(alloc, inc, &offsets.c, &offsets.d, &offsets.pairs)?;

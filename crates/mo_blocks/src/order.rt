@@ -1,9 +1,9 @@
 //! The irreducible blocks, as those of the graph of needs.
-ghost use Rattle.std.specs.Prelude.{◌≡◌, length, IfOk};
+ghost use Rattle.std.specs.Prelude.{◌≡◌, IfOk};
 ghost use Rattle.mo_incidence.specs.Signature.{equations};
-ghost use Rattle.mo_incidence.specs.Assignment.{Assigns, CoversAll};
-ghost use Rattle.mo_incidence.specs.Offsets.{IsTight, c_of, d_of, pairs_of};
-ghost use Rattle.mo_incidence.specs.Blocks.{AreBlocksInOrder, numbers_in};
+ghost use Rattle.mo_incidence.specs.Assignment.{CoversAll};
+ghost use Rattle.mo_incidence.specs.Offsets.{HasPairs, HasSizes, pairs_of};
+ghost use Rattle.mo_incidence.specs.Blocks.{AreBlocksBy, numbers_in};
 
 use mo_graph::in_order;
 use mo_incidence::{Blocks, Incidence, Offsets, needs};
@@ -16,10 +16,10 @@ use std::alloc::Global;
 /// of all equations by tight entries. `NoMemory` is the only other answer.
 pub fn blocks(alloc: Global, inc: &Incidence, offsets: &Offsets) -> Result<Blocks, NoMemory>
     requires square { equations inc.now ≡ inc.now.unknowns }
-    requires lengths { (length offsets.now.c.items ≡ equations inc.now) × (length offsets.now.d.items ≡ inc.now.unknowns) × (length offsets.now.pairs.items ≡ equations inc.now) }
-    requires tight { Assigns (IsTight inc.now (c_of offsets.now) (d_of offsets.now)) (equations inc.now) (pairs_of offsets.now) }
+    requires lengths { HasSizes inc.now offsets.now }
+    requires tight { HasPairs inc.now offsets.now }
     requires all { CoversAll inc.now (pairs_of offsets.now) }
-    ensures { IfOk result (λ found. AreBlocksInOrder inc.now (c_of offsets.now) (d_of offsets.now) (pairs_of offsets.now) (numbers_in found.0.items)) }
+    ensures { IfOk result (λ found. AreBlocksBy inc.now offsets.now (numbers_in found.0.items)) }
 {
     let edges = needs(alloc, inc, offsets)?;
     let lists = in_order(alloc, edges, inc.equations() as usize)?;

@@ -1,6 +1,7 @@
 -- Reasons that show offsets to be least.
 use Rattle.std.specs.Prelude.{◌≡◌, ◌≢◌, ◌==◌, ℕ, ◌+◌, ◌-◌, ◌<◌, ◌≤◌, if◌then◌else◌, List, [], ◌∷◌}
 use Rattle.std.proofs.Common.{get_or}
+use Rattle.mo_incidence.specs.declared.findings.Offsets.{Offsets}
 use Rattle.mo_incidence.specs.declared.findings.Reason.{Reason}
 use Rattle.mo_incidence.specs.Signature.{Signature, equations}
 use Rattle.mo_incidence.specs.Offsets.{AreReasons, IsTight, after_reasons, by_place, by_number}
@@ -45,3 +46,7 @@ AreReasonsBy g c d pairs from n = (i : ℕ) → i < n → by_place c i ≢ 0 →
 pub record LeadToZeroBy (g : Signature) (c d pairs from : List ℕ) : Type 0 where
   pub reasons : AreReasonsBy g c d pairs from (equations g)
   pub ends : (i : ℕ) → i < equations g → LeadsToZero (by_place c) (named from) i
+
+-- the same of offsets as they are held
+abbrev pub AreHeldLeast : Signature → Offsets → List Reason → Type 0
+AreHeldLeast g offsets reasons = AreShownLeast g offsets.c.items offsets.d.items offsets.pairs.items reasons

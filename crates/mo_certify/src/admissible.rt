@@ -1,9 +1,9 @@
 //! Whether listed offsets and pairs are admissible.
-ghost use Rattle.std.specs.Prelude.{◌≡◌, ◌≢◌, ℕ, ◌+◌, ◌-◌, ◌<◌, ◌≤◌, ◌↔◌, IsTrue, IfOk, length, slice_index, true, false};
+ghost use Rattle.std.specs.Prelude.{◌≡◌, ◌≢◌, ℕ, ◌+◌, ◌-◌, ◌<◌, ◌≤◌, IsTrue, IfOk, length, slice_index, true, false};
 ghost use Rattle.std.proofs.Common.{suc};
 ghost use Rattle.mo_incidence.specs.Signature.{equations, row_len, unknown_at, order_at};
 ghost use Rattle.mo_incidence.specs.Offsets.{Fits, IsTight, IsAdmissible, by_place, by_number, c_of, d_of};
-ghost use Rattle.mo_certify.specs.Offsets.{AreOffsets};
+ghost use Rattle.mo_certify.specs.Offsets.{AreOffsets, AreHeldOffsets, Decides};
 
 use crate::entries::find_entry;
 use crate::marks::mark_all;
@@ -98,7 +98,7 @@ fn admissible(inc: &Incidence, c: &[u32], d: &[u32], pairs: &[u32], used: &mut [
 /// pairs are an assignment of all equations with equality at each of its entries. It accepts any lists.
 /// `NoMemory` is the only other answer.
 pub fn offsets_hold(alloc: Global, inc: &Incidence, offsets: &Offsets) -> Result<bool, NoMemory>
-    ensures exact { IfOk result (λ yes. IsTrue yes ↔ AreOffsets inc.now offsets.now.c.items offsets.now.d.items offsets.now.pairs.items) }
+    ensures exact { Decides result (AreHeldOffsets inc.now offsets.now) }
     ensures admissible { IfOk result (λ yes. IsTrue yes → IsAdmissible inc.now (c_of offsets.now) (d_of offsets.now)) }
 {
     let mut used = vec![in alloc; 0; inc.unknowns() as usize + 1]?;

@@ -1,9 +1,7 @@
 //! Whether listed blocks are the irreducible blocks in order.
-ghost use Rattle.std.specs.Prelude.{◌≡◌, ◌↔◌, IsTrue, IfOk, true, false};
-ghost use Rattle.mo_incidence.specs.Signature.{equations};
-ghost use Rattle.mo_incidence.specs.Offsets.{c_of, d_of, pairs_of};
-ghost use Rattle.mo_incidence.specs.Blocks.{AreBlocksInOrder, numbers_in};
-ghost use Rattle.mo_certify.specs.Offsets.{AreOffsets};
+ghost use Rattle.std.specs.Prelude.{◌≡◌, true, false};
+ghost use Rattle.mo_incidence.specs.Blocks.{numbers_in};
+ghost use Rattle.mo_certify.specs.Offsets.{AreRightBlocks, Decides};
 
 use crate::admissible::offsets_hold;
 use mo_graph::in_order;
@@ -51,7 +49,7 @@ pub fn blocks_hold(
     offsets: &Offsets,
     listed: &Blocks,
 ) -> Result<bool, NoMemory>
-    ensures exact { IfOk result (λ yes. IsTrue yes ↔ (AreOffsets inc.now offsets.now.c.items offsets.now.d.items offsets.now.pairs.items × (equations inc.now ≡ inc.now.unknowns) × AreBlocksInOrder inc.now (c_of offsets.now) (d_of offsets.now) (pairs_of offsets.now) (numbers_in listed.now.0.items))) }
+    ensures exact { Decides result (AreRightBlocks inc.now offsets.now (numbers_in listed.now.0.items)) }
 {
     if !offsets_hold(alloc, inc, offsets)? {
         return Ok(false);

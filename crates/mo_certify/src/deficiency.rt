@@ -1,8 +1,9 @@
 //! Whether listed equations mention fewer unknowns than they are.
-ghost use Rattle.std.specs.Prelude.{◌≡◌, ◌≢◌, ℕ, ◌+◌, ◌-◌, ◌<◌, ◌≤◌, ◌⊎◌, ◌↔◌, IsTrue, IfOk, length, slice_index, true, false};
+ghost use Rattle.std.specs.Prelude.{◌≡◌, ◌≢◌, ℕ, ◌+◌, ◌-◌, ◌<◌, ◌≤◌, ◌⊎◌, IsTrue, IfOk, length, slice_index, true, false};
 ghost use Rattle.std.proofs.Common.{suc};
 ghost use Rattle.mo_incidence.specs.Signature.{equations, row_len, unknown_at, IsSound};
 ghost use Rattle.mo_incidence.specs.Assignment.{Mentions, CanCoverAll};
+ghost use Rattle.mo_certify.specs.Offsets.{Decides};
 ghost use Rattle.mo_certify.specs.Deficiency.{AreDistinctBelow, IsListed, IsMentionedBy, IsDeficiency};
 
 use crate::marks::{are_marked, mark_all};
@@ -50,7 +51,7 @@ fn see_rows(inc: &Incidence, rows: &[u32], listed: &[u32], seen: &mut [u32]) -> 
 /// Whether the listed equations are distinct and known, and the listed unknowns are those that they mention, each once, and fewer.
 /// A yes implies that no assignment covers all equations. It accepts any lists. `NoMemory` is the only other answer.
 pub fn deficit_holds(alloc: Global, inc: &Incidence, deficit: &Deficit) -> Result<bool, NoMemory>
-    ensures exact { IfOk result (λ yes. IsTrue yes ↔ IsDeficiency inc.now deficit.now.equations.items deficit.now.unknowns.items) }
+    ensures exact { Decides result (IsDeficiency inc.now deficit.now.equations.items deficit.now.unknowns.items) }
     ensures singular { IfOk result (λ yes. IsTrue yes → CanCoverAll inc.now → ⊥) }
 {
     let mut rows = vec![in alloc; 0; inc.equations() as usize + 1]?;

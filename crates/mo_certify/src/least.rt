@@ -1,10 +1,10 @@
 //! Whether listed reasons show listed offsets to be least.
-ghost use Rattle.std.specs.Prelude.{◌≡◌, ◌≢◌, ℕ, ◌+◌, ◌-◌, ◌<◌, ◌≤◌, ◌⊎◌, ◌↔◌, IsTrue, IfOk, length, slice_index, true, false};
+ghost use Rattle.std.specs.Prelude.{◌≡◌, ◌≢◌, ℕ, ◌+◌, ◌-◌, ◌<◌, ◌≤◌, ◌⊎◌, IsTrue, IfOk, length, slice_index, true, false};
 ghost use Rattle.std.proofs.Common.{suc};
 ghost use Rattle.mo_incidence.specs.Signature.{equations};
 ghost use Rattle.mo_incidence.specs.Offsets.{IsLeast, by_place, c_of, d_of};
-ghost use Rattle.mo_certify.specs.Offsets.{AreOffsets};
-ghost use Rattle.mo_certify.specs.Reasons.{first_reason, reason_of, named, LeadsToZero, IsReasonAt, AreReasonsBy, LeadToZeroBy, AreShownLeast};
+ghost use Rattle.mo_certify.specs.Offsets.{AreOffsets, Decides};
+ghost use Rattle.mo_certify.specs.Reasons.{first_reason, reason_of, named, LeadsToZero, IsReasonAt, AreReasonsBy, LeadToZeroBy, AreShownLeast, AreHeldLeast};
 
 use crate::admissible::{offsets_hold, row_is_tight};
 use mo_incidence::{Incidence, Offsets, Reason};
@@ -156,7 +156,7 @@ pub fn least_holds(
     offsets: &Offsets,
     why: &[Reason],
 ) -> Result<bool, NoMemory>
-    ensures exact { IfOk result (λ yes. IsTrue yes ↔ AreShownLeast inc.now offsets.now.c.items offsets.now.d.items offsets.now.pairs.items why.now) }
+    ensures exact { Decides result (AreHeldLeast inc.now offsets.now why.now) }
     ensures least { IfOk result (λ yes. IsTrue yes → IsLeast inc.now (c_of offsets.now) (d_of offsets.now)) }
 {
     if !offsets_hold(alloc, inc, offsets)? {

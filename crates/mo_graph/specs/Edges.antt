@@ -1,10 +1,15 @@
 -- Directed graphs as lists of edges, and their edges threaded by an end.
 use Rattle.std.specs.Prelude.{◌≡◌, ◌≢◌, ℕ, ◌+◌, ◌-◌, ◌<◌, ◌≤◌, List, length}
 use Rattle.std.proofs.Common.{get_or, suc}
+use Rattle.mo_graph.specs.declared.edges.Edges.{Edges}
 
 -- some edge leads from u to v
 unfoldable pub Edge : List ℕ → List ℕ → ℕ → ℕ → Type 0
 Edge sources targets u v = (x : ℕ) × (x < length sources) × (get_or sources x 0 ≡ u) × (get_or targets x 0 ≡ v)
+
+-- some edge of the graph leads from u to v
+abbrev pub HasEdge : Edges → ℕ → ℕ → Type 0
+HasEdge edges = Edge edges.sources.items edges.targets.items
 
 -- the ends of the edges are below m, and nothing passes its limit
 pub record IsGraph (m : ℕ) (sources targets : List ℕ) : Type 0 where

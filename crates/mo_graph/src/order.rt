@@ -1,7 +1,7 @@
 //! The blocks, found step by step.
 ghost use Rattle.std.specs.Prelude.{◌≡◌, ℕ, ◌<◌, ◌≤◌, List, length, slice_index, IfOk};
 ghost use Rattle.mo_graph.specs.Order.{IsInOrder, numbers_in};
-ghost use Rattle.mo_graph.specs.Edges.{Edge, IsGraph, AreLeaders, AreReplaced};
+ghost use Rattle.mo_graph.specs.Edges.{HasEdge, IsGraph, AreLeaders, AreReplaced};
 ghost use Rattle.mo_graph.specs.steps.Finishing.{IsFinished};
 ghost use Rattle.mo_graph.specs.steps.Gathering.{AreClasses};
 ghost use Rattle.mo_graph.specs.steps.Listing.{IsArranged};
@@ -147,7 +147,7 @@ fn arrange(
 /// answer.
 pub fn in_order(alloc: Global, edges: Edges, m: usize) -> Result<Vec<Vec<u32>>, NoMemory>
     requires graph { IsGraph m edges.sources.items edges.targets.items }
-    ensures { IfOk result (λ lists. IsInOrder (Edge edges.sources.items edges.targets.items) m (numbers_in lists.items)) }
+    ensures { IfOk result (λ lists. IsInOrder (HasEdge edges) m (numbers_in lists.items)) }
 {
     let class = find_classes(alloc, &edges.sources, &edges.targets, m)?;
     let leader = lead(alloc, &class, m)?;

@@ -4,6 +4,9 @@
 -- differentiated at least s times, and each makes the highest derivative of its unknown a dummy.
 use Rattle.std.specs.Prelude.{ℕ, ◌+◌, ◌-◌, Bool, false, ◌&&◌, ◌||◌, ◌==◌, if◌then◌else◌, List, [], ◌∷◌, ◌++◌, map, nat_lt}
 use Rattle.std.proofs.Common.{zero, suc}
+use Rattle.mo_incidence.specs.declared.findings.Offsets.{Offsets}
+use Rattle.mo_incidence.specs.Offsets.{c_of, d_of, pairs_of}
+use Rattle.mo_incidence.specs.Signature.{Signature, equations}
 
 -- the equations before place n that are differentiated at least s times
 abbrev pub differentiated : (ℕ → ℕ) → ℕ → ℕ → List ℕ
@@ -46,3 +49,10 @@ states_to dummies d (suc n) = states_to dummies d n ++ states_below dummies (suc
 -- the states of n unknowns
 abbrev pub states_of : (c d t : ℕ → ℕ) → ℕ → ℕ → List (ℕ × ℕ)
 states_of c d t m n = states_to (dummies_of c d t m) d n
+
+-- those of a system by the offsets with their pairs
+abbrev pub dummies_by : Signature → Offsets → List (ℕ × ℕ × ℕ × ℕ)
+dummies_by g offsets = dummies_of (c_of offsets) (d_of offsets) (pairs_of offsets) (equations g)
+
+abbrev pub states_by : Signature → Offsets → List (ℕ × ℕ)
+states_by g offsets = states_of (c_of offsets) (d_of offsets) (pairs_of offsets) (equations g) g.unknowns

@@ -1,7 +1,7 @@
 -- Offsets of equations and unknowns, and the least of them (J. D. Pryce, A simple structural analysis method for DAEs, BIT 41, 2001).
 -- c goes by the places of equations and says how often each is differentiated, d by the numbers of unknowns and says which
 -- derivative of each is the highest.
-use Rattle.std.specs.Prelude.{◌≡◌, ◌≢◌, ℕ, ◌+◌, ◌-◌, ◌<◌, ◌≤◌, List}
+use Rattle.std.specs.Prelude.{◌≡◌, ◌≢◌, ℕ, ◌+◌, ◌-◌, ◌<◌, ◌≤◌, List, length}
 use Rattle.std.proofs.Common.{get_or, zero, suc}
 use Rattle.mo_graph.specs.Counting.{sum_below}
 use Rattle.mo_incidence.specs.declared.findings.Offsets.{Offsets}
@@ -11,6 +11,10 @@ use Rattle.mo_incidence.specs.Assignment.{Assigns, CoversAll}
 -- the equation at place i has an entry at unknown j whose order makes up the difference of the offsets
 unfoldable pub IsTight : Signature → (ℕ → ℕ) → (ℕ → ℕ) → ℕ → ℕ → Type 0
 IsTight g c d i j = (k : ℕ) × (k < row_len g i) × (unknown_at g i k ≡ j) × (d j ≡ c i + order_at g i k)
+
+-- the pairs q are an assignment of the equations by tight entries
+abbrev pub ArePaired : Signature → (ℕ → ℕ) → (ℕ → ℕ) → (ℕ → ℕ) → Type 0
+ArePaired g c d q = Assigns (IsTight g c d) (equations g) q
 
 -- no entry passes the difference of the offsets
 pub record Fits (g : Signature) (c d : ℕ → ℕ) : Type 0 where
@@ -59,6 +63,25 @@ pub record BoundsOrders (g : Signature) (h : ℕ → ℕ) : Type 0 where
 -- the sum over the unknowns
 unfoldable pub sum_unknowns : Signature → (ℕ → ℕ) → ℕ
 sum_unknowns g h = sum_below (λ u. h (u + 1)) g.unknowns
+
+-- there is a number c and a pair for each equation, and a number d for each unknown
+abbrev pub AreSized : Signature → List ℕ → List ℕ → List ℕ → Type 0
+AreSized g c d pairs = (length c ≡ equations g) × (length d ≡ g.unknowns) × (length pairs ≡ equations g)
+
+abbrev pub HasSizes : Signature → Offsets → Type 0
+HasSizes g offsets = AreSized g offsets.c.items offsets.d.items offsets.pairs.items
+
+-- the pairs that stand with the offsets are an assignment of the equations by tight entries
+abbrev pub HasPairs : Signature → Offsets → Type 0
+HasPairs g offsets = ArePaired g (c_of offsets) (d_of offsets) (pairs_of offsets)
+
+-- how many differentiations of equations there are in all
+abbrev pub differentiations : Signature → Offsets → ℕ
+differentiations g offsets = sum_below (c_of offsets) (equations g)
+
+-- n is the number of degrees of freedom
+abbrev pub HasFreedom : Signature → Offsets → ℕ → Type 0
+HasFreedom g offsets n = n + differentiations g offsets ≡ sum_unknowns g (d_of offsets)
 
 -- the place that is reached from i by n reasons
 abbrev pub after_reasons : (ℕ → ℕ) → ℕ → ℕ → ℕ

@@ -2,11 +2,11 @@
 ghost use Rattle.std.specs.Prelude.{◌≡◌, ◌≢◌, ℕ, ◌+◌, ◌-◌, ◌<◌, ◌≤◌, ◌++◌, ◌∷◌, [], length, slice_index, IfSome, IfNone, IfOk, OnOk};
 ghost use Rattle.std.proofs.Common.{suc};
 ghost use Rattle.mo_incidence.specs.Signature.{equations, row_len, IsSound};
-ghost use Rattle.mo_incidence.specs.Offsets.{IsTight, by_place, by_number, c_of, d_of, pairs_of};
-ghost use Rattle.mo_incidence.specs.Assignment.{Assigns, CoversAll};
-ghost use Rattle.mo_incidence.specs.Blocks.{Needs};
+ghost use Rattle.mo_incidence.specs.Offsets.{HasPairs, HasSizes, by_number, by_place, pairs_of};
+ghost use Rattle.mo_incidence.specs.Assignment.{CoversAll};
+ghost use Rattle.mo_incidence.specs.Blocks.{NeedsBy};
 ghost use Rattle.mo_incidence.specs.steps.Needing.{IsNeed, AreOwners, HasNeeds};
-ghost use Rattle.mo_graph.specs.Edges.{Edge, IsGraph};
+ghost use Rattle.mo_graph.specs.Edges.{HasEdge, IsGraph};
 
 use crate::findings::Offsets;
 use crate::table::Incidence;
@@ -104,11 +104,11 @@ fn list_needs(
 /// unknown. The offsets have to fit the incidence, with pairs that are an assignment of all equations by tight entries.
 /// `NoMemory` is the only other answer.
 pub fn needs(alloc: Global, inc: &Incidence, offsets: &Offsets) -> Result<Edges, NoMemory>
-    requires lengths { (length offsets.now.c.items ≡ equations inc.now) × (length offsets.now.d.items ≡ inc.now.unknowns) × (length offsets.now.pairs.items ≡ equations inc.now) }
-    requires tight { Assigns (IsTight inc.now (c_of offsets.now) (d_of offsets.now)) (equations inc.now) (pairs_of offsets.now) }
+    requires lengths { HasSizes inc.now offsets.now }
+    requires tight { HasPairs inc.now offsets.now }
     requires all { CoversAll inc.now (pairs_of offsets.now) }
-    ensures only { IfOk result (λ edges. (i k : ℕ) → Edge edges.sources.items edges.targets.items i k → Needs inc.now (c_of offsets.now) (d_of offsets.now) (pairs_of offsets.now) i k) }
-    ensures all { IfOk result (λ edges. (i k : ℕ) → Needs inc.now (c_of offsets.now) (d_of offsets.now) (pairs_of offsets.now) i k → Edge edges.sources.items edges.targets.items i k) }
+    ensures only { IfOk result (λ edges. (i k : ℕ) → HasEdge edges i k → NeedsBy inc.now offsets.now i k) }
+    ensures all { IfOk result (λ edges. (i k : ℕ) → NeedsBy inc.now offsets.now i k → HasEdge edges i k) }
     ensures graph { IfOk result (λ edges. IsGraph (equations inc.now) edges.sources.items edges.targets.items) }
 {
     let _equations = inc.equations();

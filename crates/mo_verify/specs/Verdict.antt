@@ -6,7 +6,7 @@ use Rattle.std.proofs.Common.{get_or}
 use Rattle.mo_flat.specs.declared.model.FlatModel.{FlatModel}
 use Rattle.mo_incidence.specs.declared.findings.Deficit.{Deficit}
 use Rattle.mo_incidence.specs.declared.findings.Offsets.{Offsets}
-use Rattle.mo_incidence.specs.Signature.{equations, row_len, unknown_at, order_at}
+use Rattle.mo_incidence.specs.Signature.{IsSound, equations, row_len, unknown_at, order_at}
 use Rattle.mo_incidence.specs.Assignment.{Assigns, CoversAll, CanCoverAll, IsUndetermined, ListsWhere}
 use Rattle.mo_incidence.specs.Offsets.{IsTight, IsAdmissible, IsLeast, by_place, by_number}
 use Rattle.mo_incidence.specs.Model.{incidence_of}
@@ -160,3 +160,11 @@ pub record HasNames (m : FlatModel) : Type 0 where
   pub name : IsName m.name
   pub unknowns : (j : ℕ) → j < length (unknown_names m.vars) → IsName (get_or (unknown_names m.vars) j [])
   pub apart : (i k : ℕ) → i < length (unknown_names m.vars) → k < length (unknown_names m.vars) → get_or (unknown_names m.vars) i [] ≡ get_or (unknown_names m.vars) k [] → i ≡ k
+
+-- where a report is right, all its lines are readable, if the model's name and those of its unknowns are names of a report
+abbrev pub IsReadableIfRight : FlatModel → List ℕ → Type 0
+IsReadableIfRight m report = IsSound (incidence_of m) → HasNames m → length report ≤ 67108864 → IsRightText m report → AreReadable report
+
+-- where the verdict is that an offset is not the least, one with the smaller number it names is admissible
+abbrev pub HasSmallerOffset : FlatModel → Verdict → Type 0
+HasSmallerOffset m verdict = (i printed less : ℕ) → verdict ≡ NotLeast (i + 1) printed less → HasOffset (incidence_of m) i less

@@ -1,14 +1,13 @@
 //! The verdict on a printed report, in its steps.
-ghost use Rattle.std.specs.Prelude.{◌≡◌, ℕ, ◌+◌, ◌≤◌, None, IfOk, length};
+ghost use Rattle.std.specs.Prelude.{◌≡◌, ◌≤◌, None, IfOk, length};
 ghost use Rattle.mo_flat.specs.Sound.{IsSoundModel};
 ghost use Rattle.mo_incidence.specs.Signature.{equations};
 ghost use Rattle.mo_incidence.specs.Model.{incidence_of, refusal_of};
 ghost use Rattle.mo_report.specs.Lines.{report_lines};
 ghost use Rattle.mo_report_lines.specs.Lines.{AreReadable};
-ghost use Rattle.mo_verify.specs.Faults.{HasOffset};
 ghost use Rattle.mo_verify.specs.Finding.{HaveSizes, HasNoFault};
 ghost use Rattle.mo_verify.specs.Steps.{printed_of, IsBlankReport, IsGround, ComparesWith};
-ghost use Rattle.mo_verify.specs.Verdict.{IsBegun, IsRead, IsVerdict, IsRightText, IsAdmissibleText, HasNames};
+ghost use Rattle.mo_verify.specs.Verdict.{IsBegun, IsRead, IsVerdict, IsRightText, IsAdmissibleText, HasNames, HasSmallerOffset};
 
 use crate::chains::unchained;
 use crate::claims::{Claims, read_claims};
@@ -201,7 +200,7 @@ pub fn verify(alloc: Global, m: &FlatModel, report: &[u8]) -> Result<Verdict, No
     ensures yes { IfOk result (λ verdict. verdict ≡ Verdict.Yes → IsRightText m.now report.now) }
     ensures complete { IfOk result (λ verdict. HasNames m.now → IsRightText m.now report.now → verdict ≡ Verdict.Yes) }
     ensures admissible { IfOk result (λ verdict. verdict ≡ Verdict.Admissible → IsAdmissibleText m.now report.now) }
-    ensures smaller { IfOk result (λ verdict. (i printed less : ℕ) → verdict ≡ Verdict.NotLeast (i + 1) printed less → HasOffset (incidence_of m.now) i less) }
+    ensures smaller { IfOk result (HasSmallerOffset m.now) }
 {
     match incidence(alloc, m) {
         Ok(inc) => {
