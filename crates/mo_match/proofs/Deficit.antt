@@ -101,36 +101,24 @@ module _ (b : Bipartite) (p owner q par mk : List ℕ) (base r : ℕ) (to : IsAs
   }
 
   pub assigned_next : (p' owner' q' par' mk' : List ℕ) (base' : ℕ) → r < equations b.signature
-      → Matches b p' owner' → ClosedTo b owner' mk' q' base'
-      → (base' ≡ base → (get_or p' r 0 ≢ 0) × HoldsTree b p' q' par' mk' base base)
-      → (base' ≢ base → (p' ≡ p) × (owner' ≡ owner) × (base < base') × (get_or q' base 0 ≡ r) × HoldsTree b p' q' par' mk' base base')
+      → Matches b p' owner' → HoldsTree b p' q' par' mk' base base' → ClosedTo b owner' mk' q' base'
+      → (base' ≡ base → get_or p' r 0 ≢ 0)
+      → (base' ≢ base → (base < base') × (get_or q' base 0 ≡ r))
       → ((x : ℕ) → get_or p x 0 ≢ 0 → get_or p' x 0 ≢ 0)
       → ((x : ℕ) → x < equations b.signature → get_or mk x 0 ≢ 0 → get_or mk' x 0 ≢ 0)
       → IsAssignedTo b p' owner' q' par' mk' base' (r + 1)
-  assigned_next p' owner' q' par' mk' base' rm match closed gained failed kept marked = elim (eqb_tells base' base) [
-    | inl e ↦
-        let got = gained e.1 in
-        record {
-          matching = match;
-          tree = rw e.1 got.1;
-          closed = closed;
-          settled = λ i l none. elim (eqb_tells i r) [
-            | inl z ↦ absurd (got.0 (rw z.1 at none))
-            | inr z ↦ before i (omega (arith, z.1)) none
-          ];
-        }
-    | inr e ↦
-        let got = failed e.1 in
-        record {
-          matching = match;
-          tree = tree_rebase got.4;
-          closed = closed;
-          settled = λ i l none. elim (eqb_tells i r) [
-            | inl z ↦ let here = got.4.marked base got.2 in rw z.1 (rw got.3 at here)
-            | inr z ↦ before i (omega (arith, z.1)) none
-          ];
-        }
-  ]
+  assigned_next p' owner' q' par' mk' base' rm match tree closed gained first kept marked = record {
+    matching = match;
+    tree = tree_rebase tree;
+    closed = closed;
+    settled = λ i l none. elim (eqb_tells i r) [
+      | inl z ↦ elim (eqb_tells base' base) [
+        | inl e ↦ absurd (gained e.1 (rw z.1 at none))
+        | inr e ↦ let at = first e.1 in let here = tree.marked base at.0 in rw z.1 (rw at.1 at here)
+      ]
+      | inr z ↦ before i (omega (arith, z.1)) none
+    ];
+  }
     where
       before : (i : ℕ) → i < r → get_or p' i 0 ≡ 0 → get_or mk' i 0 ≢ 0
       before i l none = elim (eqb_tells (get_or p i 0) 0) [

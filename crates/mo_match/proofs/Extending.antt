@@ -1,8 +1,10 @@
 -- What is left of the queue after a search that found an unknown.
-use Rattle.std.proofs.Common.{◌≡◌, ◌≢◌, ℕ, suc, ◌-◌, ◌<◌, ◌≤◌, inl, inr, List, length, get_or, ◌∙◌, arith}
-use Rattle.std.proofs.lemmas.Bool.Decides.{leb_tells}
+use Rattle.std.proofs.Common.{◌≡◌, ◌≢◌, ℕ, suc, ◌+◌, ◌-◌, ◌<◌, ◌≤◌, inl, inr, List, length, get_or, set, sym, ◌∙◌, arith, get_or-set_other, get_or-set_same}
+use Rattle.std.proofs.lemmas.Bool.Decides.{eqb_tells, leb_tells}
 use Rattle.mo_incidence.specs.Signature.{unknown_at, IsSound}
 use Rattle.mo_match.specs.Searching.{Bipartite, IsTree, ClosedTo, Matches, HoldsTree}
+use Rattle.mo_match.specs.Trees.{IsUnmarkedTo}
+use Rattle.mo_match.proofs.Trees.{below_next}
 
 pub tree_rebase : {E : ℕ → ℕ → Type 0} {m : ℕ} {p q par mk : List ℕ} {b t : ℕ} → IsTree E m p q par mk b t → IsTree E m p q par mk t t
 tree_rebase tree = record {
@@ -18,14 +20,32 @@ tree_rebase tree = record {
   rooted = λ s above below. absurd (omega arith);
 }
 
+-- one mark more is taken back
+pub unmarked_next : (q mk mk' : List ℕ) (base t : ℕ) → IsUnmarkedTo q mk mk' base t → base ≤ t → get_or q t 0 < length mk'
+    → IsUnmarkedTo q mk (set mk' (get_or q t 0) 0) base (t + 1)
+unmarked_next q mk mk' base t to at inside = record {
+  cleared = λ s above below. elim (below_next s t below) [
+    | inr e ↦ rw e (get_or-set_same mk' (get_or q t 0) 0 0 inside)
+    | inl k ↦ elim (eqb_tells (get_or q s 0) (get_or q t 0)) [
+      | inl e ↦ rw e.1 (get_or-set_same mk' (get_or q t 0) 0 0 inside)
+      | inr e ↦ get_or-set_other mk' (get_or q t 0) (get_or q s 0) 0 0 e.1 ∙ to.cleared s above k
+    ]
+  ];
+  less = λ x some. elim (eqb_tells x (get_or q t 0)) [
+    | inl e ↦ absurd (some (rw e.1 (get_or-set_same mk' (get_or q t 0) 0 0 inside)))
+    | inr e ↦ to.less x (rw (get_or-set_other mk' (get_or q t 0) x 0 0 e.1) at some)
+  ];
+  others = λ x out.
+      let ne : x ≢ get_or q t 0 = λ e. out t at (omega arith) (sym e) in
+      get_or-set_other mk' (get_or q t 0) x 0 0 ne ∙ to.others x (λ s above below. out s above (omega arith));
+}
+
 module _ (E : ℕ → ℕ → Type 0) (m : ℕ) (p q par mk : List ℕ) (b t : ℕ) (tree : IsTree E m p q par mk b t) (le : b ≤ t)
     (mk' : List ℕ) (size : length mk' ≡ length mk)
-    (cleared : (s : ℕ) → b ≤ s → s < t → get_or mk' (get_or q s 0) 0 ≡ 0)
-    (less : (x : ℕ) → get_or mk' x 0 ≢ 0 → get_or mk x 0 ≢ 0)
-    (others : (x : ℕ) → ((s : ℕ) → b ≤ s → s < t → get_or q s 0 ≢ x) → get_or mk' x 0 ≡ get_or mk x 0) where
+    (unmarked : IsUnmarkedTo q mk mk' b t) where
   pub marked_after : (s : ℕ) → s < b → get_or mk' (get_or q s 0) 0 ≢ 0
   marked_after s l =
-      let same = others (get_or q s 0) (λ u above below e. let is : u ≡ s = tree.apart u s below (omega arith) e in absurd (omega arith)) in
+      let same = unmarked.others (get_or q s 0) (λ u above below e. let is : u ≡ s = tree.apart u s below (omega arith) e in absurd (omega arith)) in
       rw same (tree.marked s (omega arith))
 
   pub tree_after : (p' : List ℕ) → ((s : ℕ) → s < b → get_or p' (get_or q s 0) 0 ≡ get_or p (get_or q s 0) 0) → IsTree E m p' q par mk' b b
@@ -38,9 +58,9 @@ module _ (E : ℕ → ℕ → Type 0) (m : ℕ) (p q par mk : List ℕ) (b t : �
     apart = λ s u sl ul. tree.apart s u (omega arith) (omega arith);
     marked = marked_after;
     listed = λ x xm some.
-        let there = tree.listed x xm (less x some) in
+        let there = tree.listed x xm (unmarked.less x some) in
         elim (leb_tells b there.0) [
-          | inl e ↦ absurd (some (rw (← there.2) (cleared there.0 e.1 there.1)))
+          | inl e ↦ absurd (some (rw (← there.2) (unmarked.cleared there.0 e.1 there.1)))
           | inr e ↦ (there.0, e.1, there.2)
         ];
     linked = λ s l. rw (same s l) (tree.linked s (omega arith));

@@ -1,4 +1,5 @@
 pub mod Searching
+pub mod Trees
 pub mod Results
 pub mod Room
 pub mod Answer

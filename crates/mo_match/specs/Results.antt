@@ -23,6 +23,10 @@ pub record IsMadeFor (g : Signature) (w : Results) : Type 0 where
   pub unknowns : w.unknowns ≡ g.unknowns
   pub entries : w.entries ≡ entries g
 
+-- nothing but the assignment and the deficit differs
+abbrev pub IsReassigned : Results → Results → Type 0
+IsReassigned w w' = w' ≡ record w { assignment = w'.assignment; deficient = w'.deficient; mentioned = w'.mentioned }
+
 -- a new one: nothing is assigned, and nothing was found
 abbrev pub fresh : ℕ → ℕ → ℕ → Results
 fresh m n e = record {

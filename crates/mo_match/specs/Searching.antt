@@ -27,6 +27,10 @@ UsesEntry b i k = b.tight ≡ true → get_or b.d (unknown_at b.signature i k - 
 unfoldable pub Uses : Bipartite → ℕ → ℕ → Type 0
 Uses b i j = (k : ℕ) × (k < row_len b.signature i) × (unknown_at b.signature i k ≡ j) × UsesEntry b i k
 
+-- j is the unknown of the entry, which may be used
+abbrev pub IsUsable : Bipartite → ℕ → ℕ → ℕ → Type 0
+IsUsable b i k j = (j ≡ unknown_at b.signature i k) × UsesEntry b i k
+
 -- `pairs` gives the equations' unknowns, or 0, and `owner` for each unknown one more than the place of its equation, or 0
 pub record IsMatching (E : ℕ → ℕ → Type 0) (m n : ℕ) (pairs owner : List ℕ) : Type 0 where
   pub equations_all : length pairs ≡ m
@@ -86,6 +90,14 @@ Matches b pairs owner = IsMatching (Uses b) (equations b.signature) b.signature.
 
 abbrev pub HoldsTree : Bipartite → List ℕ → List ℕ → List ℕ → List ℕ → ℕ → ℕ → Type 0
 HoldsTree b pairs queue parent mark base tail = IsTree (Uses b) (equations b.signature) pairs queue parent mark base tail
+
+-- a search can begin from the equation at place i, which has no unknown and no mark
+abbrev pub CanBegin : Bipartite → List ℕ → List ℕ → ℕ → Type 0
+CanBegin b pairs mark i = (i < equations b.signature) × (get_or pairs i 0 ≡ 0) × (get_or mark i 0 ≡ 0)
+
+-- no equation loses its mark
+abbrev pub KeepMarks : Bipartite → List ℕ → List ℕ → Type 0
+KeepMarks b mark mark' = (x : ℕ) → x < equations b.signature → get_or mark x 0 ≢ 0 → get_or mark' x 0 ≢ 0
 
 -- the equations before place r have an unknown, or are in the closed front of the queue, which ends at base
 pub record IsAssignedTo (b : Bipartite) (pairs owner queue parent mark : List ℕ) (base r : ℕ) : Type 0 where

@@ -2,9 +2,11 @@
 ghost use Rattle.std.specs.Prelude.{◌≡◌, ◌≢◌, ℕ, ◌+◌, ◌-◌, ◌<◌, ◌≤◌, length, slice_index, IsTrue, IfSome, IfNone};
 ghost use Rattle.std.proofs.Common.{suc};
 ghost use Rattle.mo_incidence.specs.Signature.{equations, row_len, entries, IsSound};
-ghost use Rattle.mo_match.specs.Searching.{Uses, ClosedTo, Grows, IsFree, Matches, HoldsTree, IsHandedTo};
+ghost use Rattle.mo_match.specs.Searching.{CanBegin, IsFree, KeepMarks, Matches};
+ghost use Rattle.mo_match.specs.Trees.{AreKeptBefore, Gains, HasSameLists, HasTree, IsBareElsewhere, IsClosedTo, IsHandedOn, IsUnmarkedTo};
 
 use crate::graph::Graph;
+use crate::search::{Held, Search};
 use mo_ports::Steps;
 
 /// An equation at a place of the queue may have an unknown that no equation has.
@@ -24,16 +26,18 @@ pub(crate) struct Outcome {
 }
 
 /// Takes the marks of the equations from place `base` of the queue back.
-pub fn unmark(queue: &[u32], mark: &mut [u32], base: usize, tail: usize)
+pub fn unmark(search: &mut Search, base: usize, tail: usize)
     requires order { base ≤ tail }
-    requires room { tail ≤ length queue.now }
-    requires in_range { (t : ℕ) → t < tail → slice_index queue.now t < length mark.old }
-    ensures cleared { (t : ℕ) → base ≤ t → t < tail → slice_index mark.new (slice_index queue.now t) ≡ 0 }
-    ensures less { (x : ℕ) → slice_index mark.new x ≢ 0 → slice_index mark.old x ≢ 0 }
-    ensures others { (x : ℕ) → ((t : ℕ) → base ≤ t → t < tail → slice_index queue.now t ≢ x) → slice_index mark.new x ≡ slice_index mark.old x }
+    requires room { tail ≤ length search.old.queue.now }
+    requires in_range { (t : ℕ) → t < tail → slice_index search.old.queue.now t < length search.old.mark.now }
+    ensures unmarked { IsUnmarkedTo search.old.queue.now search.old.mark.now search.new.mark.now base tail }
+    ensures kept { (search.new.queue.now ≡ search.old.queue.now) × (search.new.parent.now ≡ search.old.parent.now) }
+    ensures size { length search.new.mark.now ≡ length search.old.mark.now }
+    ensures same { HasSameLists search.old search.new }
 {
     for t in base..tail {
-        mark[queue[t] as usize] = 0;
+        let equation = search.queue[t] as usize;
+        search.mark[equation] = 0;
     }
 }
 
@@ -41,36 +45,32 @@ impl<'a, L> Graph<'a, L> {
     /// Searches from an equation without unknown, behind the closed front of the queue, for an unknown that no equation has.
     fn search(
         &self,
-        pairs: &[u32],
-        owner: &[u32],
-        queue: &mut [u32],
-        parent: &mut [u32],
-        mark: &mut [u32],
+        held: &Held,
+        search: &mut Search,
         base: usize,
         root: usize,
         steps: &mut Steps<L>,
     ) -> Outcome
         requires sound { IsSound self.now.signature }
-        requires matching { Matches self.now pairs.now owner.now }
-        requires tree { HoldsTree self.now pairs.now queue.old parent.old mark.old base base }
-        requires closed { ClosedTo self.now owner.now mark.old queue.old base }
-        requires root { (root < equations self.now.signature) × (slice_index pairs.now root ≡ 0) × (slice_index mark.old root ≡ 0) }
-        ensures tree { HoldsTree self.now pairs.now queue.new parent.new mark.new base result.tail }
-        ensures grows { Grows queue.old mark.old queue.new mark.new base result.tail }
-        ensures first { (base < result.tail) × (slice_index queue.new base ≡ root) }
-        ensures found { IfSome result.free (λ f. (base ≤ f.place) × (f.place < result.tail) × IsFree self.now owner.now (slice_index queue.new f.place) f.unknown) }
-        ensures failed { IfNone result.free (ClosedTo self.now owner.now mark.new queue.new result.tail) }
+        requires matching { Matches self.now held.now.pairs.now held.now.owner.now }
+        requires tree { HasTree self.now held.now.pairs.now search.old base base }
+        requires closed { IsClosedTo self.now held.now.owner.now search.old base }
+        requires root { CanBegin self.now held.now.pairs.now search.old.mark.now root }
+        ensures tree { HasTree self.now held.now.pairs.now search.new base result.tail }
+        ensures grows { Gains search.old search.new base result.tail }
+        ensures first { (base < result.tail) × (slice_index search.new.queue.now base ≡ root) }
+        ensures found { IfSome result.free (λ f. (base ≤ f.place) × (f.place < result.tail) × IsFree self.now held.now.owner.now (slice_index search.new.queue.now f.place) f.unknown) }
+        ensures failed { IfNone result.free (IsClosedTo self.now held.now.owner.now search.new result.tail) }
+        ensures same { HasSameLists search.old search.new }
         ensures cost { steps.new ≤ steps.old + entries self.now.signature }
     {
-        queue[base] = root as u32;
-        parent[base] = base as u32;
-        mark[root] = 1;
+        search.queue[base] = root as u32;
+        search.parent[base] = base as u32;
+        search.mark[root] = 1;
         let mut tail = base + 1;
         let mut head = base;
         while head < tail {
-            let (grown, free) = self.scan_row(
-                pairs, owner, queue, parent, mark, base, head, tail, steps,
-            );
+            let (grown, free) = self.scan_row(held, search, base, head, tail, steps);
             tail = grown;
             match free {
                 Some(unknown) => {
@@ -87,35 +87,33 @@ impl<'a, L> Graph<'a, L> {
     }
 
     /// Gives the equation at a place of the queue a free unknown, its old one to the equation from which it was reached, and so on
-    /// back to the root.
+    /// back to the root, which stands at place `base`.
     pub fn hand_on(
         &self,
         pairs: &mut [u32],
         owner: &mut [u32],
-        queue: &[u32],
-        parent: &[u32],
-        mark: &[u32],
+        search: &Search,
         base: usize,
         tail: usize,
         free: Free,
     )
         requires matching { Matches self.now pairs.old owner.old }
-        requires tree { HoldsTree self.now pairs.old queue.now parent.now mark.now base tail }
+        requires tree { HasTree self.now pairs.old search.now base tail }
         requires start { (base ≤ free.place) × (free.place < tail) }
-        requires bare { slice_index pairs.old (slice_index queue.now base) ≡ 0 }
-        requires free { IsFree self.now owner.old (slice_index queue.now free.place) free.unknown }
+        requires bare { slice_index pairs.old (slice_index search.now.queue.now base) ≡ 0 }
+        requires free { IsFree self.now owner.old (slice_index search.now.queue.now free.place) free.unknown }
         requires few { equations self.now.signature ≤ 50000 }
         ensures matching { Matches self.now pairs.new owner.new }
         ensures kept { (x : ℕ) → slice_index pairs.old x ≢ 0 → slice_index pairs.new x ≢ 0 }
-        ensures root { slice_index pairs.new (slice_index queue.now base) ≢ 0 }
-        ensures handed { IsHandedTo pairs.old queue.now parent.now base tail free.place free.unknown (slice_index pairs.new (slice_index queue.now base)) }
-        ensures bare { (x : ℕ) → x ≢ slice_index queue.now base → slice_index pairs.old x ≡ 0 → slice_index pairs.new x ≡ 0 }
-        ensures dead { (t : ℕ) → t < base → slice_index pairs.new (slice_index queue.now t) ≡ slice_index pairs.old (slice_index queue.now t) }
+        ensures root { slice_index pairs.new (slice_index search.now.queue.now base) ≢ 0 }
+        ensures handed { IsHandedOn pairs.old pairs.new search.now base tail free }
+        ensures bare { IsBareElsewhere pairs.old pairs.new (slice_index search.now.queue.now base) }
+        ensures dead { AreKeptBefore pairs.old pairs.new search.now base }
     {
         let mut place = free.place;
         let mut unknown = free.unknown;
         'back: loop {
-            let equation = queue[place];
+            let equation = search.queue[place];
             let old = pairs[equation as usize];
             pairs[equation as usize] = unknown;
             owner[unknown as usize] = equation + 1;
@@ -123,7 +121,7 @@ impl<'a, L> Graph<'a, L> {
                 return;
             }
             unknown = old;
-            place = parent[place] as usize;
+            place = search.parent[place] as usize;
         }
     }
 
@@ -133,32 +131,35 @@ impl<'a, L> Graph<'a, L> {
         &self,
         pairs: &mut [u32],
         owner: &mut [u32],
-        queue: &mut [u32],
-        parent: &mut [u32],
-        mark: &mut [u32],
+        search: &mut Search,
         base: usize,
         root: usize,
         steps: &mut Steps<L>,
     ) -> usize
         requires sound { IsSound self.now.signature }
         requires matching { Matches self.now pairs.old owner.old }
-        requires tree { HoldsTree self.now pairs.old queue.old parent.old mark.old base base }
-        requires closed { ClosedTo self.now owner.old mark.old queue.old base }
-        requires root { (root < equations self.now.signature) × (slice_index pairs.old root ≡ 0) × (slice_index mark.old root ≡ 0) }
+        requires tree { HasTree self.now pairs.old search.old base base }
+        requires closed { IsClosedTo self.now owner.old search.old base }
+        requires root { CanBegin self.now pairs.old search.old.mark.now root }
         ensures matching { Matches self.now pairs.new owner.new }
-        ensures closed { ClosedTo self.now owner.new mark.new queue.new result }
-        ensures gained { result ≡ base → (slice_index pairs.new root ≢ 0) × HoldsTree self.now pairs.new queue.new parent.new mark.new base base }
-        ensures failed { result ≢ base → (pairs.new ≡ pairs.old) × (owner.new ≡ owner.old) × (base < result) × (slice_index queue.new base ≡ root) × HoldsTree self.now pairs.new queue.new parent.new mark.new base result }
+        ensures tree { HasTree self.now pairs.new search.new base result }
+        ensures closed { IsClosedTo self.now owner.new search.new result }
+        ensures gained { result ≡ base → slice_index pairs.new root ≢ 0 }
+        ensures first { result ≢ base → (base < result) × (slice_index search.new.queue.now base ≡ root) }
+        ensures failed { result ≢ base → (pairs.new ≡ pairs.old) × (owner.new ≡ owner.old) }
         ensures kept { (x : ℕ) → slice_index pairs.old x ≢ 0 → slice_index pairs.new x ≢ 0 }
-        ensures marked { (x : ℕ) → x < equations self.now.signature → slice_index mark.old x ≢ 0 → slice_index mark.new x ≢ 0 }
+        ensures bare { IsBareElsewhere pairs.old pairs.new root }
+        ensures marked { KeepMarks self.now search.old.mark.now search.new.mark.now }
+        ensures same { HasSameLists search.old search.new }
         ensures cost { steps.new ≤ steps.old + entries self.now.signature }
     {
-        let outcome = self.search(pairs, owner, queue, parent, mark, base, root, steps);
+        let held = Held { pairs, owner };
+        let outcome = self.search(&held, search, base, root, steps);
         match outcome.free {
             None => outcome.tail,
             Some(free) => {
-                self.hand_on(pairs, owner, queue, parent, mark, base, outcome.tail, free);
-                unmark(queue, mark, base, outcome.tail);
+                self.hand_on(pairs, owner, search, base, outcome.tail, free);
+                unmark(search, base, outcome.tail);
                 base
             }
         }

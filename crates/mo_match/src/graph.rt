@@ -1,7 +1,7 @@
 //! Which equation may have which unknown.
 ghost use Rattle.std.specs.Prelude.{◌≡◌, ◌≢◌, ◌+◌, ◌-◌, ◌<◌, ◌≤◌, ◌↔◌, [], length, true, false, IsTrue, IfSome, IfNone};
-ghost use Rattle.mo_incidence.specs.Signature.{equations, row_len, unknown_at, order_at, IsSound};
-ghost use Rattle.mo_match.specs.Searching.{UsesEntry, tight_of};
+ghost use Rattle.mo_incidence.specs.Signature.{equations, row_len, order_at, IsSound};
+ghost use Rattle.mo_match.specs.Searching.{IsUsable, UsesEntry, tight_of};
 
 use mo_incidence::Counted;
 use mo_ports::Steps;
@@ -65,7 +65,7 @@ impl<'a, L> Graph<'a, L> {
     pub fn usable(&self, row: u32, k: u32, steps: &mut Steps<L>) -> Option<u32>
         requires row { (0 < row) × (row ≤ equations self.now.signature) }
         requires k { k < row_len self.now.signature (row - 1) }
-        ensures some { IfSome result (λ j. (j ≡ unknown_at self.now.signature (row - 1) k) × UsesEntry self.now (row - 1) k) }
+        ensures some { IfSome result (IsUsable self.now (row - 1) k) }
         ensures known { IfSome result (λ j. (0 < j) × (j ≤ self.now.signature.unknowns)) }
         ensures none { IfNone result (UsesEntry self.now (row - 1) k → ⊥) }
         ensures cost { steps.new ≡ steps.old + 1 }

@@ -1,16 +1,16 @@
 //! A largest assignment.
 ghost use Rattle.std.specs.Prelude.{◌≡◌, ◌≢◌, ℕ, ◌+◌, ◌-◌, ◌*◌, ◌<◌, ◌≤◌, length, slice_index, false};
 ghost use Rattle.std.proofs.Common.{suc};
-ghost use Rattle.mo_incidence.specs.Counting.{count_below};
 ghost use Rattle.mo_incidence.specs.Signature.{equations, entries, IsSound};
 ghost use Rattle.mo_incidence.specs.Assignment.{CoversAll, IsLargest, IsDeficit};
 ghost use Rattle.mo_incidence.specs.Offsets.{by_place};
 ghost use Rattle.mo_match.specs.Searching.{IsAssignedTo};
-ghost use Rattle.mo_match.specs.Results.{IsMadeFor};
-ghost use Rattle.mo_match.specs.Answer.{left_out};
+ghost use Rattle.mo_match.specs.Results.{IsMadeFor, IsReassigned};
+ghost use Rattle.mo_match.specs.Answer.{covered, left_out};
 
 use crate::graph::Graph;
 use crate::lists::{count_missing, list_marked, list_reached};
+use crate::search::Search;
 use crate::work::{Assigned, Work};
 use mo_incidence::Counted;
 use mo_ports::Steps;
@@ -44,15 +44,20 @@ impl<'a, L> Graph<'a, L> {
         clear(pairs);
         clear(owner);
         clear(mark);
+        let mut search = Search {
+            queue,
+            parent,
+            mark,
+        };
         let mut base = 0;
         for root in 0..pairs.len() {
             if pairs[root] != 0 {
                 continue;
             }
-            if mark[root] != 0 {
+            if search.mark[root] != 0 {
                 continue;
             }
-            base = self.extend(pairs, owner, queue, parent, mark, base, root, steps);
+            base = self.extend(pairs, owner, &mut search, base, root, steps);
         }
         base
     }
@@ -66,11 +71,11 @@ pub fn assign<L>(inc: &Counted<L>, work: &mut Work, steps: &mut Steps<L>) -> Ass
     requires { IsMadeFor inc.now work.old }
     ensures largest { IsLargest inc.now (by_place work.new.assignment) }
     ensures length { length work.new.assignment ≡ equations inc.now }
-    ensures missing { count_below (by_place work.new.assignment) (equations inc.now) + left_out result ≡ equations inc.now }
+    ensures missing { covered inc.now work.new.assignment + left_out result ≡ equations inc.now }
     ensures all { result ≡ Assigned.All → CoversAll inc.now (by_place work.new.assignment) }
     ensures some { (k : ℕ) → result ≡ Assigned.Missing k → 0 < k }
     ensures deficit { IsDeficit inc.now work.new.deficient work.new.mentioned (left_out result) }
-    ensures rest { work.new ≡ record work.old { assignment = work.new.assignment; deficient = work.new.deficient; mentioned = work.new.mentioned } }
+    ensures rest { IsReassigned work.old work.new }
     ensures cost { steps.new ≤ steps.old + equations inc.now * entries inc.now }
 {
     let _equations = inc.equations();

@@ -25,5 +25,6 @@ pub use extend::{Free, unmark};
 pub use graph::Graph;
 pub use largest::{assign, clear};
 pub use lists::put;
+pub use search::Search;
 pub use spread::{note_owners, undetermined};
 pub use work::{Assigned, Work};

@@ -11,9 +11,23 @@ ghost use Rattle.mo_match.specs.Results.{IsMadeFor};
 
 use crate::largest::clear;
 use crate::lists::list_unknowns;
+use crate::search::Held;
 use crate::threads::thread;
 use crate::work::Work;
 use mo_incidence::Incidence;
+
+/// An assignment of all equations, by the equations and by the unknowns, with the entries threaded by their unknowns.
+#[derive(Clone, Copy)]
+struct Threaded<'a> {
+    pub pairs: &'a [u32],
+    pub owner: &'a [u32],
+    /// For each unknown, from 1 on, one more than the place of its last entry, or 0.
+    pub last: &'a [u32],
+    /// For each entry one more than the place of the entry before it with the same unknown, or 0.
+    pub before: &'a [u32],
+    /// For each entry the place of its equation.
+    pub row_of: &'a [u32],
+}
 
 /// Writes for each unknown the number of the equation that has it, or 0.
 pub fn note_owners(inc: &Incidence, pairs: &[u32], owner: &mut [u32])
@@ -65,64 +79,62 @@ fn mark_free(inc: &Incidence, owner: &[u32], reached: &mut [u32], order: &mut [u
 /// Marks the unknowns of the equations that mention the unknown at the head of the order.
 fn spread_from(
     inc: &Incidence,
-    pairs: &[u32],
-    owner: &[u32],
-    last: &[u32],
-    before: &[u32],
-    row_of: &[u32],
+    threaded: &Threaded,
     reached: &mut [u32],
     order: &mut [u32],
     head: usize,
     end: usize,
 ) -> usize
-    requires all { CoversAll inc.now (by_place pairs.now) }
-    requires matching { IsMatching (Mentions inc.now) (equations inc.now) inc.now.unknowns pairs.now owner.now }
-    requires threads { AreThreaded inc.now last.now before.now row_of.now }
-    requires spread { IsSpread inc.now owner.now reached.old order.old end }
+    requires all { CoversAll inc.now (by_place threaded.now.pairs.now) }
+    requires matching { IsMatching (Mentions inc.now) (equations inc.now) inc.now.unknowns threaded.now.pairs.now threaded.now.owner.now }
+    requires threads { AreThreaded inc.now threaded.now.last.now threaded.now.before.now threaded.now.row_of.now }
+    requires spread { IsSpread inc.now threaded.now.owner.now reached.old order.old end }
     requires head { head < end }
-    ensures spread { IsSpread inc.now owner.now reached.new order.new result }
+    ensures spread { IsSpread inc.now threaded.now.owner.now reached.new order.new result }
     ensures spreads { Spreads reached.old order.old reached.new order.new end result }
-    ensures from { IsSpreadFrom inc.now pairs.now reached.new (slice_index order.old head) }
+    ensures from { IsSpreadFrom inc.now threaded.now.pairs.now reached.new (slice_index order.old head) }
 {
     let _equations = inc.equations();
     let mut tail = end;
-    let mut cursor = last[order[head] as usize] as usize;
+    let mut cursor = threaded.last[order[head] as usize] as usize;
     while cursor > 0 {
-        let equation = row_of[cursor - 1] as usize;
-        tail = mark_unknown(reached, order, pairs[equation], tail);
-        cursor = before[cursor - 1] as usize;
+        let equation = threaded.row_of[cursor - 1] as usize;
+        tail = mark_unknown(reached, order, threaded.pairs[equation], tail);
+        cursor = threaded.before[cursor - 1] as usize;
     }
     tail
 }
 
-/// Marks exactly the undetermined unknowns.
+/// Marks exactly the undetermined unknowns. Every equation has an unknown.
 fn find_loose(
     inc: &Incidence,
-    pairs: &[u32],
-    owner: &mut [u32],
+    held: &Held,
     last: &mut [u32],
     before: &mut [u32],
     row_of: &mut [u32],
     reached: &mut [u32],
     order: &mut [u32],
 )
-    requires assigned { IsAssignment inc.now (by_place pairs.now) }
-    requires all { CoversAll inc.now (by_place pairs.now) }
-    requires sizes { (length pairs.now ≡ equations inc.now) × (length owner.old ≡ suc inc.now.unknowns) }
+    requires all { CoversAll inc.now (by_place held.now.pairs.now) }
+    requires matching { IsMatching (Mentions inc.now) (equations inc.now) inc.now.unknowns held.now.pairs.now held.now.owner.now }
     requires room { (length last.old ≡ suc inc.now.unknowns) × (length before.old ≡ entries inc.now) × (length row_of.old ≡ entries inc.now) }
     requires room_search { (length reached.old ≡ suc inc.now.unknowns) × (length order.old ≡ inc.now.unknowns) }
     ensures marked { (j : ℕ) → slice_index reached.new j ≢ 0 → IsUndetermined inc.now j }
     ensures all { (j : ℕ) → 0 < j → j ≤ inc.now.unknowns → IsUndetermined inc.now j → slice_index reached.new j ≢ 0 }
 {
     let _equations = inc.equations();
-    note_owners(inc, pairs, owner);
     thread(inc, last, before, row_of);
-    let mut tail = mark_free(inc, owner, reached, order);
+    let mut tail = mark_free(inc, held.owner, reached, order);
+    let threaded = Threaded {
+        pairs: held.pairs,
+        owner: held.owner,
+        last,
+        before,
+        row_of,
+    };
     let mut head = 0;
     while head < tail {
-        tail = spread_from(
-            inc, pairs, owner, last, before, row_of, reached, order, head, tail,
-        );
+        tail = spread_from(inc, &threaded, reached, order, head, tail);
         head += 1;
     }
 }
@@ -137,10 +149,14 @@ pub fn undetermined(inc: &Incidence, work: &mut Work)
     ensures rest { work.new ≡ record work.old { loose = work.new.loose } }
 {
     let _equations = inc.equations();
+    note_owners(inc, &work.assignment, &mut work.owner);
+    let held = Held {
+        pairs: &work.assignment,
+        owner: &work.owner,
+    };
     find_loose(
         inc,
-        &work.assignment,
-        &mut work.owner,
+        &held,
         &mut work.last,
         &mut work.before,
         &mut work.row_of,

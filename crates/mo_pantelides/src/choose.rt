@@ -3,15 +3,16 @@ ghost use Rattle.std.specs.Prelude.{◌≡◌, ◌≢◌, ℕ, ◌+◌, ◌-◌,
 ghost use Rattle.std.proofs.Common.{suc};
 ghost use Rattle.std.specs.Vec.{vec_capacity};
 ghost use Rattle.mo_incidence.specs.Signature.{equations, row_len};
-ghost use Rattle.mo_incidence.specs.Assignment.{Mentions, Assigns, CoversAll};
-ghost use Rattle.mo_incidence.specs.Offsets.{IsTight, IsLeast, by_place, by_number};
+ghost use Rattle.mo_incidence.specs.Assignment.{CoversAll, Mentions};
+ghost use Rattle.mo_incidence.specs.Offsets.{ArePaired, AreSized, HasPairs, HasSizes, IsLeast, by_number, by_place, c_of, d_of, pairs_of};
 ghost use Rattle.mo_match.specs.Searching.{IsMatching};
 ghost use Rattle.mo_match.specs.Results.{IsMadeFor};
 ghost use Rattle.mo_incidence.specs.Reasons.{listed_reasons, AreReasonsOf};
+ghost use Rattle.mo_pantelides.specs.Finding.{AreReasonsIn};
 ghost use Rattle.mo_pantelides.specs.steps.Ranks.{IsChosenTo, Considers};
 
-use crate::ranks::{find_ranks, led_by};
-use mo_incidence::{Incidence, Reason};
+use crate::ranks::{Paired, find_ranks, led_by};
+use mo_incidence::{Incidence, Offsets, Reason};
 use mo_match::{Work, clear, note_owners};
 
 /// Takes the equation at place k for another one, if it has a lower rank than the one taken before.
@@ -32,72 +33,45 @@ fn consider(mark: &[u32], best: &mut [u32], k: u32, equation: u32)
 }
 
 /// Looks at one entry of the equation at place k.
-fn choose_entry(
-    inc: &Incidence,
-    c: &[u32],
-    d: &[u32],
-    pairs: &[u32],
-    owner: &[u32],
-    mark: &[u32],
-    best: &mut [u32],
-    k: u32,
-    n: u32,
-)
+fn choose_entry(inc: &Incidence, paired: &Paired, mark: &[u32], best: &mut [u32], k: u32, n: u32)
     requires k { k < equations inc.now }
     requires n { n < row_len inc.now k }
-    requires sizes { (length c.now ≡ equations inc.now) × (length d.now ≡ inc.now.unknowns) × (length mark.now ≡ equations inc.now) × (equations inc.now ≤ 50000) }
-    requires matching { IsMatching (Mentions inc.now) (equations inc.now) inc.now.unknowns pairs.now owner.now }
-    requires all { CoversAll inc.now (by_place pairs.now) }
-    requires chosen { IsChosenTo inc.now (by_place c.now) (by_number d.now) (by_place pairs.now) mark.now best.old k n }
-    ensures { IsChosenTo inc.now (by_place c.now) (by_number d.now) (by_place pairs.now) mark.now best.new k (n + 1) }
+    requires sizes { (length paired.now.c.now ≡ equations inc.now) × (length paired.now.d.now ≡ inc.now.unknowns) × (length mark.now ≡ equations inc.now) × (equations inc.now ≤ 50000) }
+    requires matching { IsMatching (Mentions inc.now) (equations inc.now) inc.now.unknowns paired.now.pairs.now paired.now.owner.now }
+    requires all { CoversAll inc.now (by_place paired.now.pairs.now) }
+    requires chosen { IsChosenTo inc.now (by_place paired.now.c.now) (by_number paired.now.d.now) (by_place paired.now.pairs.now) mark.now best.old k n }
+    ensures { IsChosenTo inc.now (by_place paired.now.c.now) (by_number paired.now.d.now) (by_place paired.now.pairs.now) mark.now best.new k (n + 1) }
 {
-    match led_by(inc, c, d, pairs, owner, k, n) {
+    match led_by(inc, paired, k, n) {
         None => {}
         Some(equation) => consider(mark, best, k, equation),
     }
 }
 
 /// Looks at the entries of the equation at place k.
-fn choose_row(
-    inc: &Incidence,
-    c: &[u32],
-    d: &[u32],
-    pairs: &[u32],
-    owner: &[u32],
-    mark: &[u32],
-    best: &mut [u32],
-    k: u32,
-)
+fn choose_row(inc: &Incidence, paired: &Paired, mark: &[u32], best: &mut [u32], k: u32)
     requires k { k < equations inc.now }
-    requires sizes { (length c.now ≡ equations inc.now) × (length d.now ≡ inc.now.unknowns) × (length mark.now ≡ equations inc.now) × (equations inc.now ≤ 50000) }
-    requires matching { IsMatching (Mentions inc.now) (equations inc.now) inc.now.unknowns pairs.now owner.now }
-    requires all { CoversAll inc.now (by_place pairs.now) }
-    requires chosen { IsChosenTo inc.now (by_place c.now) (by_number d.now) (by_place pairs.now) mark.now best.old k 0 }
-    ensures { IsChosenTo inc.now (by_place c.now) (by_number d.now) (by_place pairs.now) mark.now best.new (k + 1) 0 }
+    requires sizes { (length paired.now.c.now ≡ equations inc.now) × (length paired.now.d.now ≡ inc.now.unknowns) × (length mark.now ≡ equations inc.now) × (equations inc.now ≤ 50000) }
+    requires matching { IsMatching (Mentions inc.now) (equations inc.now) inc.now.unknowns paired.now.pairs.now paired.now.owner.now }
+    requires all { CoversAll inc.now (by_place paired.now.pairs.now) }
+    requires chosen { IsChosenTo inc.now (by_place paired.now.c.now) (by_number paired.now.d.now) (by_place paired.now.pairs.now) mark.now best.old k 0 }
+    ensures { IsChosenTo inc.now (by_place paired.now.c.now) (by_number paired.now.d.now) (by_place paired.now.pairs.now) mark.now best.new (k + 1) 0 }
 {
     for n in 0..inc.row_len(k + 1) {
-        choose_entry(inc, c, d, pairs, owner, mark, best, k, n);
+        choose_entry(inc, paired, mark, best, k, n);
     }
 }
 
 /// Writes for each equation one more than the place of its best candidate, or 0.
-fn choose_all(
-    inc: &Incidence,
-    c: &[u32],
-    d: &[u32],
-    pairs: &[u32],
-    owner: &[u32],
-    mark: &[u32],
-    best: &mut [u32],
-)
-    requires sizes { (length c.now ≡ equations inc.now) × (length d.now ≡ inc.now.unknowns) × (length mark.now ≡ equations inc.now) × (length best.old ≡ equations inc.now) }
-    requires matching { IsMatching (Mentions inc.now) (equations inc.now) inc.now.unknowns pairs.now owner.now }
-    requires all { CoversAll inc.now (by_place pairs.now) }
-    ensures { IsChosenTo inc.now (by_place c.now) (by_number d.now) (by_place pairs.now) mark.now best.new (equations inc.now) 0 }
+fn choose_all(inc: &Incidence, paired: &Paired, mark: &[u32], best: &mut [u32])
+    requires sizes { (length paired.now.c.now ≡ equations inc.now) × (length paired.now.d.now ≡ inc.now.unknowns) × (length mark.now ≡ equations inc.now) × (length best.old ≡ equations inc.now) }
+    requires matching { IsMatching (Mentions inc.now) (equations inc.now) inc.now.unknowns paired.now.pairs.now paired.now.owner.now }
+    requires all { CoversAll inc.now (by_place paired.now.pairs.now) }
+    ensures { IsChosenTo inc.now (by_place paired.now.c.now) (by_number paired.now.d.now) (by_place paired.now.pairs.now) mark.now best.new (equations inc.now) 0 }
 {
     clear(best);
     for k in 0..inc.equations() {
-        choose_row(inc, c, d, pairs, owner, mark, best, k);
+        choose_row(inc, paired, mark, best, k);
     }
 }
 
@@ -137,28 +111,32 @@ fn list_reasons(c: &[u32], best: &[u32], list: &mut Vec<Reason>)
 /// Lists the reasons, with room for the searches.
 fn find_reasons(
     inc: &Incidence,
-    c: &[u32],
-    d: &[u32],
-    pairs: &[u32],
+    offsets: &Offsets,
     owner: &mut [u32],
     queue: &mut [u32],
     mark: &mut [u32],
     best: &mut [u32],
     list: &mut Vec<Reason>,
 )
-    requires sizes { (length c.now ≡ equations inc.now) × (length d.now ≡ inc.now.unknowns) × (length pairs.now ≡ equations inc.now) }
+    requires sizes { HasSizes inc.now offsets.now }
     requires room { (length owner.old ≡ suc inc.now.unknowns) × (length queue.old ≡ equations inc.now) × (length mark.old ≡ equations inc.now) × (length best.old ≡ equations inc.now) × (equations inc.now ≤ vec_capacity list.old) }
-    requires least { IsLeast inc.now (by_place c.now) (by_number d.now) }
-    requires tight { Assigns (IsTight inc.now (by_place c.now) (by_number d.now)) (equations inc.now) (by_place pairs.now) }
-    requires all { CoversAll inc.now (by_place pairs.now) }
-    ensures reasons { AreReasonsOf inc.now (by_place c.now) (by_number d.now) (by_place pairs.now) list.new.items }
+    requires least { IsLeast inc.now (c_of offsets.now) (d_of offsets.now) }
+    requires tight { HasPairs inc.now offsets.now }
+    requires all { CoversAll inc.now (pairs_of offsets.now) }
+    ensures reasons { AreReasonsOf inc.now (c_of offsets.now) (d_of offsets.now) (pairs_of offsets.now) list.new.items }
     ensures room { vec_capacity list.old ≤ vec_capacity list.new }
 {
     let _equations = inc.equations();
-    note_owners(inc, pairs, owner);
-    find_ranks(inc, c, d, pairs, owner, queue, mark);
-    choose_all(inc, c, d, pairs, owner, mark, best);
-    list_reasons(c, best, list);
+    note_owners(inc, &offsets.pairs, owner);
+    let paired = Paired {
+        c: &offsets.c,
+        d: &offsets.d,
+        pairs: &offsets.pairs,
+        owner,
+    };
+    find_ranks(inc, &paired, queue, mark);
+    choose_all(inc, &paired, mark, best);
+    list_reasons(paired.c, best, list);
 }
 
 /// Finds why equations have to be differentiated: for each with an offset above 0 another one that is tight at its unknown, of
@@ -167,18 +145,16 @@ fn find_reasons(
 /// It takes no memory.
 pub fn reasons(inc: &Incidence, work: &mut Work)
     requires made { IsMadeFor inc.now work.old }
-    requires lengths { (length work.old.c ≡ equations inc.now) × (length work.old.d ≡ inc.now.unknowns) × (length work.old.pairs ≡ equations inc.now) }
+    requires lengths { AreSized inc.now work.old.c work.old.d work.old.pairs }
     requires least { IsLeast inc.now (by_place work.old.c) (by_number work.old.d) }
-    requires pairs { Assigns (IsTight inc.now (by_place work.old.c) (by_number work.old.d)) (equations inc.now) (by_place work.old.pairs) }
+    requires pairs { ArePaired inc.now (by_place work.old.c) (by_number work.old.d) (by_place work.old.pairs) }
     requires all { CoversAll inc.now (by_place work.old.pairs) }
-    ensures reasons { AreReasonsOf inc.now (by_place work.old.c) (by_number work.old.d) (by_place work.old.pairs) work.new.reasons }
+    ensures reasons { AreReasonsIn inc.now work.old work.new.reasons }
     ensures rest { work.new ≡ record work.old { reasons = work.new.reasons } }
 {
     find_reasons(
         inc,
-        &work.offsets.c,
-        &work.offsets.d,
-        &work.offsets.pairs,
+        &work.offsets,
         &mut work.owner,
         &mut work.queue,
         &mut work.mark,

@@ -3,19 +3,20 @@ ghost use Rattle.std.specs.Prelude.{◌≡◌, ◌≢◌, ℕ, ◌+◌, ◌-◌,
 ghost use Rattle.std.proofs.Common.{suc};
 ghost use Rattle.std.specs.Vec.{vec_capacity};
 ghost use Rattle.mo_incidence.specs.Signature.{equations, entries, IsSound};
-ghost use Rattle.mo_incidence.specs.Assignment.{Assigns, IsAssignment, CoversAll, CanCoverAll};
-ghost use Rattle.mo_incidence.specs.Offsets.{IsTight, IsLeast, BoundsOrders, sum_unknowns, by_place, by_number};
+ghost use Rattle.mo_incidence.specs.Assignment.{IsAssignment, CoversAll, CanCoverAll};
+ghost use Rattle.mo_incidence.specs.Offsets.{ArePaired, AreSized, BoundsOrders, IsLeast, by_number, by_place, sum_unknowns};
 ghost use Rattle.mo_incidence.specs.Transversal.{IsLeastSequence};
 ghost use Rattle.mo_match.specs.Searching.{Uses, tight_of, IsMatching, IsTree, ClosedTo};
 ghost use Rattle.mo_match.specs.Results.{IsMadeFor};
+ghost use Rattle.mo_pantelides.specs.Finding.{GainsOffsets, most_reads};
 ghost use Rattle.mo_pantelides.specs.steps.Fixing.{AreOpen};
 ghost use Rattle.mo_pantelides.specs.steps.Raising.{AreRising, gap};
 
-use crate::raise::raise;
+use crate::raise::{Reached, raise};
 use crate::start::greatest_orders;
 use crate::transversal::fix_all;
 use mo_incidence::Counted;
-use mo_match::{Graph, Work, clear, put};
+use mo_match::{Graph, Search, Work, clear, put};
 use mo_ports::Steps;
 
 /// Gives an equation an unknown at which it is tight, or closes the equations that it reaches; the result is how many these are.
@@ -45,7 +46,12 @@ fn extend_tight<L>(
 {
     let _equations = inc.equations();
     let graph = Graph::of_tight(inc, c, d);
-    graph.extend(pairs, owner, queue, parent, mark, 0, root, steps)
+    let mut search = Search {
+        queue,
+        parent,
+        mark,
+    };
+    graph.extend(pairs, owner, &mut search, 0, root, steps)
 }
 
 /// Raises offsets until the equation at a place can have an unknown at which it is tight, and gives it one.
@@ -80,7 +86,14 @@ fn settle<L>(
         if tail == 0 {
             return;
         }
-        raise(inc, pairs, owner, queue, parent, c, d, mark, tail);
+        let reached = Reached {
+            pairs,
+            owner,
+            queue,
+            parent,
+            tail,
+        };
+        raise(inc, &reached, c, d, mark);
     }
 }
 
@@ -140,11 +153,11 @@ fn find_all<L>(
     requires room { (length pairs.old ≡ equations inc.now) × (length owner.old ≡ suc inc.now.unknowns) }
     requires room_search { (length queue.old ≡ equations inc.now) × (length parent.old ≡ equations inc.now) × (length mark.old ≡ equations inc.now) }
     ensures least { IsLeast inc.now (by_place c.new) (by_number d.new) }
-    ensures tight { Assigns (IsTight inc.now (by_place c.new) (by_number d.new)) (equations inc.now) (by_place fixed.new) }
+    ensures tight { ArePaired inc.now (by_place c.new) (by_number d.new) (by_place fixed.new) }
     ensures all { CoversAll inc.now (by_place fixed.new) }
     ensures sequence { IsLeastSequence inc.now (by_place c.new) (by_number d.new) (by_place fixed.new) }
     ensures pairs { pairs.new ≡ fixed.new }
-    ensures cost { (h : ℕ → ℕ) → BoundsOrders inc.now h → steps.new ≤ steps.old + (2 * equations inc.now + sum_unknowns inc.now h + 1) * entries inc.now }
+    ensures cost { (h : ℕ → ℕ) → BoundsOrders inc.now h → steps.new ≤ steps.old + most_reads inc.now h }
 {
     find_offsets(inc, c, d, pairs, owner, queue, parent, mark, steps);
     fix_all(
@@ -176,13 +189,13 @@ pub fn offsets<L>(inc: &Counted<L>, work: &mut Work, steps: &mut Steps<L>)
     requires assigned { IsAssignment inc.now (by_place work.old.assignment) }
     requires all { CoversAll inc.now (by_place work.old.assignment) }
     ensures least { IsLeast inc.now (by_place work.new.c) (by_number work.new.d) }
-    ensures pairs { Assigns (IsTight inc.now (by_place work.new.c) (by_number work.new.d)) (equations inc.now) (by_place work.new.pairs) }
+    ensures pairs { ArePaired inc.now (by_place work.new.c) (by_number work.new.d) (by_place work.new.pairs) }
     ensures all { CoversAll inc.now (by_place work.new.pairs) }
-    ensures lengths { (length work.new.c ≡ equations inc.now) × (length work.new.d ≡ inc.now.unknowns) × (length work.new.pairs ≡ equations inc.now) }
+    ensures lengths { AreSized inc.now work.new.c work.new.d work.new.pairs }
     ensures assignment { work.new.assignment ≡ work.new.pairs }
-    ensures rest { work.new ≡ record work.old { assignment = work.new.assignment; c = work.new.c; d = work.new.d; pairs = work.new.pairs } }
+    ensures rest { GainsOffsets work.old work.new }
     ensures sequence { IsLeastSequence inc.now (by_place work.new.c) (by_number work.new.d) (by_place work.new.pairs) }
-    ensures cost { (h : ℕ → ℕ) → BoundsOrders inc.now h → steps.new ≤ steps.old + (2 * equations inc.now + sum_unknowns inc.now h + 1) * entries inc.now }
+    ensures cost { (h : ℕ → ℕ) → BoundsOrders inc.now h → steps.new ≤ steps.old + most_reads inc.now h }
 {
     let (equations, unknowns) = (work.equations, work.unknowns);
     fill(&mut work.offsets.c, equations);

@@ -23,6 +23,39 @@ struct Front {
     tail: usize,
 }
 
+/// What stands while an entry is looked at.
+#[derive(Clone, Copy)]
+struct Standing<'a> {
+    c: &'a [u32],
+    d: &'a [u32],
+    /// The offsets of the unknowns that are not fixed yet.
+    left: &'a [u32],
+    pairs: &'a [u32],
+    owner: &'a [u32],
+    /// For each equation its unknown, if that is fixed, or 0.
+    fixed: &'a [u32],
+}
+
+/// What stands while an equation is done with.
+#[derive(Drop)]
+struct Ground<'a, 'b, L> {
+    inc: &'a Counted<'b, L>,
+    c: &'a [u32],
+    d: &'a [u32],
+    queue: &'a [u32],
+    parent: &'a [u32],
+}
+
+/// Where a search looks: at entry k of the equation at a place of the queue, or past its last one.
+#[derive(Clone, Copy)]
+struct Spot {
+    /// The equation that the search began from.
+    root: usize,
+    at: Front,
+    place: usize,
+    k: u32,
+}
+
 /// Where a search ended: the equation at a place of the queue may have a free unknown.
 #[derive(Clone, Copy)]
 pub(crate) struct Found {
@@ -118,43 +151,36 @@ fn meet(
 /// equation has it.
 fn look<L>(
     inc: &Counted<L>,
-    c: &[u32],
-    _d: &[u32],
-    left: &[u32],
-    pairs: &[u32],
-    owner: &[u32],
-    _fixed: &[u32],
+    standing: &Standing,
     queue: &mut [u32],
     parent: &mut [u32],
     mark: &mut [u32],
-    _root: usize,
-    at: Front,
-    place: usize,
-    k: u32,
+    spot: Spot,
     steps: &mut Steps<L>,
 ) -> (Front, Option<u32>)
-    requires sizes { (length c.now ≡ equations inc.now) × (length left.now ≡ inc.now.unknowns) }
-    requires root { _root < equations inc.now }
-    requires open { AreOpen inc.now c.now }
-    requires seeking { IsSeeking inc.now c.now _d.now left.now pairs.now owner.now _fixed.now queue.old parent.old mark.old _root at.head at.loose at.tail }
-    requires place { IsTurn at.head at.loose at.tail place }
-    requires k { slice_index mark.old (slice_index queue.old place) ≡ k + 1 }
-    requires entry { k < row_len inc.now (slice_index queue.old place) }
-    ensures on { IfNone result.1 (IsSeeking inc.now c.now _d.now left.now pairs.now owner.now _fixed.now queue.new parent.new mark.new _root result.0.head result.0.loose result.0.tail) }
-    ensures found { IfSome result.1 (λ j. IsFound inc.now c.now _d.now left.now pairs.now owner.now _fixed.now queue.new parent.new mark.new _root place j result.0.tail) }
-    ensures more { (result.0.tail ≤ at.tail + 1) × (result.0.head ≡ at.head) }
-    ensures looked { looked inc.now _fixed.now mark.new ≡ looked inc.now _fixed.now mark.old + 1 }
+    requires sizes { (length standing.now.c.now ≡ equations inc.now) × (length standing.now.left.now ≡ inc.now.unknowns) }
+    requires root { spot.root < equations inc.now }
+    requires open { AreOpen inc.now standing.now.c.now }
+    requires seeking { IsSeeking inc.now standing.now.c.now standing.now.d.now standing.now.left.now standing.now.pairs.now standing.now.owner.now standing.now.fixed.now queue.old parent.old mark.old spot.root spot.at.head spot.at.loose spot.at.tail }
+    requires place { IsTurn spot.at.head spot.at.loose spot.at.tail spot.place }
+    requires k { slice_index mark.old (slice_index queue.old spot.place) ≡ spot.k + 1 }
+    requires entry { spot.k < row_len inc.now (slice_index queue.old spot.place) }
+    ensures on { IfNone result.1 (IsSeeking inc.now standing.now.c.now standing.now.d.now standing.now.left.now standing.now.pairs.now standing.now.owner.now standing.now.fixed.now queue.new parent.new mark.new spot.root result.0.head result.0.loose result.0.tail) }
+    ensures found { IfSome result.1 (λ j. IsFound inc.now standing.now.c.now standing.now.d.now standing.now.left.now standing.now.pairs.now standing.now.owner.now standing.now.fixed.now queue.new parent.new mark.new spot.root spot.place j result.0.tail) }
+    ensures more { (result.0.tail ≤ spot.at.tail + 1) × (result.0.head ≡ spot.at.head) }
+    ensures looked { looked inc.now standing.now.fixed.now mark.new ≡ looked inc.now standing.now.fixed.now mark.old + 1 }
     ensures cost { steps.new ≡ steps.old + 1 }
 {
     let _equations = inc.equations();
+    let Spot { at, place, k, .. } = spot;
     let equation = queue[place];
     mark[equation as usize] = k + 2;
-    let graph = Graph::of_tight(inc, c, left);
+    let graph = Graph::of_tight(inc, standing.c, standing.left);
     let unknown = match graph.usable(equation + 1, k, steps) {
         None => return (at, None),
         Some(unknown) => unknown,
     };
-    let holder = owner[unknown as usize];
+    let holder = standing.owner[unknown as usize];
     if holder == 0 {
         return (at, Some(unknown));
     }
@@ -167,33 +193,27 @@ fn look<L>(
 
 /// Is done with the equation at a place of the queue. The last one in a row has only one unknown left, and is fixed.
 fn finish<L>(
-    inc: &Counted<L>,
-    _c: &[u32],
-    _d: &[u32],
+    ground: &Ground<L>,
     left: &mut [u32],
     pairs: &mut [u32],
     owner: &mut [u32],
     fixed: &mut [u32],
-    queue: &[u32],
-    _parent: &[u32],
     mark: &mut [u32],
-    _root: usize,
-    at: Front,
-    place: usize,
+    spot: Spot,
 ) -> Front
-    requires root { _root < equations inc.now }
-    requires open { AreOpen inc.now _c.now }
-    requires seeking { IsSeeking inc.now _c.now _d.now left.old pairs.old owner.old fixed.old queue.now _parent.now mark.old _root at.head at.loose at.tail }
-    requires place { IsTurn at.head at.loose at.tail place }
-    requires whole { slice_index mark.old (slice_index queue.now place) ≡ suc (row_len inc.now (slice_index queue.now place)) }
-    ensures on { IsSeeking inc.now _c.now _d.now left.new pairs.new owner.new fixed.new queue.now _parent.now mark.new _root result.head result.loose result.tail }
-    ensures less { ((suc result.tail ≡ at.tail) × (result.head ≡ at.head)) ⊎ ((result.tail ≡ at.tail) × (result.head ≡ suc at.head)) }
-    ensures looked { looked inc.now fixed.new mark.new ≡ looked inc.now fixed.old mark.old }
+    requires root { spot.root < equations ground.now.inc.now }
+    requires open { AreOpen ground.now.inc.now ground.now.c.now }
+    requires seeking { IsSeeking ground.now.inc.now ground.now.c.now ground.now.d.now left.old pairs.old owner.old fixed.old ground.now.queue.now ground.now.parent.now mark.old spot.root spot.at.head spot.at.loose spot.at.tail }
+    requires place { IsTurn spot.at.head spot.at.loose spot.at.tail spot.place }
+    requires whole { slice_index mark.old (slice_index ground.now.queue.now spot.place) ≡ suc (row_len ground.now.inc.now (slice_index ground.now.queue.now spot.place)) }
+    ensures on { IsSeeking ground.now.inc.now ground.now.c.now ground.now.d.now left.new pairs.new owner.new fixed.new ground.now.queue.now ground.now.parent.now mark.new spot.root result.head result.loose result.tail }
+    ensures less { ((suc result.tail ≡ spot.at.tail) × (result.head ≡ spot.at.head)) ⊎ ((result.tail ≡ spot.at.tail) × (result.head ≡ suc spot.at.head)) }
+    ensures looked { looked ground.now.inc.now fixed.new mark.new ≡ looked ground.now.inc.now fixed.old mark.old }
 {
-    let _equations = inc.equations();
-    let Front { head, loose, tail } = at;
+    let _equations = ground.inc.equations();
+    let Front { head, loose, tail } = spot.at;
     if loose < tail {
-        let equation = queue[place] as usize;
+        let equation = ground.queue[spot.place] as usize;
         take(left, pairs, owner, fixed, equation);
         mark[equation] = 0;
         return Front {
@@ -247,15 +267,27 @@ pub(crate) fn seek<L>(
         let place = turn(at);
         let equation = queue[place];
         let k = mark[equation as usize] - 1;
+        let spot = Spot { root, at, place, k };
         if k == inc.row_len(equation + 1) {
-            at = finish(
-                inc, c, d, left, pairs, owner, fixed, queue, parent, mark, root, at, place,
-            );
+            let ground = Ground {
+                inc,
+                c,
+                d,
+                queue,
+                parent,
+            };
+            at = finish(&ground, left, pairs, owner, fixed, mark, spot);
             continue;
         }
-        let (next, free) = look(
-            inc, c, d, left, pairs, owner, fixed, queue, parent, mark, root, at, place, k, steps,
-        );
+        let standing = Standing {
+            c,
+            d,
+            left,
+            pairs,
+            owner,
+            fixed,
+        };
+        let (next, free) = look(inc, &standing, queue, parent, mark, spot, steps);
         match free {
             Some(unknown) => return Found {
                 place,

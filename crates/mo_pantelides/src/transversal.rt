@@ -1,15 +1,15 @@
 //! The least transversal: equation after equation gets the least unknown with which all others can still have one.
 ghost use Rattle.std.specs.Prelude.{◌≡◌, ◌+◌, ◌*◌, ◌<◌, ◌≤◌, length, slice_index};
 ghost use Rattle.mo_incidence.specs.Signature.{equations, entries};
-ghost use Rattle.mo_incidence.specs.Assignment.{Assigns, CoversAll};
-ghost use Rattle.mo_incidence.specs.Offsets.{IsTight, by_place, by_number};
+ghost use Rattle.mo_incidence.specs.Assignment.{CoversAll};
+ghost use Rattle.mo_incidence.specs.Offsets.{ArePaired, by_number, by_place};
 ghost use Rattle.mo_incidence.specs.Transversal.{IsLeastSequence};
 ghost use Rattle.mo_match.specs.Searching.{Uses, tight_of, IsMatching, IsTree};
 ghost use Rattle.mo_pantelides.specs.steps.Fixing.{AreOpen, IsFixedTo};
 
 use crate::seek::{release, seek, take};
 use mo_incidence::Counted;
-use mo_match::{Free, Graph, clear, unmark};
+use mo_match::{Free, Graph, Search, clear, unmark};
 use mo_ports::Steps;
 
 /// Fixes one equation more, and others that have only one unknown left.
@@ -46,8 +46,13 @@ fn fix<L>(
         unknown: found.unknown,
     };
     let graph = Graph::of_tight(inc, c, left);
-    graph.hand_on(pairs, owner, queue, parent, mark, 0, found.tail, free);
-    unmark(queue, mark, 0, found.tail);
+    let mut search = Search {
+        queue,
+        parent,
+        mark,
+    };
+    graph.hand_on(pairs, owner, &search, 0, found.tail, free);
+    unmark(&mut search, 0, found.tail);
     take(left, pairs, owner, fixed, root);
 }
 
@@ -71,7 +76,7 @@ pub(crate) fn fix_all<L>(
     requires matching { IsMatching (Uses (tight_of inc.now c.now d.now)) (equations inc.now) inc.now.unknowns pairs.old owner.old }
     requires all { CoversAll inc.now (by_place pairs.old) }
     requires tree { IsTree (Uses (tight_of inc.now c.now d.now)) (equations inc.now) pairs.old queue.old parent.old mark.old 0 0 }
-    ensures tight { Assigns (IsTight inc.now (by_place c.now) (by_number d.now)) (equations inc.now) (by_place fixed.new) }
+    ensures tight { ArePaired inc.now (by_place c.now) (by_number d.now) (by_place fixed.new) }
     ensures all { CoversAll inc.now (by_place fixed.new) }
     ensures least { IsLeastSequence inc.now (by_place c.now) (by_number d.now) (by_place fixed.new) }
     ensures cost { steps.new ≤ steps.old + equations inc.now * entries inc.now }

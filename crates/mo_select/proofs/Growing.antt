@@ -95,22 +95,22 @@ module _ (b : Bipartite) (p owner q par mk : List ℕ) (base r : ℕ) (sound : I
       }
 
   pub grown_next : (p' owner' q' par' mk' : List ℕ) (base' : ℕ)
-      → Matches b p' owner' → ClosedTo b owner' mk' q' base'
-      → (base' ≡ base → (get_or p' r 0 ≢ 0) × HoldsTree b p' q' par' mk' base base)
-      → (base' ≢ base → (p' ≡ p) × (owner' ≡ owner) × (base < base') × (get_or q' base 0 ≡ r) × HoldsTree b p' q' par' mk' base base')
+      → Matches b p' owner' → HoldsTree b p' q' par' mk' base base' → ClosedTo b owner' mk' q' base'
+      → (base' ≡ base → get_or p' r 0 ≢ 0)
+      → (base' ≢ base → (base < base') × (get_or q' base 0 ≡ r))
       → ((x : ℕ) → get_or p x 0 ≢ 0 → get_or p' x 0 ≢ 0)
       → ((x : ℕ) → x ≢ r → get_or p x 0 ≡ 0 → get_or p' x 0 ≡ 0)
       → ((x : ℕ) → x < equations b.signature → get_or mk x 0 ≢ 0 → get_or mk' x 0 ≢ 0)
       → IsGrownTo b p' owner' q' par' mk' base' (r + 1)
-  grown_next p' owner' q' par' mk' base' match closed gained failed kept others marked =
-      let assigned = assigned_next b p owner q par mk base r to.assigned p' owner' q' par' mk' base' rm match closed gained failed kept marked in
+  grown_next p' owner' q' par' mk' base' match tree closed gained first kept others marked =
+      let assigned = assigned_next b p owner q par mk base r to.assigned p' owner' q' par' mk' base' rm match tree closed gained first kept marked in
       let bare : (x : ℕ) → r + 1 ≤ x → get_or p' x 0 ≡ 0 = λ x l. others x (omega arith) (to.bare x (omega arith)) in
       let most = most_kept (Uses b) (equations b.signature) r (λ i. get_or p i 0) (λ i. get_or p' i 0) to.most kept in
       record {
         assigned = assigned;
         bare = bare;
         most = elim (eqb_tells base' base) [
-          | inl e ↦ most_gained (Uses b) (equations b.signature) r (λ i. get_or p' i 0) most (gained e.1).0
+          | inl e ↦ most_gained (Uses b) (equations b.signature) r (λ i. get_or p' i 0) most (gained e.1)
           | inr e ↦ most_settled b p' owner' q' par' mk' base' r sound rm assigned.matching assigned.tree assigned.closed assigned.settled bare most
         ];
       }

@@ -3,8 +3,10 @@
 use Rattle.std.specs.Prelude.{ℕ, List, [], ◌∷◌, Some, codes, ◌==◌, if◌then◌else◌, unwrap_or}
 use Rattle.mo_tables.specs.Words.{code_in}
 use Rattle.mo_flat.specs.declared.expr.FlatExpr.{FlatExpr, FlatExpr-F, out-FlatExpr}
+use Rattle.mo_flat.specs.declared.model.FlatModel.{FlatModel}
 use Rattle.mo_flat.specs.declared.model.FlatVar.{FlatVar}
 use Rattle.mo_flat.specs.Roles.{is_unknown_role}
+use Rattle.mo_incidence.specs.Offsets.{by_number}
 
 -- the literals as they are printed, by level
 unfoldable pub level_words : List (List ℕ)
@@ -26,3 +28,7 @@ level_in (attribute ∷ attributes) = if attribute.0 == 9 then level_at (out-Fla
 abbrev pub levels_of : List FlatVar → List ℕ
 levels_of [] = []
 levels_of (v ∷ vs) = if is_unknown_role (Some v.role) then level_in v.attributes ∷ levels_of vs else levels_of vs
+
+-- that of each unknown of the model, by its number
+abbrev pub level_of : FlatModel → ℕ → ℕ
+level_of m = by_number (levels_of m.vars)

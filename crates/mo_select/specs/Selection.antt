@@ -12,7 +12,8 @@ use Rattle.mo_graph.specs.Counting.{count_below}
 use Rattle.mo_graph.specs.Lists.{ListsWhere}
 use Rattle.mo_incidence.specs.Signature.{Signature, equations}
 use Rattle.mo_incidence.specs.Assignment.{Assigns}
-use Rattle.mo_incidence.specs.Offsets.{IsTight}
+use Rattle.mo_incidence.specs.Offsets.{IsTight, d_of}
+use Rattle.mo_incidence.specs.declared.findings.Offsets.{Offsets}
 use Rattle.mo_incidence.specs.Dummies.{differentiated, greatest, states_to}
 use Rattle.mo_select.specs.declared.selection.Stage.{Stage}
 use Rattle.mo_select.specs.declared.selection.Selection.{Selection}
@@ -37,6 +38,10 @@ below_level level (suc n) js = below_level level n js ++ of_level level n js
 -- how many levels there are
 unfoldable pub levels : ℕ
 levels = 5
+
+-- each number is one of a level
+abbrev pub AreLevels : (ℕ → ℕ) → Type 0
+AreLevels level = (j : ℕ) → level j < levels
 
 -- ---- choices
 
@@ -138,6 +143,10 @@ abbrev pub dummies_from : (ℕ → ℕ) → ℕ → List Stage → List (ℕ × 
 dummies_from d s [] = []
 dummies_from d s (stage ∷ stages) = map (λ x. (x.0, d x.0 - s + 1, s, x.1)) stage.chosen ++ dummies_from d (suc s) stages
 
+-- those of a selection
+abbrev pub dummies_in : Offsets → Selection → List (ℕ × ℕ × ℕ × ℕ)
+dummies_in offsets selection = dummies_from (d_of offsets) 1 selection.stages
+
 -- ---- the whole
 
 -- what is selected: the stages, and the derivatives below the highest whose next one is no dummy
@@ -152,3 +161,7 @@ pub record SelectSame (a b : Selection) : Type 0 where
   pub counts : (k : ℕ) → k < length a.stages → (get_or a.stages k no_stage).counts ≡ (get_or b.stages k no_stage).counts
   pub without : (k : ℕ) → k < length a.stages → (get_or a.stages k no_stage).without ≡ (get_or b.stages k no_stage).without
   pub states : a.states ≡ b.states
+
+-- two selections of a system say the same
+abbrev pub HasOneSelection : Signature → (c d level : ℕ → ℕ) → Type 0
+HasOneSelection g c d level = (a b : Selection) → IsSelection g c d level a → IsSelection g c d level b → SelectSame a b

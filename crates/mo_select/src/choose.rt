@@ -1,13 +1,12 @@
 //! The selection of a model, stage after stage.
 ghost use Rattle.std.specs.Prelude.{◌≡◌, ℕ, ◌+◌, ◌<◌, ◌≤◌, length, map, slice_index, IfOk, OnOk};
 ghost use Rattle.std.proofs.Common.{suc};
-ghost use Rattle.mo_incidence.specs.Counting.{sum_below};
 ghost use Rattle.mo_incidence.specs.Signature.{equations};
 ghost use Rattle.mo_incidence.specs.Assignment.{Assigns, CoversAll};
-ghost use Rattle.mo_incidence.specs.Offsets.{IsTight, by_place, by_number, sum_unknowns, c_of, d_of, pairs_of};
+ghost use Rattle.mo_incidence.specs.Offsets.{HasFreedom, HasPairs, HasSizes, IsTight, by_number, by_place, c_of, d_of, differentiations, pairs_of};
 ghost use Rattle.mo_incidence.specs.Dummies.{states_to};
-ghost use Rattle.mo_select.specs.Levels.{levels_of};
-ghost use Rattle.mo_select.specs.Selection.{levels, IsStage, AreStages, AreNested, dummies_from};
+ghost use Rattle.mo_select.specs.Levels.{level_of};
+ghost use Rattle.mo_select.specs.Selection.{levels, IsStage, AreStages, AreNested, dummies_in};
 ghost use Rattle.mo_select.specs.steps.Staging.{AreUnknowns, CanAssign, AreWhole};
 
 use crate::candidates::{forget_ranks, in_order, keep, note_ranks, numbers, places};
@@ -15,6 +14,7 @@ use crate::levels::levels_of;
 use crate::selection::{Selection, Stage};
 use crate::stage::ranked_stage;
 use crate::states::states;
+use crate::ties::Remaining;
 use mo_flat::FlatModel;
 use mo_incidence::{Incidence, Offsets};
 use mo_syntax::{List, NoMemory};
@@ -35,27 +35,25 @@ fn unknowns_of(alloc: Global, chosen: &[(u32, u32)]) -> Result<Vec<u32>, NoMemor
 fn stage(
     alloc: Global,
     inc: &Incidence,
-    c: &[u32],
-    d: &[u32],
+    remaining: &Remaining,
     level: &[u32],
-    active: &[u32],
     candidates: &[u32],
     rank: &mut [usize],
 ) -> Result<Stage, NoMemory>
-    requires sizes { (length c.now ≡ equations inc.now) × (length d.now ≡ inc.now.unknowns) × (length rank.old ≡ suc inc.now.unknowns) }
+    requires sizes { (length remaining.now.c.now ≡ equations inc.now) × (length remaining.now.d.now ≡ inc.now.unknowns) × (length rank.old ≡ suc inc.now.unknowns) }
     requires low { (j : ℕ) → by_number level.now j < levels }
-    requires active { (e : ℕ) → e < length active.now → slice_index active.now e < equations inc.now }
-    requires few { length active.now ≤ 50000 }
+    requires active { (e : ℕ) → e < length remaining.now.active.now → slice_index remaining.now.active.now e < equations inc.now }
+    requires few { length remaining.now.active.now ≤ 50000 }
     requires unknowns { AreUnknowns inc.now.unknowns candidates.now }
-    requires can { CanAssign inc.now (by_place c.now) (by_number d.now) active.now candidates.now }
+    requires can { CanAssign inc.now (by_place remaining.now.c.now) (by_number remaining.now.d.now) remaining.now.active.now candidates.now }
     requires clear { (j : ℕ) → slice_index rank.old j ≡ 0 }
-    ensures stage { IfOk result (IsStage inc.now (by_place c.now) (by_number d.now) (by_number level.now) active.now candidates.now) }
+    ensures stage { IfOk result (IsStage inc.now (by_place remaining.now.c.now) (by_number remaining.now.d.now) (by_number level.now) remaining.now.active.now candidates.now) }
     ensures clear { OnOk result ((j : ℕ) → slice_index rank.new j ≡ 0) }
 {
     let _equations = inc.equations();
     let (order, ends) = in_order(alloc, level, candidates)?;
     note_ranks(&order, rank);
-    let made = ranked_stage(alloc, inc, c, d, active, candidates, &order, &ends, rank)?;
+    let made = ranked_stage(alloc, inc, remaining, candidates, &order, &ends, rank)?;
     forget_ranks(&order, rank);
     Ok(made)
 }
@@ -84,7 +82,12 @@ fn stages(
     let mut active = keep(alloc, c, &all, 0)?;
     let mut done = 0;
     'on: while !active.is_empty() {
-        let made = stage(alloc, inc, c, d, level, &active, &candidates, rank)?;
+        let remaining = Remaining {
+            c,
+            d,
+            active: &active,
+        };
+        let made = stage(alloc, inc, &remaining, level, &candidates, rank)?;
         candidates = unknowns_of(alloc, made.chosen.as_slice())?;
         stages.push(made)?;
         done += 1;
@@ -105,14 +108,14 @@ pub fn select(
     inc: &Incidence,
     off: &Offsets,
 ) -> Result<Selection, NoMemory>
-    requires lengths { (length off.now.c.items ≡ equations inc.now) × (length off.now.d.items ≡ inc.now.unknowns) × (length off.now.pairs.items ≡ equations inc.now) }
-    requires tight { Assigns (IsTight inc.now (c_of off.now) (d_of off.now)) (equations inc.now) (pairs_of off.now) }
+    requires lengths { HasSizes inc.now off.now }
+    requires tight { HasPairs inc.now off.now }
     requires all { CoversAll inc.now (pairs_of off.now) }
-    ensures stages { IfOk result (λ selection. AreStages inc.now (c_of off.now) (d_of off.now) (by_number (levels_of m.now.vars)) selection.stages) }
-    ensures nested { IfOk result (λ selection. AreNested selection.stages) }
-    ensures states { IfOk result (λ selection. selection.states ≡ states_to (dummies_from (d_of off.now) 1 selection.stages) (d_of off.now) inc.now.unknowns) }
-    ensures dummies_count { IfOk result (λ selection. length (dummies_from (d_of off.now) 1 selection.stages) ≡ sum_below (c_of off.now) (equations inc.now)) }
-    ensures states_count { IfOk result (λ selection. length selection.states + sum_below (c_of off.now) (equations inc.now) ≡ sum_unknowns inc.now (d_of off.now)) }
+    ensures stages { IfOk result (λ s. AreStages inc.now (c_of off.now) (d_of off.now) (level_of m.now) s.stages) }
+    ensures nested { IfOk result (λ s. AreNested s.stages) }
+    ensures states { IfOk result (λ s. s.states ≡ states_to (dummies_in off.now s) (d_of off.now) inc.now.unknowns) }
+    ensures dummies_count { IfOk result (λ s. length (dummies_in off.now s) ≡ differentiations inc.now off.now) }
+    ensures states_count { IfOk result (λ s. HasFreedom inc.now off.now (length s.states)) }
 {
     let _equations = inc.equations();
     let level = levels_of(alloc, m.vars.as_slice())?;

@@ -1,54 +1,15 @@
 //! One assignment that grows row by row, and covers of the first rows, however many, as many as any assignment.
-ghost use Rattle.std.specs.Prelude.{◌≡◌, ◌≢◌, ℕ, ◌+◌, ◌<◌, ◌≤◌, length, slice_index, false, IfOk};
+ghost use Rattle.std.specs.Prelude.{◌≡◌, length, IfOk};
 ghost use Rattle.std.proofs.Common.{suc};
 ghost use Rattle.mo_incidence.specs.Signature.{equations, IsSound};
 ghost use Rattle.mo_incidence.specs.Offsets.{by_place};
-ghost use Rattle.mo_match.specs.Searching.{ClosedTo, Matches, HoldsTree};
 ghost use Rattle.mo_select.specs.steps.Growing.{IsGreedy, IsGrownTo};
 
-use crate::search::search;
 use mo_incidence::{Counted, Incidence};
-use mo_match::{Graph, clear, unmark};
+use mo_match::{Graph, Search, clear};
 use mo_ports::Steps;
 use mo_syntax::NoMemory;
 use std::alloc::Global;
-
-/// Gives a row without a number one, by handing numbers on, or closes the rows that it reaches: then these together have only numbers of
-/// their own. The result is the end of the closed front of the queue.
-fn grow(
-    graph: &Graph<()>,
-    pairs: &mut [u32],
-    owner: &mut [u32],
-    queue: &mut [u32],
-    parent: &mut [u32],
-    mark: &mut [u32],
-    base: usize,
-    root: usize,
-    steps: &mut Steps<()>,
-) -> usize
-    requires sound { IsSound graph.now.signature }
-    requires matching { Matches graph.now pairs.old owner.old }
-    requires tree { HoldsTree graph.now pairs.old queue.old parent.old mark.old base base }
-    requires closed { ClosedTo graph.now owner.old mark.old queue.old base }
-    requires root { (root < equations graph.now.signature) × (slice_index pairs.old root ≡ 0) × (slice_index mark.old root ≡ 0) }
-    ensures matching { Matches graph.now pairs.new owner.new }
-    ensures closed { ClosedTo graph.now owner.new mark.new queue.new result }
-    ensures gained { result ≡ base → (slice_index pairs.new root ≢ 0) × HoldsTree graph.now pairs.new queue.new parent.new mark.new base base }
-    ensures failed { result ≢ base → (pairs.new ≡ pairs.old) × (owner.new ≡ owner.old) × (base < result) × (slice_index queue.new base ≡ root) × HoldsTree graph.now pairs.new queue.new parent.new mark.new base result }
-    ensures kept { (x : ℕ) → slice_index pairs.old x ≢ 0 → slice_index pairs.new x ≢ 0 }
-    ensures bare { (x : ℕ) → x ≢ root → slice_index pairs.old x ≡ 0 → slice_index pairs.new x ≡ 0 }
-    ensures marked { (x : ℕ) → x < equations graph.now.signature → slice_index mark.old x ≢ 0 → slice_index mark.new x ≢ 0 }
-{
-    let outcome = search(graph, pairs, owner, queue, parent, mark, base, root, steps);
-    match outcome.free {
-        None => outcome.tail,
-        Some(free) => {
-            graph.hand_on(pairs, owner, queue, parent, mark, base, outcome.tail, free);
-            unmark(queue, mark, base, outcome.tail);
-            base
-        }
-    }
-}
 
 /// Gives each row in turn a number, if it can have one beside those before it.
 fn grow_all(
@@ -68,12 +29,17 @@ fn grow_all(
     clear(pairs);
     clear(owner);
     clear(mark);
+    let mut search = Search {
+        queue,
+        parent,
+        mark,
+    };
     let mut base = 0;
     for root in 0..pairs.len() {
-        if mark[root] != 0 {
+        if search.mark[root] != 0 {
             continue;
         }
-        base = grow(graph, pairs, owner, queue, parent, mark, base, root, steps);
+        base = graph.extend(pairs, owner, &mut search, base, root, steps);
     }
     base
 }

@@ -15,7 +15,6 @@ mod choose;
 mod grow;
 mod laws;
 mod levels;
-mod search;
 mod selection;
 mod stage;
 mod states;

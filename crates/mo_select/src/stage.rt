@@ -10,7 +10,7 @@ ghost use Rattle.mo_select.specs.steps.Staging.{taken, IsGreedyChoice, IsLeft, A
 
 use crate::grow::greedy;
 use crate::selection::Stage;
-use crate::ties::{open_rows, ties};
+use crate::ties::{Remaining, open_rows, ties};
 use mo_incidence::{Counted, Incidence};
 use mo_match::{Work, assign};
 use mo_ports::Steps;
@@ -21,20 +21,18 @@ use std::alloc::Global;
 fn pairs_of(
     alloc: Global,
     inc: &Incidence,
-    c: &[u32],
-    d: &[u32],
-    active: &[u32],
+    remaining: &Remaining,
     order: &[u32],
     rank: &[usize],
 ) -> Result<Vec<u32>, NoMemory>
-    requires sizes { (length c.now ≡ equations inc.now) × (length d.now ≡ inc.now.unknowns) × (length rank.now ≡ suc inc.now.unknowns) }
-    requires active { (e : ℕ) → e < length active.now → slice_index active.now e < equations inc.now }
-    requires few { length active.now ≤ 50000 }
+    requires sizes { (length remaining.now.c.now ≡ equations inc.now) × (length remaining.now.d.now ≡ inc.now.unknowns) × (length rank.now ≡ suc inc.now.unknowns) }
+    requires active { (e : ℕ) → e < length remaining.now.active.now → slice_index remaining.now.active.now e < equations inc.now }
+    requires few { length remaining.now.active.now ≤ 50000 }
     requires ranks { AreOwners (length order.now) (by_place order.now) rank.now }
-    ensures { IfOk result (λ pairs. IsGreedyChoice inc.now (by_place c.now) (by_number d.now) active.now order.now pairs.items) }
+    ensures { IfOk result (λ pairs. IsGreedyChoice inc.now (by_place remaining.now.c.now) (by_number remaining.now.d.now) remaining.now.active.now order.now pairs.items) }
 {
-    let rows = ties(alloc, inc, c, d, active, order, rank)?;
-    let Ok(tied) = Incidence::from_rows(alloc, active.len() as u32, &rows) else {
+    let rows = ties(alloc, inc, remaining, order, rank)?;
+    let Ok(tied) = Incidence::from_rows(alloc, remaining.active.len() as u32, &rows) else {
         return Err(NoMemory);
     };
     let pairs = greedy(alloc, &tied)?;
@@ -112,21 +110,19 @@ fn numbers_at(alloc: Global, places: &[u32], active: &[u32]) -> Result<List<u32>
 fn left_out(
     alloc: Global,
     inc: &Incidence,
-    c: &[u32],
-    d: &[u32],
-    active: &[u32],
+    remaining: &Remaining,
     _order: &[u32],
     rank: &[usize],
     end: usize,
 ) -> Result<List<u32>, NoMemory>
-    requires sizes { (length c.now ≡ equations inc.now) × (length d.now ≡ inc.now.unknowns) × (length rank.now ≡ suc inc.now.unknowns) }
-    requires active { (e : ℕ) → e < length active.now → slice_index active.now e < equations inc.now }
+    requires sizes { (length remaining.now.c.now ≡ equations inc.now) × (length remaining.now.d.now ≡ inc.now.unknowns) × (length rank.now ≡ suc inc.now.unknowns) }
+    requires active { (e : ℕ) → e < length remaining.now.active.now → slice_index remaining.now.active.now e < equations inc.now }
     requires ranks { AreOwners (length _order.now) (by_place _order.now) rank.now }
     requires end { end ≤ length _order.now }
-    ensures { IfOk result (λ without. IsLeft inc.now (by_place c.now) (by_number d.now) active.now (take end _order.now) without) }
+    ensures { IfOk result (λ without. IsLeft inc.now (by_place remaining.now.c.now) (by_number remaining.now.d.now) remaining.now.active.now (take end _order.now) without) }
 {
     let _equations = inc.equations();
-    let rows = open_rows(alloc, inc, c, d, active, rank, end)?;
+    let rows = open_rows(alloc, inc, remaining, rank, end)?;
     let Ok(opened) = Incidence::from_rows(alloc, inc.unknowns(), &rows) else {
         return Err(NoMemory);
     };
@@ -139,7 +135,7 @@ fn left_out(
     let mut steps = Steps::new(());
     let counted = Counted::new(&opened, &steps);
     let _assigned = assign(&counted, &mut work, &mut steps);
-    let numbers = numbers_at(alloc, work.deficit().equations.as_slice(), active)?;
+    let numbers = numbers_at(alloc, work.deficit().equations.as_slice(), remaining.active)?;
     Ok(numbers)
 }
 
@@ -147,25 +143,23 @@ fn left_out(
 fn evidence(
     alloc: Global,
     inc: &Incidence,
-    c: &[u32],
-    d: &[u32],
-    active: &[u32],
+    remaining: &Remaining,
     order: &[u32],
     ends: &[usize],
     rank: &[usize],
     pairs: &[u32],
 ) -> Result<(List<u32>, List<List<u32>>), NoMemory>
-    requires sizes { (length c.now ≡ equations inc.now) × (length d.now ≡ inc.now.unknowns) × (length rank.now ≡ suc inc.now.unknowns) }
-    requires active { (e : ℕ) → e < length active.now → slice_index active.now e < equations inc.now }
+    requires sizes { (length remaining.now.c.now ≡ equations inc.now) × (length remaining.now.d.now ≡ inc.now.unknowns) × (length rank.now ≡ suc inc.now.unknowns) }
+    requires active { (e : ℕ) → e < length remaining.now.active.now → slice_index remaining.now.active.now e < equations inc.now }
     requires ranks { AreOwners (length order.now) (by_place order.now) rank.now }
     requires ends { (n : ℕ) → n < length ends.now → slice_index ends.now n ≤ length order.now }
     requires pairs { (length pairs.now ≡ length order.now) × (length pairs.now ≤ 50000) }
-    ensures { IfOk result (λ r. AreEvidence inc.now (by_place c.now) (by_number d.now) active.now order.now ends.now pairs.now (length ends.now) r.0 r.1) }
+    ensures { IfOk result (λ r. AreEvidence inc.now (by_place remaining.now.c.now) (by_number remaining.now.d.now) remaining.now.active.now order.now ends.now pairs.now (length ends.now) r.0 r.1) }
 {
     let mut counts = List::new(alloc);
     let mut without = List::new(alloc);
     for end in ends {
-        let left = left_out(alloc, inc, c, d, active, order, rank, *end)?;
+        let left = left_out(alloc, inc, remaining, order, rank, *end)?;
         without.push(left)?;
         counts.push(count_first(pairs, *end))?;
     }
@@ -176,25 +170,23 @@ fn evidence(
 pub(crate) fn ranked_stage(
     alloc: Global,
     inc: &Incidence,
-    c: &[u32],
-    d: &[u32],
-    active: &[u32],
+    remaining: &Remaining,
     candidates: &[u32],
     order: &[u32],
     ends: &[usize],
     rank: &[usize],
 ) -> Result<Stage, NoMemory>
-    requires sizes { (length c.now ≡ equations inc.now) × (length d.now ≡ inc.now.unknowns) × (length rank.now ≡ suc inc.now.unknowns) }
-    requires active { (e : ℕ) → e < length active.now → slice_index active.now e < equations inc.now }
-    requires few { (length active.now ≤ 50000) × (equations inc.now ≤ 50000) }
+    requires sizes { (length remaining.now.c.now ≡ equations inc.now) × (length remaining.now.d.now ≡ inc.now.unknowns) × (length rank.now ≡ suc inc.now.unknowns) }
+    requires active { (e : ℕ) → e < length remaining.now.active.now → slice_index remaining.now.active.now e < equations inc.now }
+    requires few { (length remaining.now.active.now ≤ 50000) × (equations inc.now ≤ 50000) }
     requires candidates { (k : ℕ) → k < length candidates.now → slice_index candidates.now k ≤ inc.now.unknowns }
     requires ranks { AreOwners (length order.now) (by_place order.now) rank.now }
     requires ends { (n : ℕ) → n < length ends.now → slice_index ends.now n ≤ length order.now }
-    ensures { IfOk result (IsMade inc.now (by_place c.now) (by_number d.now) active.now candidates.now order.now ends.now rank.now) }
+    ensures { IfOk result (IsMade inc.now (by_place remaining.now.c.now) (by_number remaining.now.d.now) remaining.now.active.now candidates.now order.now ends.now rank.now) }
 {
-    let pairs = pairs_of(alloc, inc, c, d, active, order, rank)?;
-    let chosen = chosen_among(alloc, candidates, rank, &pairs, active)?;
-    let (counts, without) = evidence(alloc, inc, c, d, active, order, ends, rank, &pairs)?;
+    let pairs = pairs_of(alloc, inc, remaining, order, rank)?;
+    let chosen = chosen_among(alloc, candidates, rank, &pairs, remaining.active)?;
+    let (counts, without) = evidence(alloc, inc, remaining, order, ends, rank, &pairs)?;
     Ok(Stage {
         chosen,
         counts,

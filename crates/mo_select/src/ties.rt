@@ -10,6 +10,14 @@ use mo_incidence::Incidence;
 use mo_syntax::NoMemory;
 use std::alloc::Global;
 
+/// The equations of a stage, which are still to be differentiated, by their places, and the offsets.
+#[derive(Clone, Copy)]
+pub(crate) struct Remaining<'a> {
+    pub c: &'a [u32],
+    pub d: &'a [u32],
+    pub active: &'a [u32],
+}
+
 /// The unknown of an entry of the equation at place i, if the entry is tight.
 fn tight_unknown(inc: &Incidence, c: &[u32], d: &[u32], i: u32, k: u32) -> Option<u32>
     requires entry { (i < equations inc.now) × (k < row_len inc.now i) }
@@ -53,26 +61,24 @@ fn put(rows: &mut Vec<Vec<(u32, u32)>>, t: usize, number: u32) -> Result<(), NoM
 /// Puts the equation at place e of the list into the rows of the candidates at which it is tight.
 fn tie(
     inc: &Incidence,
-    c: &[u32],
-    d: &[u32],
-    active: &[u32],
+    remaining: &Remaining,
     _order: &[u32],
     rank: &[usize],
     e: usize,
     rows: &mut Vec<Vec<(u32, u32)>>,
 ) -> Result<(), NoMemory>
-    requires sizes { (length c.now ≡ equations inc.now) × (length d.now ≡ inc.now.unknowns) × (length rank.now ≡ suc inc.now.unknowns) }
-    requires active { (e : ℕ) → e < length active.now → slice_index active.now e < equations inc.now }
-    requires few { length active.now ≤ 50000 }
-    requires e { e < length active.now }
+    requires sizes { (length remaining.now.c.now ≡ equations inc.now) × (length remaining.now.d.now ≡ inc.now.unknowns) × (length rank.now ≡ suc inc.now.unknowns) }
+    requires active { (e : ℕ) → e < length remaining.now.active.now → slice_index remaining.now.active.now e < equations inc.now }
+    requires few { length remaining.now.active.now ≤ 50000 }
+    requires e { e < length remaining.now.active.now }
     requires ranks { AreOwners (length _order.now) (by_place _order.now) rank.now }
-    requires ties { HasTies inc.now (by_place c.now) (by_number d.now) active.now _order.now (entries_in rows.old.items) e 0 }
-    ensures { OnOk result (HasTies inc.now (by_place c.now) (by_number d.now) active.now _order.now (entries_in rows.new.items) (e + 1) 0) }
+    requires ties { HasTies inc.now (by_place remaining.now.c.now) (by_number remaining.now.d.now) remaining.now.active.now _order.now (entries_in rows.old.items) e 0 }
+    ensures { OnOk result (HasTies inc.now (by_place remaining.now.c.now) (by_number remaining.now.d.now) remaining.now.active.now _order.now (entries_in rows.new.items) (e + 1) 0) }
 {
     let _equations = inc.equations();
-    let i = active[e];
+    let i = remaining.active[e];
     for k in 0..inc.row_len(i + 1) {
-        let unknown = match tight_unknown(inc, c, d, i, k) {
+        let unknown = match tight_unknown(inc, remaining.c, remaining.d, i, k) {
             None => continue,
             Some(unknown) => unknown,
         };
@@ -89,21 +95,19 @@ fn tie(
 pub(crate) fn ties(
     alloc: Global,
     inc: &Incidence,
-    c: &[u32],
-    d: &[u32],
-    active: &[u32],
+    remaining: &Remaining,
     order: &[u32],
     rank: &[usize],
 ) -> Result<Vec<Vec<(u32, u32)>>, NoMemory>
-    requires sizes { (length c.now ≡ equations inc.now) × (length d.now ≡ inc.now.unknowns) × (length rank.now ≡ suc inc.now.unknowns) }
-    requires active { (e : ℕ) → e < length active.now → slice_index active.now e < equations inc.now }
-    requires few { length active.now ≤ 50000 }
+    requires sizes { (length remaining.now.c.now ≡ equations inc.now) × (length remaining.now.d.now ≡ inc.now.unknowns) × (length rank.now ≡ suc inc.now.unknowns) }
+    requires active { (e : ℕ) → e < length remaining.now.active.now → slice_index remaining.now.active.now e < equations inc.now }
+    requires few { length remaining.now.active.now ≤ 50000 }
     requires ranks { AreOwners (length order.now) (by_place order.now) rank.now }
-    ensures { IfOk result (λ rows. HasTies inc.now (by_place c.now) (by_number d.now) active.now order.now (entries_in rows.items) (length active.now) 0) }
+    ensures { IfOk result (λ rows. HasTies inc.now (by_place remaining.now.c.now) (by_number remaining.now.d.now) remaining.now.active.now order.now (entries_in rows.items) (length remaining.now.active.now) 0) }
 {
     let mut rows = empty_rows(alloc, order.len())?;
-    for e in 0..active.len() {
-        tie(inc, c, d, active, order, rank, e, &mut rows)?;
+    for e in 0..remaining.active.len() {
+        tie(inc, remaining, order, rank, e, &mut rows)?;
     }
     Ok(rows)
 }
@@ -142,20 +146,18 @@ fn open_row(
 pub(crate) fn open_rows(
     alloc: Global,
     inc: &Incidence,
-    c: &[u32],
-    d: &[u32],
-    active: &[u32],
+    remaining: &Remaining,
     rank: &[usize],
     end: usize,
 ) -> Result<Vec<Vec<(u32, u32)>>, NoMemory>
-    requires sizes { (length c.now ≡ equations inc.now) × (length d.now ≡ inc.now.unknowns) × (length rank.now ≡ suc inc.now.unknowns) }
-    requires active { (e : ℕ) → e < length active.now → slice_index active.now e < equations inc.now }
-    ensures count { IfOk result (λ rows. length (entries_in rows.items) ≡ length active.now) }
-    ensures rows { IfOk result (λ rows. AreOpenRows inc.now (by_place c.now) (by_number d.now) active.now rank.now end (entries_in rows.items)) }
+    requires sizes { (length remaining.now.c.now ≡ equations inc.now) × (length remaining.now.d.now ≡ inc.now.unknowns) × (length rank.now ≡ suc inc.now.unknowns) }
+    requires active { (e : ℕ) → e < length remaining.now.active.now → slice_index remaining.now.active.now e < equations inc.now }
+    ensures count { IfOk result (λ rows. length (entries_in rows.items) ≡ length remaining.now.active.now) }
+    ensures rows { IfOk result (λ rows. AreOpenRows inc.now (by_place remaining.now.c.now) (by_number remaining.now.d.now) remaining.now.active.now rank.now end (entries_in rows.items)) }
 {
     let mut rows = Vec::new(alloc);
-    for place in active {
-        let row = open_row(alloc, inc, c, d, rank, end, *place)?;
+    for place in remaining.active {
+        let row = open_row(alloc, inc, remaining.c, remaining.d, rank, end, *place)?;
         rows.push(row)?;
     }
     Ok(rows)

@@ -1,9 +1,12 @@
-use Rattle.std.proofs.Common.{◌≡◌, ◌≢◌, ℕ, ◌<◌, ◌≤◌, slice_index}
+use Rattle.std.proofs.Common.{◌≡◌, length}
+use Rattle.mo_match.specs.Trees.{HasSameLists, IsUnmarkedTo}
 use Rattle.mo_match.proofs.extend.unmark.Given as goal
 
 abbrev pub invariant-loop-t : goal.invariant-loop-t
 invariant-loop-t l = record {
-  cleared : (s : ℕ) → l.base ≤ s → s < l.t → slice_index l.mark (slice_index l.queue s) ≡ 0;
-  less : (x : ℕ) → slice_index l.mark x ≢ 0 → slice_index l.initial.mark x ≢ 0;
-  others : (x : ℕ) → ((s : ℕ) → l.base ≤ s → s < l.t → slice_index l.queue s ≢ x) → slice_index l.mark x ≡ slice_index l.initial.mark x;
+  unmarked : IsUnmarkedTo l.fn.search.queue.now l.fn.search.mark.now l.search.mark.now l.base l.t;
+  queue : l.search.queue.now ≡ l.fn.search.queue.now;
+  parent : l.search.parent.now ≡ l.fn.search.parent.now;
+  size : length l.search.mark.now ≡ length l.fn.search.mark.now;
+  same : HasSameLists l.fn.search l.search;
 }

@@ -4,9 +4,9 @@ use Rattle.mo_match.proofs.spread.find_loose.Given as goal
 
 abbrev pub invariant-loop-head : goal.invariant-loop-head
 invariant-loop-head l = record {
-  spread : IsSpread l.inc l.owner l.reached l.order l.tail;
-  free : AreFreeMarked l.inc l.owner l.reached (suc l.inc.unknowns);
-  closed : IsSpreadTo l.inc l.pairs l.reached l.order l.head;
+  spread : IsSpread l.inc l.held.owner.now l.reached l.order l.tail;
+  free : AreFreeMarked l.inc l.held.owner.now l.reached (suc l.inc.unknowns);
+  closed : IsSpreadTo l.inc l.held.pairs.now l.reached l.order l.head;
   within : l.head ≤ l.tail;
 }
 

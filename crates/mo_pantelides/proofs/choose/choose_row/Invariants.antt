@@ -3,4 +3,4 @@ use Rattle.mo_pantelides.specs.steps.Ranks.{IsChosenTo}
 use Rattle.mo_pantelides.proofs.choose.choose_row.Given as goal
 
 abbrev pub invariant-loop-n : goal.invariant-loop-n
-invariant-loop-n l = IsChosenTo l.inc (by_place l.c) (by_number l.d) (by_place l.pairs) l.mark l.best l.k l.n
+invariant-loop-n l = IsChosenTo l.inc (by_place l.paired.c.now) (by_number l.paired.d.now) (by_place l.paired.pairs.now) l.mark l.best l.k l.n

@@ -12,7 +12,7 @@ loop-head-preserved c =
 pub returns : goal.returns
 returns c =
     let at : c.loop-head.head ≡ c.loop-head.tail = omega (arith, c.loop-head.invariant.within) in
-    let closed = subst (λ (h : ℕ). IsClosedTo c.args.inc.now (by_place c.args.c.now) (by_number c.args.d.now) (by_place c.args.pairs.now) c.loop-head.queue c.loop-head.mark h) at c.loop-head.invariant.closed in
+    let closed = subst (λ (h : ℕ). IsClosedTo c.args.inc.now (by_place c.args.paired.now.c.now) (by_number c.args.paired.now.d.now) (by_place c.args.paired.now.pairs.now) c.loop-head.queue c.loop-head.mark h) at c.loop-head.invariant.closed in
     record {
       ranked = λ i l. (
         all_ranked _ _ _ _ _ _ _ _ c.equations-equations.ensures.sound c.requires.least c.requires.tight c.requires.all c.requires.matching c.loop-head.invariant.ranking closed c.loop-head.invariant.zeros i l,

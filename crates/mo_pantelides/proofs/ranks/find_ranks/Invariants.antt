@@ -5,7 +5,7 @@ use Rattle.mo_pantelides.specs.steps.Ranks.{IsRankingTo}
 use Rattle.mo_pantelides.proofs.ranks.find_ranks.Given as goal
 
 abbrev pub invariant-loop-head : goal.invariant-loop-head
-invariant-loop-head l = IsRankingTo l.inc (by_place l.c) (by_number l.d) (by_place l.pairs) l.queue l.mark l.head l.tail
+invariant-loop-head l = IsRankingTo l.inc (by_place l.paired.c.now) (by_number l.paired.d.now) (by_place l.paired.pairs.now) l.queue l.mark l.head l.tail
 
 abbrev pub decreases-loop-head : goal.decreases-loop-head
 decreases-loop-head l = equations l.inc - l.head

@@ -1,4 +1,6 @@
-use Rattle.std.proofs.Common.{refl, arith}
+use Rattle.std.proofs.Common.{refl, rules, arith}
+use Rattle.mo_incidence.specs.Signature.{equations}
+use Rattle.mo_match.specs.Searching.{Uses, tight_of, IsTree}
 use Rattle.mo_match.proofs.Extending.{tree_after}
 use Rattle.mo_pantelides.proofs.Fixing.{released_bare, spare_there, root_has, root_released, root_handed, root_fixed, tree_as}
 use Rattle.mo_pantelides.proofs.transversal.fix.Goals as goal
@@ -43,4 +45,7 @@ returns-clause-fixed g c =
 pub returns-clause-tree : goal.returns-clause-tree
 returns-clause-tree g c =
     let found = c.seek-found.ensures.found in
-    tree_as (tree_after _ _ _ _ _ _ _ _ found.tree (omega arith) _ c.unmark.auto.mark c.unmark.ensures.cleared c.unmark.ensures.less c.unmark.ensures.others c.hand_on.new.pairs (λ s l. absurd (omega arith)))
+    let made : IsTree (Uses (tight_of c.args.inc.now c.args.c.now c.take.new.left)) (equations c.args.inc.now) c.take.new.pairs c.seek-found.new.queue c.seek-found.new.parent c.unmark.new.search.mark.now 0 0 =
+    tree_as (tree_after _ _ _ _ _ _ _ _ found.tree (omega arith) _ c.unmark.ensures.size c.unmark.ensures.unmarked c.hand_on.new.pairs (λ s l. absurd (omega arith))) in
+    let kept = c.unmark.ensures.kept in
+    search (rules, made, kept)

@@ -1,5 +1,9 @@
+use Rattle.mo_match.specs.Trees.{HasSameLists}
 use Rattle.mo_select.specs.steps.Growing.{IsGrownTo}
 use Rattle.mo_select.proofs.grow.grow_all.Given as goal
 
 abbrev pub invariant-loop-root : goal.invariant-loop-root
-invariant-loop-root l = IsGrownTo l.graph l.pairs l.owner l.queue l.parent l.mark l.base l.root
+invariant-loop-root l = record {
+  grown : IsGrownTo l.graph l.pairs l.owner l.search.queue.now l.search.parent.now l.search.mark.now l.base l.root;
+  same : HasSameLists l.initial.search l.search;
+}

@@ -7,12 +7,12 @@ use Rattle.mo_select.proofs.stage.left_out.Goals as goal
 pub numbers_at-requires-clause-known : goal.numbers_at-requires-clause-known
 numbers_at-requires-clause-known c =
     let of : c.new-counted.result ≡ given c.args.inc.now.unknowns c.deref.result.now = c.new-counted.ensures ∙ c.in-Ok.ensures.ok ∙ ap (λ (n : ℕ). given n c.deref.result.now) c.unknowns.ensures in
-    rw (c.as_slice.ensures.value, c.deficit.ensures.equations) (left_out_known c.args.inc.now c.args.active.now c.deref.result.now (rw c.deref.ensures.value c.in_ok-rows.ensures.count) _ _ _ (rw of at c.assign-assigned.ensures.deficit))
+    rw (c.as_slice.ensures.value, c.deficit.ensures.equations) (left_out_known c.args.inc.now c.args.remaining.now.active.now c.deref.result.now (rw c.deref.ensures.value c.in_ok-rows.ensures.count) _ _ _ (rw of at c.assign-assigned.ensures.deficit))
 
 pub returns : goal.returns
 returns c =
     let of : c.new-counted.result ≡ given c.args.inc.now.unknowns c.deref.result.now = c.new-counted.ensures ∙ c.in-Ok.ensures.ok ∙ ap (λ (n : ℕ). given n c.deref.result.now) c.unknowns.ensures in
-    left_out_are c.args.inc.now (by_place c.args.c.now) (by_number c.args.d.now) c.args.active.now c.args._order.now c.args.rank.now c.args.end c.requires.ranks c.requires.end c.deref.result.now
+    left_out_are c.args.inc.now (by_place c.args.remaining.now.c.now) (by_number c.args.remaining.now.d.now) c.args.remaining.now.active.now c.args._order.now c.args.rank.now c.args.end c.requires.ranks c.requires.end c.deref.result.now
     (rw c.deref.ensures.value c.in_ok-rows.ensures.count) (rw c.deref.ensures.value c.in_ok-rows.ensures.rows) c.assign-assigned.new.work.assignment c.assign-assigned.new.work.deficient c.assign-assigned.new.work.mentioned
     _ _ (rw of at c.assign-assigned.ensures.largest) (rw of at c.assign-assigned.ensures.missing) (rw of at c.assign-assigned.ensures.deficit)
     (rw (c.as_slice.ensures.value, c.deficit.ensures.equations) at c.in_ok-numbers.ensures)

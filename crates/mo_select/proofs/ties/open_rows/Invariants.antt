@@ -6,5 +6,5 @@ use Rattle.mo_select.proofs.ties.open_rows.Given as goal
 abbrev pub invariant-loop-place : goal.invariant-loop-place
 invariant-loop-place l = record {
   count : length (entries_in l.rows.items) ≡ l.place-index;
-  rows : AreOpenRows l.inc (by_place l.c) (by_number l.d) l.active l.rank l.end (entries_in l.rows.items);
+  rows : AreOpenRows l.inc (by_place l.remaining.c.now) (by_number l.remaining.d.now) l.remaining.active.now l.rank l.end (entries_in l.rows.items);
 }

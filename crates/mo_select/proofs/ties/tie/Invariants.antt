@@ -3,4 +3,4 @@ use Rattle.mo_select.specs.steps.Ties.{entries_in, HasTies}
 use Rattle.mo_select.proofs.ties.tie.Given as goal
 
 abbrev pub invariant-loop-k : goal.invariant-loop-k
-invariant-loop-k l = HasTies l.inc (by_place l.c) (by_number l.d) l.active l._order (entries_in l.rows.items) l.e l.k
+invariant-loop-k l = HasTies l.inc (by_place l.remaining.c.now) (by_number l.remaining.d.now) l.remaining.active.now l._order (entries_in l.rows.items) l.e l.k

@@ -3,4 +3,4 @@ use Rattle.mo_select.specs.steps.Ties.{entries_in, HasTies}
 use Rattle.mo_select.proofs.ties.ties.Given as goal
 
 abbrev pub invariant-loop-e : goal.invariant-loop-e
-invariant-loop-e l = HasTies l.inc (by_place l.c) (by_number l.d) l.active l.order (entries_in l.rows.items) l.e 0
+invariant-loop-e l = HasTies l.inc (by_place l.remaining.c.now) (by_number l.remaining.d.now) l.remaining.active.now l.order (entries_in l.rows.items) l.e 0

@@ -1,17 +1,18 @@
 use Rattle.std.proofs.Common.{◌≡◌, ◌<◌, ◌≤◌, ◌+◌, ◌-◌, slice_index}
 use Rattle.mo_incidence.specs.Counting.{sum_below}
 use Rattle.mo_incidence.specs.Signature.{equations, row_len}
-use Rattle.mo_match.specs.Searching.{HoldsTree, Grows, ClosedTo}
+use Rattle.mo_match.specs.Trees.{Gains, HasSameLists, HasTree, IsClosedTo}
 use Rattle.mo_match.proofs.graph.Graph.search.Given as goal
 
 abbrev pub invariant-loop-head : goal.invariant-loop-head
 invariant-loop-head g l = record {
-  tree : HoldsTree l.self l.pairs l.queue l.parent l.mark l.base l.tail;
-  grows : Grows l.fn.queue l.fn.mark l.queue l.mark l.base l.tail;
-  closed : ClosedTo l.self l.owner l.mark l.queue l.head;
-  first : slice_index l.queue l.base ≡ l.root;
+  tree : HasTree l.self l.held.pairs.now l.search l.base l.tail;
+  grows : Gains l.fn.search l.search l.base l.tail;
+  closed : IsClosedTo l.self l.held.owner.now l.search l.head;
+  first : slice_index l.search.queue.now l.base ≡ l.root;
+  same : HasSameLists l.fn.search l.search;
   within : (l.base ≤ l.head) × (l.head ≤ l.tail) × (l.base < l.tail);
-  cost : l.steps ≤ l.initial.steps + sum_below (λ s. row_len l.self.signature (slice_index l.queue s)) l.head;
+  cost : l.steps ≤ l.initial.steps + sum_below (λ s. row_len l.self.signature (slice_index l.search.queue.now s)) l.head;
 }
 
 abbrev pub decreases-loop-head : goal.decreases-loop-head

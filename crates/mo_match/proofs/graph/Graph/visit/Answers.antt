@@ -24,7 +24,7 @@ returns-clause-tree g c =
     let known = c.in-Some.ensures.known in
     let held = owner_facts c.in-Some.unknown c.requires.matching known.0 known.1 c.if-holder-eq0.false in
     reach_tree c.requires.tree c.reach-grown.ensures held.0 c.requires.head.1 c.requires.head.0 (rw held.1 (omega (arith, known.0)))
-    (rw held.1 (entry_uses _ c.args.owner.now _ _ _ c.requires.k c.in-Some.ensures.some))
+    (rw held.1 (entry_uses _ c.args.held.now.owner.now _ _ _ c.requires.k c.in-Some.ensures.some))
 
 pub returns-clause-grows : goal.returns-clause-grows
 returns-clause-grows g c = reach_grows (grows_none _ _ _) c.reach-grown.ensures
