@@ -301,13 +301,19 @@ fn rows_are_those_of_the_model(rt: HostRuntime) -> Result<(), Stop> {
     Ok(())
 }
 
+/// The rule and the byte of a refusal; zeros where there is none.
+fn refusal(found: &Result<Incidence, Stop>) -> (u8, u32) {
+    match found {
+        Ok(_) => (0, 0),
+        Err(Stop::Broken(broken)) => (broken.rule.number(), broken.place.byte),
+        Err(Stop::NoMemory) => (255, 0),
+    }
+}
+
 /// The rule and the byte that the incidence of a model breaks.
 fn broken(alloc: Global, m: &FlatModel) -> (u8, u32) {
-    match incidence(alloc, m) {
-        Ok(_) => (0, 0),
-        Err(Stop::NoMemory) => (0, 1),
-        Err(Stop::Broken(broken)) => (broken.rule.number(), broken.place.byte),
-    }
+    let found = incidence(alloc, m);
+    refusal(&found)
 }
 
 #[test]

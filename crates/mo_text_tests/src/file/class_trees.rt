@@ -73,13 +73,19 @@ fn tree(alloc: Global, kind: ClassKind, name: &str) -> Result<ClassTree, Stop> {
     build(alloc, files)
 }
 
-// The rule, the file and the byte of the refusal of the class tree; zeros where there is none.
-fn refusal(alloc: Global, name: &str) -> (u8, u32, u32) {
-    match tree(alloc, ClassKind::Model, name) {
+// The rule, the file and the byte of a refusal; zeros where there is none.
+fn refusal(found: &Result<ClassTree, Stop>) -> (u8, u32, u32) {
+    match found {
         Ok(_) => (0, 0, 0),
         Err(Stop::Broken(broken)) => (broken.rule.number(), broken.place.file, broken.place.byte),
         Err(Stop::NoMemory) => (255, 0, 0),
     }
+}
+
+// How the class tree with a model of that name in the second file is refused.
+fn refused(alloc: Global, name: &str) -> (u8, u32, u32) {
+    let found = tree(alloc, ClassKind::Model, name);
+    refusal(&found)
 }
 
 // The number of the class with that name, 0 where it is refused.
@@ -96,8 +102,8 @@ fn number(alloc: Global, tree: &ClassTree, name: &str) -> Result<u32, NoMemory> 
 
 #[test]
 fn a_within_names_a_long_class_of_any_file(rt: HostRuntime) {
-    assert!(&rt; refusal(rt.alloc(), "P") == (0, 0, 0));
-    assert!(&rt; refusal(rt.alloc(), "Q") == (rules::WITHIN_NAMES_NO_CLASS, 1, 7));
+    assert!(&rt; refused(rt.alloc(), "P") == (0, 0, 0));
+    assert!(&rt; refused(rt.alloc(), "Q") == (rules::WITHIN_NAMES_NO_CLASS, 1, 7));
 }
 
 fn has_numbers(rt: &impl Abort, alloc: Global, tree: &ClassTree) -> Result<(), NoMemory> {
