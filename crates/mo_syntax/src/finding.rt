@@ -42,7 +42,7 @@ pub fn find_class<'t>(files: &'t [FileTree], path: &[Text]) -> Option<ClassAt<'t
 /// The number of the class with that path, None where no class has it. Takes no memory.
 pub fn class_at(tree: &ClassTree, path: &Path) -> Option<ClassId>
     requires few { classes_in_files tree.now.files < 4294967290 }
-    ensures { option_map (λ id. id.0) result ≡ option_map (λ row. row.number) (class_of_path tree.now.files path.now.0) }
+    ensures { option_map (λ id. id.0) result ≡ option_map (λ at. at.number) (class_of_path tree.now.files path.now.0) }
 {
     match find_class(tree.files.as_slice(), path.0.as_slice()) {
         Some(found) => Some(found.id),
