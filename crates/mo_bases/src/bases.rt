@@ -6,9 +6,10 @@ ghost use Rattle.mo_scope.specs.Names.{base_frame_of, clauses_of, walk_of as wal
 ghost use Rattle.mo_scope.specs.Outcome.{Gives};
 ghost use Rattle.mo_scope.specs.Rows.{Clause, clauses_in};
 ghost use Rattle.mo_scope.specs.Sights.{part_seen};
-ghost use Rattle.mo_scope.specs.Sizes.{first_base as base_first, is_leaf as is_leaf_walk, leaf_base as base_of_leaf};
+ghost use Rattle.mo_scope.specs.Sizes.{is_leaf as is_leaf_walk};
 ghost use Rattle.mo_scope.specs.Worlds.{Grows, IsFrame, frame_at, table_in};
 ghost use Rattle.mo_bases.specs.steps.Leaves.{base_if_leaf as leaf_if_leaf};
+ghost use Rattle.mo_bases.specs.Bases.{IsLeafBase, first_base_at};
 
 use mo_names::{base_of, walk_of};
 use mo_scope::{Part, Scopes};
@@ -106,7 +107,7 @@ pub fn leaf_base<'t>(
 ) -> Result<Option<FrameId>, NoMemory>
     requires { IsFrame s.old frame.0 }
     ensures grows { Grows s.old s.new }
-    ensures value { IfOk result (λ found. option_map (λ frame. frame_at s.new frame.0) found ≡ base_of_leaf (table_in s.old) (frame_at s.old frame.0) (clauses_of (table_in s.old) (frame_at s.old frame.0))) }
+    ensures value { IfOk result (IsLeafBase s.old s.new frame.0) }
     ensures stand { IfOk result (λ found. IfSome found (λ frame. IsFrame s.new frame.0)) }
 {
     for clause in 0..clause_count(s, frame)? {
@@ -121,7 +122,7 @@ pub fn leaf_base<'t>(
 pub fn first_base<'t>(alloc: Global, s: &mut Scopes<'t>, frame: FrameId) -> Result<FrameId, Stop>
     requires { IsFrame s.old frame.0 }
     ensures grows { Grows s.old s.new }
-    ensures value { Gives (λ base. frame_at s.new base.0) result (base_first (table_in s.old) (frame_at s.old frame.0) (clauses_of (table_in s.old) (frame_at s.old frame.0))) }
+    ensures value { Gives (λ base. frame_at s.new base.0) result (first_base_at s.old frame.0) }
     ensures stand { IfOk result (λ base. IsFrame s.new base.0) }
 {
     if clause_count(s, frame)? == 0 {

@@ -8,6 +8,7 @@ ghost use Rattle.mo_scope.specs.Sights.{declares_seen, source_seen};
 ghost use Rattle.mo_scope.specs.Worlds.{source_in, sources_in, table_in};
 ghost use Rattle.mo_mods.specs.Passes.{nested_claims};
 ghost use Rattle.mo_mods.specs.PathSights.{asked_seen, claim_seen};
+ghost use Rattle.mo_mods.specs.Calls.{AreClaims};
 
 use mo_scope::{Declares, Given, Listing, Scopes, Source, copied, nested_list, replacing};
 use mo_syntax::{Argument, Give, Item, List, NoMemory, Place, Text, pushed, single};
@@ -136,7 +137,7 @@ pub fn claims_by<'t>(
     names: &'t [Text],
     last: bool,
 ) -> Result<List<Claim<'t>>, NoMemory>
-    ensures { IfOk result (λ made. map claim_seen made ≡ claims_of argument.now.give names.now argument.now.place last) }
+    ensures { IfOk result (AreClaims argument.now names.now last) }
 {
     let mut made = List::new(alloc);
     let path = path_with(alloc, &[], names)?;

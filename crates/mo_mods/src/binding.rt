@@ -1,11 +1,11 @@
 //! Looking up what a table gives.
-ghost use Rattle.std.specs.Prelude.{◌≡◌, [], List as Seq, drop, option_copied, option_map, IfSome};
+ghost use Rattle.std.specs.Prelude.{◌≡◌, [], List as Seq, drop, option_copied, IfSome};
 ghost use Rattle.mo_scope.specs.Frames.{Frame};
-ghost use Rattle.mo_scope.specs.Sights.{picked_in};
-ghost use Rattle.mo_scope.specs.Worlds.{IsFrame, World};
-ghost use Rattle.mo_mods.specs.Merged.{at_path, binding, table_for, tables_below};
+ghost use Rattle.mo_scope.specs.Worlds.{World};
+ghost use Rattle.mo_mods.specs.Merged.{at_path};
 ghost use Rattle.mo_mods.specs.Scopes.{ScopesExist};
 ghost use Rattle.mo_mods.specs.Sights.{merged_in, merged_or};
+ghost use Rattle.mo_mods.specs.Calls.{IsTableFor, IsBoundTo, ScopeExists};
 
 use crate::env::MergedEnv;
 use mo_scope::Picked;
@@ -14,29 +14,29 @@ use mo_syntax::Text;
 impl<'t> MergedEnv<'t> {
     /// The table for the paths that begin with a name, None where nothing is given for them.
     pub fn table_for(&self, name: &Text) -> Option<&MergedEnv<'t>>
-        ensures { (frames : Seq Frame) → merged_or frames (option_copied result) ≡ table_for name.now (tables_below (merged_in frames self.now)) }
+        ensures { IsTableFor self.now name.now (option_copied result) }
     {
         self.below.get(name.as_str())
     }
 
     /// The table for the paths that begin with a name, None where nothing is given for them.
     pub fn table_named(&self, name: &str) -> Option<&MergedEnv<'t>>
-        ensures { (frames : Seq Frame) → merged_or frames (option_copied result) ≡ table_for name.now (tables_below (merged_in frames self.now)) }
+        ensures { IsTableFor self.now name.now (option_copied result) }
     {
         self.below.get(name)
     }
 
     /// The value for a path, with its scope and its pending indices. It takes no memory.
     pub fn binding(&self, path: &[Text]) -> Option<Picked<'_>>
-        ensures is { (frames : Seq Frame) → option_map (picked_in frames) result ≡ binding (merged_in frames self.now) path.now }
-        ensures exists { (world : World) → ScopesExist world self.now → IfSome result (λ picked. IsFrame world picked.scope.now.frame.0) }
+        ensures is { IsBoundTo self.now path.now result }
+        ensures exists { (world : World) → ScopesExist world self.now → IfSome result (ScopeExists world) }
     {
         self.found(path)
     }
 
     /// The value for a path.
     fn found(&self, path: &[Text]) -> Option<Picked<'_>>
-        ensures { (frames : Seq Frame) → option_map (picked_in frames) result ≡ binding (merged_in frames self.now) path.now }
+        ensures { IsBoundTo self.now path.now result }
     {
         match self.at_path(path, 0) {
             Some(env) => env.value_here(),
@@ -59,7 +59,7 @@ impl<'t> MergedEnv<'t> {
 
     /// The value for what the table is of.
     fn value_here(&self) -> Option<Picked<'_>>
-        ensures { (frames : Seq Frame) → option_map (picked_in frames) result ≡ binding (merged_in frames self.now) [] }
+        ensures { IsBoundTo self.now [] result }
     {
         match &self.value {
             Some(value) => Some(Picked {

@@ -1,12 +1,9 @@
 //! The modifiers of a frame as one table.
 ghost use Rattle.std.specs.Prelude.{IfOk};
-ghost use Rattle.mo_scope.specs.Arguments.{second_pass};
-ghost use Rattle.mo_scope.specs.Frames.{sources_of};
 ghost use Rattle.mo_scope.specs.Outcome.{Gives};
-ghost use Rattle.mo_scope.specs.Worlds.{IsFrame, frame_at, frames_of, table_in};
-ghost use Rattle.mo_mods.specs.Merged.{StandsFor};
+ghost use Rattle.mo_scope.specs.Worlds.{IsFrame};
 ghost use Rattle.mo_mods.specs.Scopes.{ScopesExist};
-ghost use Rattle.mo_mods.specs.Sights.{merged_in};
+ghost use Rattle.mo_mods.specs.Calls.{second_pass_at, StandsForFrame};
 
 use crate::asked::arguments;
 use crate::env::MergedEnv;
@@ -20,7 +17,7 @@ use std::alloc::Global;
 /// where no index is pending.
 fn pass(scopes: &Scopes<'_>, alloc: Global, frame: FrameId) -> Result<(), Stop>
     requires { IsFrame scopes.now frame.0 }
-    ensures { Gives (λ _. tt) result (second_pass (table_in scopes.now) (sources_of (frame_at scopes.now frame.0))) }
+    ensures { Gives (λ _. tt) result (second_pass_at scopes.now frame.0) }
 {
     let asked = arguments(scopes, alloc, scopes.sources(frame).as_slice())?;
     match first_broken(alloc, asked.as_slice())? {
@@ -33,8 +30,8 @@ fn pass(scopes: &Scopes<'_>, alloc: Global, frame: FrameId) -> Result<(), Stop>
 /// sources does. A path of more than 256 names is want of memory.
 pub fn merge<'t>(scopes: &Scopes<'t>, alloc: Global, frame: FrameId) -> Result<MergedEnv<'t>, Stop>
     requires { IsFrame scopes.now frame.0 }
-    ensures broken { Gives (λ _. tt) result (second_pass (table_in scopes.now) (sources_of (frame_at scopes.now frame.0))) }
-    ensures stands { IfOk result (λ made. StandsFor (table_in scopes.now) (merged_in (frames_of scopes.now) made) (sources_of (frame_at scopes.now frame.0))) }
+    ensures broken { Gives (λ _. tt) result (second_pass_at scopes.now frame.0) }
+    ensures stands { IfOk result (StandsForFrame scopes.now frame.0) }
     ensures exist { IfOk result (λ made. ScopesExist scopes.now made) }
 {
     pass(scopes, alloc, frame)?;

@@ -1,7 +1,7 @@
 //! The modifiers of a frame merged into one table (Modelica Language Specification 3.5, section 7.2).
 //!
-//! Begin with `src/env.rt`; the definition to read first is `specs/Merged.antt`. What this crate may not know ends its paragraph in
-//! docs/ARCHITECTURE.md.
+//! Begin with `src/env.rt`; the definition to read first is `specs/Merged.antt`, and `specs/Calls.antt` for what the calls answer. What
+//! this crate may not know ends its paragraph in docs/ARCHITECTURE.md.
 //!
 //! - `merge`: the sources of a frame as one table, or the first of rules 21 to 23 that their arguments break; `merged_sources`: a
 //!   list of sources as one table. `claims_by`: the paths that an argument gives something for, each as a `Claim`;

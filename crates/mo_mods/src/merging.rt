@@ -4,12 +4,11 @@
 //! but not how many names an argument has, so the calls count the names that may follow: past them memory is wanted.
 ghost use Rattle.std.specs.Prelude.{◌≡◌, ℕ, List as Seq, None, map, IfOk};
 ghost use Rattle.mo_scope.specs.Frames.{Frame};
-ghost use Rattle.mo_scope.specs.Sights.{source_seen};
-ghost use Rattle.mo_scope.specs.Worlds.{AreFrames, World, sources_in, table_in};
+ghost use Rattle.mo_scope.specs.Worlds.{table_in};
 ghost use Rattle.mo_mods.specs.Left.{IsElementOf, IsMergedOf};
-ghost use Rattle.mo_mods.specs.Merged.{StandsFor, redeclared_here, table_for};
-ghost use Rattle.mo_mods.specs.Scopes.{ScopesExist};
+ghost use Rattle.mo_mods.specs.Merged.{redeclared_here, table_for};
 ghost use Rattle.mo_mods.specs.Sights.{below_seen, left_in, merged_in, said_held, said_in};
+ghost use Rattle.mo_mods.specs.Calls.{StandsForSources, ScopesExistBy};
 
 use crate::env::{MergedEnv, put};
 use crate::groups::grouped;
@@ -90,8 +89,8 @@ pub fn merged_sources<'t>(
     alloc: Global,
     sources: &[Source<'t>],
 ) -> Result<MergedEnv<'t>, NoMemory>
-    ensures stands { IfOk result (λ made. (frames : Seq Frame) → StandsFor (table_in scopes.now) (merged_in frames made) (sources_in frames (map source_seen sources.now))) }
-    ensures exist { IfOk result (λ made. (world : World) → AreFrames world (map source_seen sources.now) → ScopesExist world made) }
+    ensures stands { IfOk result (StandsForSources (table_in scopes.now) sources.now) }
+    ensures exist { IfOk result (ScopesExistBy sources.now) }
 {
     let lefts = lefts_of(alloc, sources)?;
     merged(scopes, alloc, lefts.as_slice(), MOST_NAMES)

@@ -1,12 +1,11 @@
 //! Paths as keys, and which lists have a path.
-ghost use Rattle.std.specs.Prelude.{◌≡◌, ◌+◌, [], ◌∷◌, ◌++◌, List as Seq, ℕ, not, map, IfOk, OnOk, if◌then◌else◌};
-ghost use Rattle.std.specs.List.{list_any};
-ghost use Rattle.std.specs.Str.{bytes_eq};
+ghost use Rattle.std.specs.Prelude.{◌≡◌, ◌+◌, [], ◌∷◌, ◌++◌, List as Seq, ℕ, map, IfOk, OnOk};
 ghost use Rattle.mo_syntax.specs.ClassTable.{path_eq};
 ghost use Rattle.mo_scope.specs.Frames.{listing_eq};
 ghost use Rattle.mo_scope.specs.Held.{path_key};
 ghost use Rattle.mo_scope.specs.Sights.{listing_seen};
 ghost use Rattle.mo_mods.specs.PathSights.{having_seen, lists_held, lists_or_none};
+ghost use Rattle.mo_mods.specs.Calls.{HoldsListAlso, has_list, has_other_list};
 
 use mo_scope::Listing;
 use mo_syntax::{List, NoMemory, Text};
@@ -80,7 +79,7 @@ fn or_none<'s, 't>(alloc: Global, lists: Option<List<Having<'s, 't>>>) -> List<H
 
 /// Whether one of some lists is that one.
 fn is_among(lists: &[Having<'_, '_>], listing: &Listing<'_>) -> bool
-    ensures { result ≡ list_any (λ other. listing_eq other (listing_seen listing.now)) (map having_seen lists.now) }
+    ensures { result ≡ has_list (listing_seen listing.now) (map having_seen lists.now) }
 {
     for other in lists {
         if is_listing(other.listing, listing) {
@@ -92,7 +91,7 @@ fn is_among(lists: &[Having<'_, '_>], listing: &Listing<'_>) -> bool
 
 /// Whether one of some lists is another one.
 fn is_other_among(lists: &[Having<'_, '_>], listing: &Listing<'_>) -> bool
-    ensures { result ≡ list_any (λ other. not (listing_eq other (listing_seen listing.now))) (map having_seen lists.now) }
+    ensures { result ≡ has_other_list (listing_seen listing.now) (map having_seen lists.now) }
 {
     for other in lists {
         if !is_listing(other.listing, listing) {
@@ -125,7 +124,7 @@ impl<'s, 't> ByPath<'s, 't> {
         key: Vec<u16>,
         listing: &'s Listing<'t>,
     ) -> Result<(), NoMemory>
-        ensures { OnOk result ((other : Seq ℕ) → lists_held self.new other ≡ lists_held self.old other ++ (if bytes_eq key.items other then listing_seen listing.now ∷ [] else [])) }
+        ensures { OnOk result (HoldsListAlso self.old self.new key.items (listing_seen listing.now)) }
     {
         let mut group = or_none(alloc, self.lists.remove(key.as_slice()));
         group.push(Having { listing })?;
@@ -135,7 +134,7 @@ impl<'s, 't> ByPath<'s, 't> {
 
     /// Whether a list is under a key.
     pub fn has(&self, key: &[u16], listing: &Listing<'_>) -> bool
-        ensures { result ≡ list_any (λ other. listing_eq other (listing_seen listing.now)) (lists_held self.now key.now) }
+        ensures { result ≡ has_list (listing_seen listing.now) (lists_held self.now key.now) }
     {
         match self.lists.get(key) {
             Some(lists) => is_among(lists.as_slice(), listing),
@@ -145,7 +144,7 @@ impl<'s, 't> ByPath<'s, 't> {
 
     /// Whether another list is under a key.
     pub fn has_other(&self, key: &[u16], listing: &Listing<'_>) -> bool
-        ensures { result ≡ list_any (λ other. not (listing_eq other (listing_seen listing.now))) (lists_held self.now key.now) }
+        ensures { result ≡ has_other_list (listing_seen listing.now) (lists_held self.now key.now) }
     {
         match self.lists.get(key) {
             Some(lists) => is_other_among(lists.as_slice(), listing),

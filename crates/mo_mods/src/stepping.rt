@@ -2,12 +2,12 @@
 ghost use Rattle.std.specs.Prelude.{◌≡◌, List as Seq, option_map, IfOk};
 ghost use Rattle.std.specs.List.{list_any};
 ghost use Rattle.mo_scope.specs.Frames.{Frame};
-ghost use Rattle.mo_scope.specs.Rows.{Table};
 ghost use Rattle.mo_scope.specs.Worlds.{World};
-ghost use Rattle.mo_mods.specs.Merged.{StepsIn, nothing_merged};
+ghost use Rattle.mo_mods.specs.Merged.{nothing_merged};
 ghost use Rattle.mo_mods.specs.Scopes.{ScopesExist};
 ghost use Rattle.mo_mods.specs.Sights.{below_seen, merged_in, redeclared_in, value_in};
-ghost use Rattle.mo_mods.specs.Steps.{entered_below as below_entered, entered_table, entered_value as value_entered, rest_of as rest_of_marks, stepped, stepped_in, with_index as pending_with_index};
+ghost use Rattle.mo_mods.specs.Steps.{entered_below as below_entered, entered_table, entered_value as value_entered, rest_of as rest_of_marks, stepped, with_index as pending_with_index};
+ghost use Rattle.mo_mods.specs.Calls.{IsSteppedIn, StandsSteppedIn};
 
 use crate::env::{MergedEnv, MergedValue, RedeclaredAt, put};
 use mo_scope::{copied, copied_scope, extend};
@@ -170,7 +170,7 @@ fn stepped_env<'t>(
 impl<'t> MergedEnv<'t> {
     /// The table for an element of that name, entered at an index.
     fn stepped(&self, alloc: Global, name: &Text, index: &[u32]) -> Result<MergedEnv<'t>, NoMemory>
-        ensures { IfOk result (λ made. (frames : Seq Frame) → merged_in frames made ≡ stepped_in (merged_in frames self.now) name.now index.now) }
+        ensures { IfOk result (IsSteppedIn self.now name.now index.now) }
     {
         match self.table_for(name) {
             Some(env) => stepped_env(alloc, env, index),
@@ -186,8 +186,8 @@ impl<'t> MergedEnv<'t> {
         name: &Text,
         index: &[u32],
     ) -> Result<MergedEnv<'t>, NoMemory>
-        ensures is { IfOk result (λ made. (frames : Seq Frame) → merged_in frames made ≡ stepped_in (merged_in frames self.now) name.now index.now) }
-        ensures stands { IfOk result (λ made. (frames : Seq Frame) → (table : Table) → StepsIn table (merged_in frames self.now) name.now index.now (merged_in frames made)) }
+        ensures is { IfOk result (IsSteppedIn self.now name.now index.now) }
+        ensures stands { IfOk result (StandsSteppedIn self.now name.now index.now) }
         ensures exist { IfOk result (λ made. (world : World) → ScopesExist world self.now → ScopesExist world made) }
     {
         self.stepped(alloc, name, index)

@@ -1,5 +1,6 @@
 -- Frames keep their numbers, so what the values of the code are stays the same in later worlds.
 use Rattle.std.proofs.Common.{◌≡◌, ℕ, ◌<◌, List, [], ◌∷◌, ◌++◌, length, map, reverse, Option, Some, None, option_map, refl, ap, sym, subst, ◌∙◌, arith, length-append, append_assoc}
+use Rattle.std.proofs.lemmas.List.{append-nil}
 use Rattle.mo_syntax.specs.declared.meaning.FrameId.{FrameId}
 use Rattle.mo_scope.specs.declared.row.Member.{Member as MemberAt}
 use Rattle.mo_scope.specs.Rows.{class_number, number_of_classes, table_of}
@@ -8,7 +9,7 @@ use Rattle.mo_scope.specs.Lookup.{Component, Class}
 use Rattle.mo_scope.specs.Own.{IsOwnElement}
 use Rattle.mo_scope.specs.Places.{Every}
 use Rattle.mo_scope.specs.Sights.{declares_seen}
-use Rattle.mo_scope.specs.Worlds.{World, FrameEntry, Grows, IsFrame, frame_in, frames_of, table_in}
+use Rattle.mo_scope.specs.Worlds.{World, Grows, IsFrame, frame_in, frames_of, table_in}
 use Rattle.mo_scope.proofs.Numbered.{frames_stay}
 use Rattle.mo_names.specs.declared.found.Found.{Found as FoundAt}
 use Rattle.mo_names.specs.declared.found.Found.TheVariants.{Component as component_at, Class as class_at, Literal as literal_at, Iteration as iteration_at, Function as function_at, Time as time_at}
@@ -21,10 +22,6 @@ use Rattle.mo_names.specs.Sights.{member_of, found_in, frames_through, inherited
 
 pub grows_refl : (w : World) → Grows w w
 grows_refl w = record { files = refl; more = []; entries = sym (append-nil w.entries) }
-  where
-    append-nil : (xs : List FrameEntry) → xs ++ [] ≡ xs
-    append-nil [] = refl
-    append-nil (x ∷ xs) = ap (λ ys. x ∷ ys) (append-nil xs)
 
 pub grows_trans : (u v w : World) → Grows u v → Grows v w → Grows u w
 grows_trans u v w a b = record {

@@ -9,12 +9,13 @@ use Rattle.mo_syntax.specs.declared.expr.PartOf.{PartOf}
 use Rattle.mo_syntax.specs.declared.place.Place.{Place}
 use Rattle.mo_scope.specs.declared.row.Member.{Member as MemberAt}
 use Rattle.mo_scope.specs.Rows.{Table, component_of, is_class}
+use Rattle.mo_scope.specs.Calls.{HasScope}
 use Rattle.mo_scope.specs.Frames.{Frame, Scope, Member, sources_of}
 use Rattle.mo_scope.specs.Lookup.{Found, Component, Inherited, Reached, Element, asking_of, behind_class, class_named, entered, reached}
 use Rattle.mo_scope.specs.Names.{Child, behind_found, child_of_member, component_frame, is_inner_for, scope_of_home, stands_for, taken}
 use Rattle.mo_scope.specs.Parts.{Redeclaration, class_sources, component_sources, redeclared}
 use Rattle.mo_scope.specs.Sights.{declares_seen, redeclaration_in, source_seen}
-use Rattle.mo_scope.specs.Worlds.{World, AreFrames, IsFrame, frame_in, sources_in}
+use Rattle.mo_scope.specs.Worlds.{World, AreFrames, IsFrame, frame_in, frames_of, sources_in}
 use Rattle.mo_names.specs.declared.found.Child.{Child as ChildAt}
 use Rattle.mo_names.specs.Past.{first_met}
 use Rattle.mo_names.specs.Sights.{IsMember, member_of}
@@ -30,6 +31,10 @@ child_seen frames child = record {
   sources = sources_in frames (map source_seen child.sources);
 }
 
+-- a child in a world, whose frames have the numbers
+abbrev pub child_at : World → ChildAt → Child
+child_at world = child_seen (frames_of world)
+
 -- a component with the frame among whose elements it is
 abbrev pub component_seen : List Frame → FrameId × MemberAt → Frame × Member
 component_seen frames component = (frame_in frames component.0.0, member_of frames component.1)
@@ -40,7 +45,7 @@ component_seen frames component = (frame_in frames component.0.0, member_of fram
 pub record IsChild (world : World) (child : ChildAt) : Type 0 where
   pub class : IsFrame world child.class.0
   pub sources : AreFrames world (map source_seen child.sources)
-  pub redeclared : IfSome child.redeclared (λ redeclaration. IsFrame world redeclaration.source.scope.frame.0)
+  pub redeclared : IfSome child.redeclared (HasScope world)
 
 abbrev pub IsComponent : World → FrameId × MemberAt → Type 0
 IsComponent world component = IsFrame world component.0.0 × IsMember world component.1

@@ -1,3 +1,4 @@
+pub mod Calls
 pub mod Children
 pub mod Past
 pub mod Sights

@@ -63,6 +63,14 @@ walk_seen frames walk = record {
   leaf = option_map (λ frame. frame_in frames frame.0) walk.leaf;
 }
 
+-- ---- what they are in a world, whose frames have the numbers
+
+abbrev pub found_at : World → FoundAt → Found
+found_at world = found_in (frames_of world)
+
+abbrev pub walk_at : World → Walk → Walked
+walk_at world = walk_seen (frames_of world)
+
 -- ---- what exists
 
 -- the frame whose class declares the element, the class that it declares, and which of the elements of that frame's class it is

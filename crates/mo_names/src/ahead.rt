@@ -4,8 +4,8 @@
 ghost use Rattle.std.specs.Prelude.{◌≡◌, Ok};
 ghost use Rattle.mo_syntax.specs.declared.place.Place.{Place as PlaceAt};
 ghost use Rattle.mo_scope.specs.Lookup.{asking_of};
-ghost use Rattle.mo_scope.specs.Worlds.{Grows, IsFrame, frame_at, frames_of, table_in};
-ghost use Rattle.mo_names.specs.Sights.{IsWalk, walk_seen};
+ghost use Rattle.mo_scope.specs.Worlds.{Grows, IsFrame, frame_at, table_in};
+ghost use Rattle.mo_names.specs.Sights.{IsWalk, walk_at};
 
 use crate::found::Ask;
 use crate::free::class_count;
@@ -29,7 +29,7 @@ fn keep_walk<'t>(
     walk: &Walk<'t>,
 ) -> Result<(), NoMemory>
     requires frame { IsFrame s.old frame.0 }
-    requires is { (place : PlaceAt) → (asking_of (table_in s.old)).elements place (frame_at s.old frame.0) ≡ Ok (walk_seen (frames_of s.old) walk.now) }
+    requires is { (place : PlaceAt) → (asking_of (table_in s.old)).elements place (frame_at s.old frame.0) ≡ Ok (walk_at s.old walk.now) }
     requires stands { IsWalk s.old walk.now }
     ensures { Grows s.old s.new }
 {

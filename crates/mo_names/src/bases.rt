@@ -2,13 +2,12 @@
 #![tactic(auto, using(crate::proofs::Later::later))]
 
 ghost use Rattle.std.specs.Prelude.{◌≡◌, ◌<◌, drop, IfOk};
-ghost use Rattle.mo_scope.specs.Frames.{class_of};
 ghost use Rattle.mo_scope.specs.Lookup.{base_class as class_of_base, class_behind as classes_behind, class_named as named_class, found_from as found_outwards, walked_class as class_walked};
 ghost use Rattle.mo_scope.specs.Outcome.{Gives};
-ghost use Rattle.mo_scope.specs.Rows.{number_of_classes, row_at};
-ghost use Rattle.mo_scope.specs.Sights.{clause_seen, part_seen};
-ghost use Rattle.mo_scope.specs.Worlds.{Grows, IsFrame, frame_at, frames_of, scope_in, table_in};
-ghost use Rattle.mo_names.specs.Sights.{IsFound, IsWalk, asks, classed_seen, met_seen, walk_seen};
+ghost use Rattle.mo_scope.specs.Rows.{number_of_classes};
+ghost use Rattle.mo_scope.specs.Sights.{clause_seen, part_seen, scope_at};
+ghost use Rattle.mo_scope.specs.Worlds.{Grows, IsFrame, frame_at, frames_of, table_in, row_of_frame};
+ghost use Rattle.mo_names.specs.Sights.{IsFound, IsWalk, asks, classed_seen, met_seen, walk_at};
 ghost use Rattle.mo_names.specs.steps.Parts.{parts_of};
 ghost use Rattle.mo_names.specs.Past.{first_met};
 ghost use Rattle.mo_names.specs.steps.Bases.{IsOwnPart, PartExists, base_walked as walked_base, base_with_elements, first_of_parts, part_walked as walked_part, parts_walked as walked_parts_from};
@@ -74,7 +73,7 @@ pub(crate) fn found_first<'t>(
 ) -> Result<Met<'t>, Stop>
     requires { IsFrame s.old scope.now.frame.0 }
     ensures grows { Grows s.old s.new }
-    ensures value { Gives (met_seen (frames_of s.new)) result (first_met (table_in s.old) (asks (table_in s.old) ask.now) bare top (scope_in (frames_of s.old) scope.now.frame.0 scope.now.iters) ask.now.place name.now) }
+    ensures value { Gives (met_seen (frames_of s.new)) result (first_met (table_in s.old) (asks (table_in s.old) ask.now) bare top (scope_at s.old scope.now) ask.now.place name.now) }
     ensures stand { IfOk result (λ met. IsFound s.new met.found) }
 {
     if top {
@@ -102,7 +101,7 @@ fn first_class(
 ) -> Result<Classed, Stop>
     requires { IsFrame s.old scope.now.frame.0 }
     ensures grows { Grows s.old s.new }
-    ensures value { Gives (classed_seen (frames_of s.new)) result (classed_first (table_in s.old) (asks (table_in s.old) ask.now) bare top (scope_in (frames_of s.old) scope.now.frame.0 scope.now.iters) part.now) }
+    ensures value { Gives (classed_seen (frames_of s.new)) result (classed_first (table_in s.old) (asks (table_in s.old) ask.now) bare top (scope_at s.old scope.now) part.now) }
     ensures stand { IfOk result (λ class. IsFrame s.new class.frame.0) }
 {
     let here = Ask {
@@ -127,7 +126,7 @@ fn class_first(
 ) -> Result<Classed, Stop>
     requires { IsFrame s.old scope.now.frame.0 }
     ensures grows { Grows s.old s.new }
-    ensures value { Gives (classed_seen (frames_of s.new)) result (first_of_parts (table_in s.old) (asks (table_in s.old) ask.now) bare reference.now.top (scope_in (frames_of s.old) scope.now.frame.0 scope.now.iters) reference.now.parts) }
+    ensures value { Gives (classed_seen (frames_of s.new)) result (first_of_parts (table_in s.old) (asks (table_in s.old) ask.now) bare reference.now.top (scope_at s.old scope.now) reference.now.parts) }
     ensures stand { IfOk result (λ class. IsFrame s.new class.frame.0) }
 {
     match reference.parts.get(0) {
@@ -204,7 +203,7 @@ pub(crate) fn class_named(
 ) -> Result<Classed, Stop>
     requires { IsFrame s.old scope.now.frame.0 }
     ensures grows { Grows s.old s.new }
-    ensures value { Gives (classed_seen (frames_of s.new)) result (named_class (table_in s.old) (asks (table_in s.old) ask.now) bare (scope_in (frames_of s.old) scope.now.frame.0 scope.now.iters) reference.now) }
+    ensures value { Gives (classed_seen (frames_of s.new)) result (named_class (table_in s.old) (asks (table_in s.old) ask.now) bare (scope_at s.old scope.now) reference.now) }
     ensures stand { IfOk result (λ class. IsFrame s.new class.frame.0) }
 {
     let first = class_first(alloc, s, ask, bare, scope, reference)?;
@@ -257,7 +256,7 @@ pub(crate) fn base_found<'t>(
 ) -> Result<FrameId, Stop>
     requires { IsFrame s.old frame.0 }
     ensures grows { Grows s.old s.new }
-    ensures value { Gives (λ base. frame_at s.new base.0) result (base_at (table_in s.old) (asks (table_in s.old) ask.now) (frame_at s.old frame.0) (row_at (table_in s.old) (class_of (frame_at s.old frame.0))) (clause_seen clause.now)) }
+    ensures value { Gives (λ base. frame_at s.new base.0) result (base_at (table_in s.old) (asks (table_in s.old) ask.now) (frame_at s.old frame.0) (row_of_frame s.old frame.0) (clause_seen clause.now)) }
     ensures stand { IfOk result (λ base. IsFrame s.new base.0) }
 {
     if s.row(s.class_of(frame)).is_none() {
@@ -278,7 +277,7 @@ fn base_elements<'t>(
 ) -> Result<(FrameId, Walk<'t>), Stop>
     requires { IsFrame s.old frame.0 }
     ensures grows { Grows s.old s.new }
-    ensures value { Gives (λ base. (frame_at s.new base.0.0, walk_seen (frames_of s.new) base.1)) result (base_with_elements (table_in s.old) (asks (table_in s.old) ask.now) (frame_at s.old frame.0) (row_at (table_in s.old) (class_of (frame_at s.old frame.0))) (clause_seen clause.now)) }
+    ensures value { Gives (λ base. (frame_at s.new base.0.0, walk_at s.new base.1)) result (base_with_elements (table_in s.old) (asks (table_in s.old) ask.now) (frame_at s.old frame.0) (row_of_frame s.old frame.0) (clause_seen clause.now)) }
     ensures stand { IfOk result (λ base. IsFrame s.new base.0.0 × IsWalk s.new base.1) }
 {
     let base = base_found(alloc, s, ask, frame, clause)?;
@@ -304,7 +303,7 @@ fn base_walked<'t>(
     requires frame { IsFrame s.old frame.0 }
     requires so_far { IsWalk s.old so_far.old }
     ensures grows { Grows s.old s.new }
-    ensures value { Gives (λ _. walk_seen (frames_of s.new) so_far.new) result (walked_base (table_in s.old) (asks (table_in s.old) ask.now) (frame_at s.old frame.0) (row_at (table_in s.old) (class_of (frame_at s.old frame.0))) (clause_seen clause.now) (walk_seen (frames_of s.old) so_far.old)) }
+    ensures value { Gives (λ _. walk_at s.new so_far.new) result (walked_base (table_in s.old) (asks (table_in s.old) ask.now) (frame_at s.old frame.0) (row_of_frame s.old frame.0) (clause_seen clause.now) (walk_at s.old so_far.old)) }
     ensures stand { IfOk result (λ _. IsWalk s.new so_far.new) }
 {
     let (base, walk) = base_elements(alloc, s, ask, frame, clause)?;
@@ -328,7 +327,7 @@ fn part_walked<'t>(
     requires part { PartExists (number_of_classes (table_in s.old)) (part_seen part.now) }
     requires own { IsOwnPart (table_in s.old) (frame_at s.old frame.0) item (part_seen part.now) }
     ensures grows { Grows s.old s.new }
-    ensures value { Gives (λ _. walk_seen (frames_of s.new) so_far.new) result (walked_part (table_in s.old) (asks (table_in s.old) ask.now) (frame_at s.old frame.0) (row_at (table_in s.old) (class_of (frame_at s.old frame.0))) item (part_seen part.now) (walk_seen (frames_of s.old) so_far.old)) }
+    ensures value { Gives (λ _. walk_at s.new so_far.new) result (walked_part (table_in s.old) (asks (table_in s.old) ask.now) (frame_at s.old frame.0) (row_of_frame s.old frame.0) item (part_seen part.now) (walk_at s.old so_far.old)) }
     ensures item { IfOk result (λ next. next ≡ next_item (part_seen part.now) item) }
     ensures stand { IfOk result (λ _. IsWalk s.new so_far.new) }
 {
@@ -356,7 +355,7 @@ fn walked_parts<'t>(
     requires frame { IsFrame s.old frame.0 }
     requires so_far { IsWalk s.old so_far.old }
     ensures grows { Grows s.old s.new }
-    ensures value { Gives (λ _. walk_seen (frames_of s.new) so_far.new) result (walked_parts_from (table_in s.old) (asks (table_in s.old) ask.now) (frame_at s.old frame.0) (row_at (table_in s.old) (class_of (frame_at s.old frame.0))) 0 (parts_of (row_at (table_in s.old) (class_of (frame_at s.old frame.0)))) (walk_seen (frames_of s.old) so_far.old)) }
+    ensures value { Gives (λ _. walk_at s.new so_far.new) result (walked_parts_from (table_in s.old) (asks (table_in s.old) ask.now) (frame_at s.old frame.0) (row_of_frame s.old frame.0) 0 (parts_of (row_of_frame s.old frame.0)) (walk_at s.old so_far.old)) }
     ensures stand { IfOk result (λ _. IsWalk s.new so_far.new) }
 {
     let class = s.class_of(frame);
@@ -378,7 +377,7 @@ pub(crate) fn walked_class<'t>(
 ) -> Result<Walk<'t>, Stop>
     requires { IsFrame s.old frame.0 }
     ensures grows { Grows s.old s.new }
-    ensures value { Gives (walk_seen (frames_of s.new)) result (class_walked (table_in s.old) (asks (table_in s.old) ask.now) (frame_at s.old frame.0) (row_at (table_in s.old) (class_of (frame_at s.old frame.0)))) }
+    ensures value { Gives (walk_at s.new) result (class_walked (table_in s.old) (asks (table_in s.old) ask.now) (frame_at s.old frame.0) (row_of_frame s.old frame.0)) }
     ensures stand { IfOk result (IsWalk s.new) }
 {
     let mut walk = started(alloc, s, frame)?;

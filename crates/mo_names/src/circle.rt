@@ -2,12 +2,11 @@
 #![tactic(auto, using(crate::proofs::Later::later))]
 
 ghost use Rattle.std.specs.Prelude.{◌≡◌, ◌+◌, ◌<◌, ◌∷◌, drop, length, map, option_map, IfOk, IfSome, Some, None};
-ghost use Rattle.mo_scope.specs.Frames.{class_of};
 ghost use Rattle.mo_scope.specs.Lookup.{Reached as ReachedSeen, behind_class as found_behind_class, counted as counted_member, found_element as element_found, found_in as found_in_frame, found_by_import as found_by_clause, found_by_star as found_by_its_star, import_behind as names_behind, imported as found_imported, imported_package as package_imported, is_package as is_package_frame, reached as reached_of, through_star as found_through_star, walked as walked_of};
 ghost use Rattle.mo_scope.specs.Outcome.{Gives};
-ghost use Rattle.mo_scope.specs.Rows.{row_at};
-ghost use Rattle.mo_scope.specs.Worlds.{Grows, IsFrame, frame_at, frames_of, table_in};
-ghost use Rattle.mo_names.specs.Sights.{IsFound, IsMember, IsReached, IsWalk, asks, found_in as found_seen, member_of, met_seen, reached_seen, walk_seen};
+ghost use Rattle.mo_scope.specs.Worlds.{Grows, IsFrame, frame_at, frames_of, table_in, row_of_frame};
+ghost use Rattle.mo_scope.specs.Sights.{member_at};
+ghost use Rattle.mo_names.specs.Sights.{IsFound, IsMember, IsReached, IsWalk, asks, met_seen, reached_seen, walk_at, found_at};
 ghost use Rattle.mo_names.specs.steps.Parts.{imports_of};
 ghost use Rattle.mo_names.specs.steps.Lookup.{also_found, counted_reached as reached_counted, before_dot as place_before, found_by as found_by_kind, found_by_all, found_by_names_or_stars, imports_met, import_step as found_step, package_at_top as top_package, package_behind as packages_behind, package_step as stepped_package};
 ghost use Rattle.mo_syntax.specs.Outcome.{Outcome, and_then};
@@ -26,7 +25,7 @@ use crate::reach::{class_wanted, first_at_top, is_busy, shown};
 use crate::start::busy_with;
 use crate::walk::Walk;
 use mo_scope::{Member, Scopes, is_encapsulated};
-use mo_syntax::{FrameId, Import, Place, Stop, Text, rules, stop};
+use mo_syntax::{FrameId, Import, NoMemory, Place, Stop, Text, rules, stop};
 use std::alloc::Global;
 
 /// The elements of a frame. A class whose bases are being found breaks rule 18 where they are asked for again.
@@ -39,7 +38,7 @@ pub(crate) fn walked<'t>(
 ) -> Result<Walk<'t>, Stop>
     requires { IsFrame s.old frame.0 }
     ensures grows { Grows s.old s.new }
-    ensures value { Gives (walk_seen (frames_of s.new)) result (walked_of (table_in s.old) ask.now.left ask.now.busy.now ask.now.place (frame_at s.old frame.0)) }
+    ensures value { Gives (walk_at s.new) result (walked_of (table_in s.old) ask.now.left ask.now.busy.now ask.now.place (frame_at s.old frame.0)) }
     ensures stand { IfOk result (IsWalk s.new) }
 {
     let class = s.class_of(frame);
@@ -70,7 +69,7 @@ pub(crate) fn walked_and_kept<'t>(
 ) -> Result<Walk<'t>, Stop>
     requires { IsFrame s.old frame.0 }
     ensures grows { Grows s.old s.new }
-    ensures value { Gives (walk_seen (frames_of s.new)) result (walked_of (table_in s.old) ask.now.left ask.now.busy.now ask.now.place (frame_at s.old frame.0)) }
+    ensures value { Gives (walk_at s.new) result (walked_of (table_in s.old) ask.now.left ask.now.busy.now ask.now.place (frame_at s.old frame.0)) }
     ensures stand { IfOk result (IsWalk s.new) }
 {
     let walk = walked(alloc, s, ask, frame);
@@ -131,7 +130,7 @@ fn counted<'t>(
     requires frame { IsFrame s.old frame.0 }
     requires member { IsMember s.old member.now }
     ensures grows { Grows s.old s.new }
-    ensures value { Gives (λ _. member_of (frames_of s.old) member.now) result (counted_member (table_in s.old) (asks (table_in s.old) ask.now) ask.now.place place (frame_at s.old frame.0) (member_of (frames_of s.old) member.now)) }
+    ensures value { Gives (λ _. member_at s.old member.now) result (counted_member (table_in s.old) (asks (table_in s.old) ask.now) ask.now.place place (frame_at s.old frame.0) (member_at s.old member.now)) }
 {
     if is_package(alloc, s, ask, frame)? {
         return Ok(());
@@ -182,7 +181,7 @@ pub(crate) fn behind_class<'t>(
 ) -> Result<Found<'t>, Stop>
     requires { IsFrame s.old frame.0 }
     ensures grows { Grows s.old s.new }
-    ensures value { Gives (found_seen (frames_of s.new)) result (found_behind_class (table_in s.old) (asks (table_in s.old) ask.now) ask.now.place place component (frame_at s.old frame.0) name.now) }
+    ensures value { Gives (found_at s.new) result (found_behind_class (table_in s.old) (asks (table_in s.old) ask.now) ask.now.place place component (frame_at s.old frame.0) name.now) }
     ensures stand { IfOk result (IsFound s.new) }
 {
     let any = reached(alloc, s, ask, frame, name);
@@ -203,7 +202,7 @@ fn import_step<'t>(
 ) -> Result<Found<'t>, Stop>
     requires { IsFound s.old found.now }
     ensures grows { Grows s.old s.new }
-    ensures value { Gives (found_seen (frames_of s.new)) result (found_step (table_in s.old) (asks (table_in s.old) ask.now) ask.now.place place before (found_seen (frames_of s.old) found.now) name.now) }
+    ensures value { Gives (found_at s.new) result (found_step (table_in s.old) (asks (table_in s.old) ask.now) ask.now.place place before (found_at s.old found.now) name.now) }
     ensures stand { IfOk result (IsFound s.new) }
 {
     let frame = class_wanted(s, place, found)?;
@@ -235,13 +234,16 @@ fn import_behind<'t>(
 ) -> Result<Found<'t>, Stop>
     requires { IsFound s.old first }
     ensures grows { Grows s.old s.new }
-    ensures value { Gives (found_seen (frames_of s.new)) result (names_behind (table_in s.old) (asks (table_in s.old) ask.now) ask.now.place place (found_seen (frames_of s.old) first.entry) (map (λ name. name.now) names.now)) }
+    ensures value { Gives (found_at s.new) result (names_behind (table_in s.old) (asks (table_in s.old) ask.now) ask.now.place place (found_at s.old first.entry) (map (λ name. name.now) names.now)) }
     ensures stand { IfOk result (IsFound s.new) }
 {
     let mut found = first;
     for at in 0..names.len() {
         let before = before_dot(names, at, place);
-        found = import_step(alloc, s, ask, place, before, &found, names[at])?;
+        match import_step(alloc, s, ask, place, before, &found, names[at]) {
+            Ok(next) => found = next,
+            Err(stop) => return Err(stop),
+        }
     }
     Ok(found)
 }
@@ -256,14 +258,14 @@ fn imported<'t>(
     names: &[&Text],
 ) -> Result<Found<'t>, Stop>
     ensures grows { Grows s.old s.new }
-    ensures value { Gives (found_seen (frames_of s.new)) result (found_imported (table_in s.old) (asks (table_in s.old) ask.now) ask.now.place place (map (λ name. name.now) names.now)) }
+    ensures value { Gives (found_at s.new) result (found_imported (table_in s.old) (asks (table_in s.old) ask.now) ask.now.place place (map (λ name. name.now) names.now)) }
     ensures stand { IfOk result (IsFound s.new) }
 {
     match names {
-        [name, rest @ ..] => {
-            let first = first_at_top(alloc, s, place, name)?;
-            import_behind(alloc, s, ask, place, first, rest)
-        }
+        [name, rest @ ..] => match first_at_top(alloc, s, place, name) {
+            Ok(first) => import_behind(alloc, s, ask, place, first, rest),
+            Err(stop) => Err(stop),
+        },
         [] => Err(stop(rules::NAME_NOT_FOUND, place)),
     }
 }
@@ -368,7 +370,7 @@ fn through_star<'t>(
 ) -> Result<Option<Found<'t>>, Stop>
     requires { IsFrame s.old frame.0 }
     ensures grows { Grows s.old s.new }
-    ensures value { Gives (option_map (found_seen (frames_of s.new))) result (found_through_star (table_in s.old) (asks (table_in s.old) ask.now) ask.now.place place (frame_at s.old frame.0) name.now) }
+    ensures value { Gives (option_map (found_at s.new)) result (found_through_star (table_in s.old) (asks (table_in s.old) ask.now) ask.now.place place (frame_at s.old frame.0) name.now) }
     ensures stand { IfOk result (λ found. IfSome found (IsFound s.new)) }
 {
     let any = reached(alloc, s, ask, frame, name);
@@ -387,12 +389,16 @@ fn found_by_import<'a, 't>(
     name: &'a Text,
 ) -> Result<Option<Found<'t>>, Stop>
     ensures grows { Grows s.old s.new }
-    ensures value { Gives (option_map (found_seen (frames_of s.new))) result (found_by_clause (table_in s.old) (asks (table_in s.old) ask.now) ask.now.place name.now clause.now) }
+    ensures value { Gives (option_map (found_at s.new)) result (found_by_clause (table_in s.old) (asks (table_in s.old) ask.now) ask.now.place name.now clause.now) }
     ensures stand { IfOk result (λ found. IfSome found (IsFound s.new)) }
 {
-    match imported_names(alloc, clause, name)? {
-        Some((names, place)) => Ok(Some(imported(alloc, s, ask, place, names.as_slice())?)),
-        None => Ok(None),
+    match imported_names(alloc, clause, name) {
+        Ok(Some((names, place))) => match imported(alloc, s, ask, place, names.as_slice()) {
+            Ok(found) => Ok(Some(found)),
+            Err(stop) => Err(stop),
+        },
+        Ok(None) => Ok(None),
+        Err(NoMemory) => Err(Stop::NoMemory),
     }
 }
 
@@ -406,7 +412,7 @@ fn found_by_star<'t>(
     name: &Text,
 ) -> Result<Option<Found<'t>>, Stop>
     ensures grows { Grows s.old s.new }
-    ensures value { Gives (option_map (found_seen (frames_of s.new))) result (found_by_its_star (table_in s.old) (asks (table_in s.old) ask.now) ask.now.place name.now clause.now) }
+    ensures value { Gives (option_map (found_at s.new)) result (found_by_its_star (table_in s.old) (asks (table_in s.old) ask.now) ask.now.place name.now clause.now) }
     ensures stand { IfOk result (λ found. IfSome found (IsFound s.new)) }
 {
     match clause {
@@ -431,7 +437,7 @@ fn found_by<'t>(
     name: &Text,
 ) -> Result<Option<Found<'t>>, Stop>
     ensures grows { Grows s.old s.new }
-    ensures value { Gives (option_map (found_seen (frames_of s.new))) result (found_by_kind (table_in s.old) (asks (table_in s.old) ask.now) ask.now.place star name.now clause.now) }
+    ensures value { Gives (option_map (found_at s.new)) result (found_by_kind (table_in s.old) (asks (table_in s.old) ask.now) ask.now.place star name.now clause.now) }
     ensures stand { IfOk result (λ found. IfSome found (IsFound s.new)) }
 {
     if star {
@@ -454,7 +460,7 @@ fn also_by<'t>(
 ) -> Result<Option<Found<'t>>, Stop>
     requires { IfSome so_far (IsFound s.old) }
     ensures grows { Grows s.old s.new }
-    ensures value { Gives (option_map (found_seen (frames_of s.new))) result (also_found (table_in s.old) (asks (table_in s.old) ask.now) ask.now.place star name.now (option_map (found_seen (frames_of s.old)) so_far.entry) clause.now) }
+    ensures value { Gives (option_map (found_at s.new)) result (also_found (table_in s.old) (asks (table_in s.old) ask.now) ask.now.place star name.now (option_map (found_at s.old) so_far.entry) clause.now) }
     ensures stand { IfOk result (λ found. IfSome found (IsFound s.new)) }
 {
     let found = found_by(alloc, s, ask, star, clause, name);
@@ -473,14 +479,17 @@ fn found_by_each<'t>(
 ) -> Result<Option<Found<'t>>, Stop>
     requires { IsFrame s.old frame.0 }
     ensures grows { Grows s.old s.new }
-    ensures value { Gives (option_map (found_seen (frames_of s.new))) result (found_by_all (table_in s.old) (asks (table_in s.old) ask.now) ask.now.place star name.now None (imports_of (row_at (table_in s.old) (class_of (frame_at s.old frame.0))))) }
+    ensures value { Gives (option_map (found_at s.new)) result (found_by_all (table_in s.old) (asks (table_in s.old) ask.now) ask.now.place star name.now None (imports_of (row_of_frame s.old frame.0))) }
     ensures stand { IfOk result (λ found. IfSome found (IsFound s.new)) }
 {
     let class = s.class_of(frame);
     let mut found = None;
     for at in 0..import_count(s, class) {
         let clause = import_at(s, class, at);
-        found = also_by(alloc, s, ask, star, found, clause, name)?;
+        match also_by(alloc, s, ask, star, found, clause, name) {
+            Ok(next) => found = next,
+            Err(stop) => return Err(stop),
+        }
     }
     Ok(found)
 }
@@ -496,7 +505,7 @@ fn found_by_imports<'t>(
 ) -> Result<Option<Found<'t>>, Stop>
     requires { IsFrame s.old frame.0 }
     ensures grows { Grows s.old s.new }
-    ensures value { Gives (option_map (found_seen (frames_of s.new))) result (found_by_names_or_stars (table_in s.old) (asks (table_in s.old) ask.now) ask.now.place name.now (imports_of (row_at (table_in s.old) (class_of (frame_at s.old frame.0))))) }
+    ensures value { Gives (option_map (found_at s.new)) result (found_by_names_or_stars (table_in s.old) (asks (table_in s.old) ask.now) ask.now.place name.now (imports_of (row_of_frame s.old frame.0))) }
     ensures stand { IfOk result (λ found. IfSome found (IsFound s.new)) }
 {
     match found_by_each(alloc, s, ask, false, frame, name) {
@@ -518,7 +527,7 @@ fn found_element<'t>(
 ) -> Result<Option<Found<'t>>, Stop>
     requires { IsFrame s.old frame.0 }
     ensures grows { Grows s.old s.new }
-    ensures value { Gives (option_map (found_seen (frames_of s.new))) result (element_found (table_in s.old) (asks (table_in s.old) ask.now) bare (frame_at s.old frame.0) ask.now.place name.now) }
+    ensures value { Gives (option_map (found_at s.new)) result (element_found (table_in s.old) (asks (table_in s.old) ask.now) bare (frame_at s.old frame.0) ask.now.place name.now) }
     ensures stand { IfOk result (λ found. IfSome found (IsFound s.new)) }
 {
     if bare {
@@ -539,7 +548,7 @@ fn met_by_imports<'t>(
 ) -> Result<Option<Met<'t>>, Stop>
     requires { IsFrame s.old frame.0 }
     ensures grows { Grows s.old s.new }
-    ensures value { Gives (option_map (met_seen (frames_of s.new))) result (imports_met (table_in s.old) (asks (table_in s.old) ask.now) ask.now.place name.now (imports_of (row_at (table_in s.old) (class_of (frame_at s.old frame.0))))) }
+    ensures value { Gives (option_map (met_seen (frames_of s.new))) result (imports_met (table_in s.old) (asks (table_in s.old) ask.now) ask.now.place name.now (imports_of (row_of_frame s.old frame.0))) }
     ensures stand { IfOk result (λ met. IfSome met (λ met. IsFound s.new met.found)) }
 {
     let found = found_by_imports(alloc, s, ask, frame, name);

@@ -5,9 +5,9 @@ ghost use Rattle.mo_scope.specs.Lookup.{entered, met as found_element};
 ghost use Rattle.mo_scope.specs.Outcome.{Gives};
 ghost use Rattle.mo_scope.specs.Parts.{class_sources};
 ghost use Rattle.mo_scope.specs.Rows.{class_number as number_of_class, number_of_classes};
-ghost use Rattle.mo_scope.specs.Sights.{declares_seen, redeclaration_in};
-ghost use Rattle.mo_scope.specs.Worlds.{Grows, IsFrame, frame_at, frames_of, table_in};
-ghost use Rattle.mo_names.specs.Sights.{IsFound, IsMember, found_in, member_of};
+ghost use Rattle.mo_scope.specs.Sights.{declares_seen, redeclaration_at, member_at};
+ghost use Rattle.mo_scope.specs.Worlds.{Grows, IsFrame, frame_at, table_in};
+ghost use Rattle.mo_names.specs.Sights.{IsFound, IsMember, found_at};
 ghost use Rattle.mo_names.specs.steps.Parts.{entered_by_redeclaration};
 
 use crate::found::Found;
@@ -41,7 +41,7 @@ fn entered_as<'t>(
     requires class { class.0 < number_of_classes (table_in s.old) }
     requires outer { IsFrame s.old outer.0 }
     ensures grows { Grows s.old s.new }
-    ensures is { IfOk result (λ frame. frame_at s.new frame.0 ≡ looked_up class.0 (class_sources (table_in s.old) (member_of (frames_of s.old) member.now)) (frame_at s.old outer.0)) }
+    ensures is { IfOk result (λ frame. frame_at s.new frame.0 ≡ looked_up class.0 (class_sources (table_in s.old) (member_at s.old member.now)) (frame_at s.old outer.0)) }
     ensures exists { IfOk result (λ frame. IsFrame s.new frame.0) }
 {
     let sources = s.class_sources(alloc, member)?;
@@ -62,7 +62,7 @@ fn entered_redeclared<'t>(
     requires class { number_of_class (declares_seen redeclaration.now.declares) < number_of_classes (table_in s.old) }
     requires outer { IsFrame s.old redeclaration.now.source.scope.frame.0 }
     ensures grows { Grows s.old s.new }
-    ensures value { Gives (λ frame. frame_at s.new frame.0) result (entered_by_redeclaration (table_in s.old) (member_of (frames_of s.old) member.now) (redeclaration_in (frames_of s.old) redeclaration.now)) }
+    ensures value { Gives (λ frame. frame_at s.new frame.0) result (entered_by_redeclaration (table_in s.old) (member_at s.old member.now) (redeclaration_at s.old redeclaration.now)) }
     ensures stand { IfOk result (λ frame. IsFrame s.new frame.0) }
 {
     if !is_class(&redeclaration.declares) {
@@ -85,7 +85,7 @@ pub(crate) fn entered_class<'t>(
 ) -> Result<FrameId, Stop>
     requires { IsMember s.old member.now }
     ensures grows { Grows s.old s.new }
-    ensures value { Gives (λ frame. frame_at s.new frame.0) result (entered (table_in s.old) (member_of (frames_of s.old) member.now)) }
+    ensures value { Gives (λ frame. frame_at s.new frame.0) result (entered (table_in s.old) (member_at s.old member.now)) }
     ensures stand { IfOk result (λ frame. IsFrame s.new frame.0) }
 {
     match s.redeclared(alloc, member.home, member.name, &[])? {
@@ -110,7 +110,7 @@ pub(crate) fn met<'t>(
     requires frame { IsFrame s.old frame.0 }
     requires member { IsMember s.old member.now }
     ensures grows { Grows s.old s.new }
-    ensures value { Gives (found_in (frames_of s.new)) result (found_element (table_in s.old) (frame_at s.old frame.0) (member_of (frames_of s.old) member.now)) }
+    ensures value { Gives (found_at s.new) result (found_element (table_in s.old) (frame_at s.old frame.0) (member_at s.old member.now)) }
     ensures stand { IfOk result (IsFound s.new) }
 {
     if is_class(&member.declares) {

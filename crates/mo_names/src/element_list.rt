@@ -1,14 +1,15 @@
 //! The elements of frames and their bases.
 #![tactic(auto, using(crate::proofs::Later::later))]
 
-ghost use Rattle.std.specs.Prelude.{◌≡◌, ◌<◌, Some, length, map, option_map, slice_get, IfOk, IfSome};
-ghost use Rattle.mo_scope.specs.Names.{base_frame_of, clauses_of, elements_of, walk_of as walk_of_frame};
+ghost use Rattle.std.specs.Prelude.{◌≡◌, ◌<◌, length, map, option_map, slice_get, IfOk, IfSome};
+ghost use Rattle.mo_scope.specs.Names.{base_frame_of, clauses_of, walk_of as walk_of_frame};
 ghost use Rattle.mo_scope.specs.Outcome.{Gives};
 ghost use Rattle.mo_scope.specs.Places.{Every};
-ghost use Rattle.mo_scope.specs.Rows.{Clause as Extends, clauses_in};
+ghost use Rattle.mo_scope.specs.Rows.{clauses_in};
 ghost use Rattle.mo_scope.specs.Sights.{clause_seen, part_seen};
 ghost use Rattle.mo_scope.specs.Worlds.{Grows, IsFrame, frame_at, frames_of, table_in};
-ghost use Rattle.mo_names.specs.Sights.{IsMember, IsWalk, member_of, walk_seen};
+ghost use Rattle.mo_names.specs.Sights.{IsMember, IsWalk, member_of, walk_at};
+ghost use Rattle.mo_names.specs.Calls.{GivesBase, elements_of_frame};
 
 use crate::bases::base_found;
 use crate::found::Ask;
@@ -24,7 +25,7 @@ use std::alloc::Global;
 pub fn walk_of<'t>(alloc: Global, s: &mut Scopes<'t>, frame: FrameId) -> Result<Walk<'t>, Stop>
     requires { IsFrame s.old frame.0 }
     ensures grows { Grows s.old s.new }
-    ensures value { Gives (walk_seen (frames_of s.new)) result (walk_of_frame (table_in s.old) (frame_at s.old frame.0)) }
+    ensures value { Gives (walk_at s.new) result (walk_of_frame (table_in s.old) (frame_at s.old frame.0)) }
     ensures stand { IfOk result (IsWalk s.new) }
 {
     elements_at(alloc, s, frame, Place { file: 0, byte: 0 })
@@ -38,7 +39,7 @@ fn elements_found<'t>(
 ) -> Result<List<Member<'t>>, Stop>
     requires { IsFrame s.old frame.0 }
     ensures grows { Grows s.old s.new }
-    ensures value { Gives (map (member_of (frames_of s.new))) result (elements_of (table_in s.old) (frame_at s.old frame.0)) }
+    ensures value { Gives (map (member_of (frames_of s.new))) result (elements_of_frame s.old frame.0) }
     ensures stand { IfOk result (Every (IsMember s.new)) }
 {
     let walk = walk_of(alloc, s, frame)?;
@@ -54,7 +55,7 @@ fn elements_by_table<'t>(
     frame: FrameId,
 ) -> Result<Option<List<Member<'t>>>, NoMemory>
     requires { IsFrame s.now frame.0 }
-    ensures are { IfOk result (λ kept. IfSome kept (λ members. elements_of (table_in s.now) (frame_at s.now frame.0) ≡ Ok (map (member_of (frames_of s.now)) members))) }
+    ensures are { IfOk result (λ kept. IfSome kept (λ members. elements_of_frame s.now frame.0 ≡ Ok (map (member_of (frames_of s.now)) members))) }
     ensures stand { IfOk result (λ kept. IfSome kept (Every (IsMember s.now))) }
 {
     match s.table(frame) {
@@ -76,7 +77,7 @@ pub fn elements<'t>(
 ) -> Result<List<Member<'t>>, Stop>
     requires { IsFrame s.old frame.0 }
     ensures grows { Grows s.old s.new }
-    ensures value { Gives (map (member_of (frames_of s.new))) result (elements_of (table_in s.old) (frame_at s.old frame.0)) }
+    ensures value { Gives (map (member_of (frames_of s.new))) result (elements_of_frame s.old frame.0) }
     ensures stand { IfOk result (Every (IsMember s.new)) }
 {
     if let Some(members) = elements_by_table(alloc, s, frame)? {
@@ -141,7 +142,7 @@ pub fn base_of(alloc: Global, s: &mut Scopes, frame: FrameId, clause: u32) -> Re
     requires frame { IsFrame s.old frame.0 }
     requires clause { clause < length (clauses_of (table_in s.old) (frame_at s.old frame.0)) }
     ensures grows { Grows s.old s.new }
-    ensures value { (extends : Extends) → slice_get (clauses_of (table_in s.old) (frame_at s.old frame.0)) clause ≡ Some extends → Gives (λ base. frame_at s.new base.0) result (base_frame_of (table_in s.old) (frame_at s.old frame.0) extends) }
+    ensures value { GivesBase s.old s.new frame.0 clause result }
     ensures stand { IfOk result (λ base. IsFrame s.new base.0) }
 {
     match clause_at(s, frame, clause) {

@@ -3,14 +3,16 @@
 
 ghost use Rattle.std.specs.Prelude.{◌≡◌, List as Seq, option_copied, option_map, map, IfOk, IfSome, Some};
 ghost use Rattle.mo_scope.specs.Entries.{names_of as path_names};
-ghost use Rattle.mo_scope.specs.Names.{child_of, child_of_member as child_of_element, component_frame, path_below as indexed_below};
+ghost use Rattle.mo_scope.specs.Names.{path_below as indexed_below};
 ghost use Rattle.mo_scope.specs.Outcome.{Gives};
 ghost use Rattle.mo_scope.specs.Parts.{redeclared as winning};
 ghost use Rattle.mo_scope.specs.Rows.{component_of};
-ghost use Rattle.mo_scope.specs.Sights.{declares_seen, redeclaration_in};
-ghost use Rattle.mo_scope.specs.Worlds.{Grows, IsFrame, frame_at, frames_of, table_in};
-ghost use Rattle.mo_names.specs.Children.{IsChild, child_seen, class_child as child_of_class, component_child as child_of_component, component_entered, type_by, type_declared, type_redeclared};
-ghost use Rattle.mo_names.specs.Sights.{IsMember, member_of};
+ghost use Rattle.mo_scope.specs.Sights.{declares_seen, redeclaration_at, member_at};
+ghost use Rattle.mo_scope.specs.Worlds.{Grows, IsFrame, frame_at, table_in};
+ghost use Rattle.mo_scope.specs.Calls.{HasScope};
+ghost use Rattle.mo_names.specs.Children.{IsChild, class_child as child_of_class, component_child as child_of_component, type_by, type_declared, type_redeclared, child_at};
+ghost use Rattle.mo_names.specs.Sights.{IsMember};
+ghost use Rattle.mo_names.specs.Calls.{element_child_at, named_child_at, IsComponentFrame, component_entered_at};
 
 use crate::class_element::entered_class;
 use crate::found::{Child, Reached};
@@ -44,7 +46,7 @@ fn type_in_redeclaration<'t>(
 ) -> Result<FrameId, Stop>
     requires { IsFrame s.old redeclaration.now.source.scope.frame.0 }
     ensures grows { Grows s.old s.new }
-    ensures value { Gives (λ class. frame_at s.new class.0) result (type_redeclared (table_in s.old) (redeclaration_in (frames_of s.old) redeclaration.now)) }
+    ensures value { Gives (λ class. frame_at s.new class.0) result (type_redeclared (table_in s.old) (redeclaration_at s.old redeclaration.now)) }
     ensures stand { IfOk result (λ class. IsFrame s.new class.0) }
 {
     match component_declared(&redeclaration.declares) {
@@ -65,7 +67,7 @@ fn type_in_declaration<'t>(
 ) -> Result<FrameId, Stop>
     requires { IsFrame s.old member.now.home.0 }
     ensures grows { Grows s.old s.new }
-    ensures value { Gives (λ class. frame_at s.new class.0) result (type_declared (table_in s.old) (member_of (frames_of s.old) member.now) component.now) }
+    ensures value { Gives (λ class. frame_at s.new class.0) result (type_declared (table_in s.old) (member_at s.old member.now) component.now) }
     ensures stand { IfOk result (λ class. IsFrame s.new class.0) }
 {
     let scope = ScopeAt {
@@ -85,9 +87,9 @@ fn type_of<'t>(
     wins: &Option<Redeclaration<'t>>,
 ) -> Result<FrameId, Stop>
     requires member { IsFrame s.old member.now.home.0 }
-    requires wins { IfSome wins.now (λ redeclaration. IsFrame s.old redeclaration.source.scope.frame.0) }
+    requires wins { IfSome wins.now (HasScope s.old) }
     ensures grows { Grows s.old s.new }
-    ensures value { Gives (λ class. frame_at s.new class.0) result (type_by (table_in s.old) (member_of (frames_of s.old) member.now) component.now (option_map (redeclaration_in (frames_of s.old)) wins.now)) }
+    ensures value { Gives (λ class. frame_at s.new class.0) result (type_by (table_in s.old) (member_at s.old member.now) component.now (option_map (redeclaration_at s.old) wins.now)) }
     ensures stand { IfOk result (λ class. IsFrame s.new class.0) }
 {
     match wins {
@@ -106,7 +108,7 @@ fn component_child<'t>(
 ) -> Result<Child<'t>, Stop>
     requires { IsMember s.old member.now }
     ensures grows { Grows s.old s.new }
-    ensures value { Gives (child_seen (frames_of s.new)) result (child_of_component (table_in s.old) (member_of (frames_of s.old) member.now) index.now component.now) }
+    ensures value { Gives (child_at s.new) result (child_of_component (table_in s.old) (member_at s.old member.now) index.now component.now) }
     ensures stand { IfOk result (IsChild s.new) }
 {
     let wins = s.redeclared(alloc, member.home, member.name, index)?;
@@ -129,7 +131,7 @@ fn class_child<'t>(
 ) -> Result<Child<'t>, Stop>
     requires { IsMember s.old member.now }
     ensures grows { Grows s.old s.new }
-    ensures value { Gives (child_seen (frames_of s.new)) result (child_of_class (table_in s.old) (member_of (frames_of s.old) member.now) index.now) }
+    ensures value { Gives (child_at s.new) result (child_of_class (table_in s.old) (member_at s.old member.now) index.now) }
     ensures stand { IfOk result (IsChild s.new) }
 {
     let class = entered_class(alloc, s, member)?;
@@ -153,7 +155,7 @@ pub fn child_of_member<'t>(
 ) -> Result<Child<'t>, Stop>
     requires { IsMember s.old member.now }
     ensures grows { Grows s.old s.new }
-    ensures value { Gives (child_seen (frames_of s.new)) result (child_of_element (table_in s.old) (member_of (frames_of s.old) member.now) index.now) }
+    ensures value { Gives (child_at s.new) result (element_child_at s.old member.now index.now) }
     ensures stand { IfOk result (IsChild s.new) }
 {
     match component_declared(&member.declares) {
@@ -172,7 +174,7 @@ pub fn child<'t>(
 ) -> Result<Child<'t>, Stop>
     requires { IsFrame s.old frame.0 }
     ensures grows { Grows s.old s.new }
-    ensures value { Gives (child_seen (frames_of s.new)) result (child_of (table_in s.old) (frame_at s.old frame.0) name.now index.now) }
+    ensures value { Gives (child_at s.new) result (named_child_at s.old frame.0 name.now index.now) }
     ensures stand { IfOk result (IsChild s.new) }
 {
     let nowhere = Place { file: 0, byte: 0 };
@@ -214,7 +216,7 @@ pub fn enter_child<'t>(
     requires member { IsMember s.old member.now }
     requires child { IsChild s.old child }
     ensures grows { Grows s.old s.new }
-    ensures is { IfOk result (λ frame. frame_at s.new frame.0 ≡ component_frame (member_of (frames_of s.old) member.now) index.now (child_seen (frames_of s.old) child.entry)) }
+    ensures is { IfOk result (IsComponentFrame s.old s.new member.now index.now child.entry) }
     ensures exists { IfOk result (λ frame. IsFrame s.new frame.0) }
 {
     let at = path_below(alloc, s.path(member.home), member.name, index)?;
@@ -232,7 +234,7 @@ pub fn enter_component<'t>(
 ) -> Result<FrameId, Stop>
     requires { IsMember s.old member.now }
     ensures grows { Grows s.old s.new }
-    ensures value { Gives (λ frame. frame_at s.new frame.0) result (component_entered (table_in s.old) (member_of (frames_of s.old) member.now) index.now) }
+    ensures value { Gives (λ frame. frame_at s.new frame.0) result (component_entered_at s.old member.now index.now) }
     ensures stand { IfOk result (λ frame. IsFrame s.new frame.0) }
 {
     let child = child_of_member(alloc, s, member, index)?;

@@ -5,9 +5,10 @@ ghost use Rattle.std.specs.Prelude.{◌≡◌, false, None, IfOk};
 ghost use Rattle.mo_scope.specs.Lookup.{asking_of, behind_class as found_behind_class, class_named as named_class, reached as reached_of};
 ghost use Rattle.mo_scope.specs.Outcome.{Gives};
 ghost use Rattle.mo_scope.specs.Rows.{number_of_classes};
-ghost use Rattle.mo_scope.specs.Worlds.{Grows, IsFrame, frame_at, frames_of, scope_in, table_in};
+ghost use Rattle.mo_scope.specs.Worlds.{Grows, IsFrame, frame_at, frames_of, table_in};
+ghost use Rattle.mo_scope.specs.Sights.{scope_at};
 ghost use Rattle.mo_names.specs.Past.{first_met};
-ghost use Rattle.mo_names.specs.Sights.{IsFound, IsReached, IsWalk, classed_seen, found_in, met_seen, reached_seen, walk_seen};
+ghost use Rattle.mo_names.specs.Sights.{IsFound, IsReached, IsWalk, classed_seen, met_seen, reached_seen, found_at, walk_at};
 
 use crate::ahead::{keep_ahead, keep_for_name};
 use crate::bases::{class_named, found_first};
@@ -36,7 +37,7 @@ fn elements_by_walk<'t>(
 ) -> Result<Walk<'t>, Stop>
     requires { IsFrame s.old frame.0 }
     ensures grows { Grows s.old s.new }
-    ensures value { Gives (walk_seen (frames_of s.new)) result ((asking_of (table_in s.old)).elements place (frame_at s.old frame.0)) }
+    ensures value { Gives (walk_at s.new) result ((asking_of (table_in s.old)).elements place (frame_at s.old frame.0)) }
     ensures stand { IfOk result (IsWalk s.new) }
 {
     let ask = Ask {
@@ -57,7 +58,7 @@ pub(crate) fn elements_at<'t>(
 ) -> Result<Walk<'t>, Stop>
     requires { IsFrame s.old frame.0 }
     ensures grows { Grows s.old s.new }
-    ensures value { Gives (walk_seen (frames_of s.new)) result ((asking_of (table_in s.old)).elements place (frame_at s.old frame.0)) }
+    ensures value { Gives (walk_at s.new) result ((asking_of (table_in s.old)).elements place (frame_at s.old frame.0)) }
     ensures stand { IfOk result (IsWalk s.new) }
 {
     match walked_once(alloc, s, frame)? {
@@ -75,7 +76,7 @@ pub(crate) fn elements_kept_at<'t>(
 ) -> Result<Walk<'t>, Stop>
     requires { IsFrame s.old frame.0 }
     ensures grows { Grows s.old s.new }
-    ensures value { Gives (walk_seen (frames_of s.new)) result ((asking_of (table_in s.old)).elements place (frame_at s.old frame.0)) }
+    ensures value { Gives (walk_at s.new) result ((asking_of (table_in s.old)).elements place (frame_at s.old frame.0)) }
     ensures stand { IfOk result (IsWalk s.new) }
 {
     let walk = elements_at(alloc, s, frame, place)?;
@@ -138,7 +139,7 @@ fn behind_by_lookup<'t>(
 ) -> Result<Found<'t>, Stop>
     requires { IsFrame s.old frame.0 }
     ensures grows { Grows s.old s.new }
-    ensures value { Gives (found_in (frames_of s.new)) result (found_behind_class (table_in s.old) (asking_of (table_in s.old)) place place None (frame_at s.old frame.0) name.now) }
+    ensures value { Gives (found_at s.new) result (found_behind_class (table_in s.old) (asking_of (table_in s.old)) place place None (frame_at s.old frame.0) name.now) }
     ensures stand { IfOk result (IsFound s.new) }
 {
     let ask = Ask {
@@ -160,7 +161,7 @@ pub(crate) fn behind_class_at<'t>(
 ) -> Result<Found<'t>, Stop>
     requires { IsFrame s.old frame.0 }
     ensures grows { Grows s.old s.new }
-    ensures value { Gives (found_in (frames_of s.new)) result (found_behind_class (table_in s.old) (asking_of (table_in s.old)) place place None (frame_at s.old frame.0) name.now) }
+    ensures value { Gives (found_at s.new) result (found_behind_class (table_in s.old) (asking_of (table_in s.old)) place place None (frame_at s.old frame.0) name.now) }
     ensures stand { IfOk result (IsFound s.new) }
 {
     keep_ahead(alloc, s, frame, name)?;
@@ -178,7 +179,7 @@ fn first_by_lookup<'t>(
 ) -> Result<Met<'t>, Stop>
     requires { IsFrame s.old at.now.frame.0 }
     ensures grows { Grows s.old s.new }
-    ensures value { Gives (met_seen (frames_of s.new)) result (first_met (table_in s.old) (asking_of (table_in s.old)) false top (scope_in (frames_of s.old) at.now.frame.0 at.now.iters) place name.now) }
+    ensures value { Gives (met_seen (frames_of s.new)) result (first_met (table_in s.old) (asking_of (table_in s.old)) false top (scope_at s.old at.now) place name.now) }
     ensures stand { IfOk result (λ met. IsFound s.new met.found) }
 {
     let ask = Ask {
@@ -201,7 +202,7 @@ pub(crate) fn first_at<'t>(
 ) -> Result<Met<'t>, Stop>
     requires { IsFrame s.old at.now.frame.0 }
     ensures grows { Grows s.old s.new }
-    ensures value { Gives (met_seen (frames_of s.new)) result (first_met (table_in s.old) (asking_of (table_in s.old)) false top (scope_in (frames_of s.old) at.now.frame.0 at.now.iters) place name.now) }
+    ensures value { Gives (met_seen (frames_of s.new)) result (first_met (table_in s.old) (asking_of (table_in s.old)) false top (scope_at s.old at.now) place name.now) }
     ensures stand { IfOk result (λ met. IsFound s.new met.found) }
 {
     keep_for_name(alloc, s, top, at.frame, name)?;
@@ -233,7 +234,7 @@ fn class_by_lookup(
 ) -> Result<Classed, Stop>
     requires { IsFrame s.old at.now.frame.0 }
     ensures grows { Grows s.old s.new }
-    ensures value { Gives (classed_seen (frames_of s.new)) result (named_class (table_in s.old) (asking_of (table_in s.old)) false (scope_in (frames_of s.old) at.now.frame.0 at.now.iters) reference.now) }
+    ensures value { Gives (classed_seen (frames_of s.new)) result (named_class (table_in s.old) (asking_of (table_in s.old)) false (scope_at s.old at.now) reference.now) }
     ensures stand { IfOk result (λ class. IsFrame s.new class.frame.0) }
 {
     let ask = Ask {
@@ -254,7 +255,7 @@ pub(crate) fn class_named_at(
 ) -> Result<Classed, Stop>
     requires { IsFrame s.old at.now.frame.0 }
     ensures grows { Grows s.old s.new }
-    ensures value { Gives (classed_seen (frames_of s.new)) result (named_class (table_in s.old) (asking_of (table_in s.old)) false (scope_in (frames_of s.old) at.now.frame.0 at.now.iters) reference.now) }
+    ensures value { Gives (classed_seen (frames_of s.new)) result (named_class (table_in s.old) (asking_of (table_in s.old)) false (scope_at s.old at.now) reference.now) }
     ensures stand { IfOk result (λ class. IsFrame s.new class.frame.0) }
 {
     keep_for_class(alloc, s, at.frame, reference)?;

@@ -4,7 +4,7 @@ ghost use Rattle.std.specs.List.{list_all};
 ghost use Rattle.mo_scope.specs.Lookup.{Found as FoundSeen, Met as MetSeen, Reached as ReachedSeen, Walked, and_also as joined_found, class_wanted as wanted_class, classed as wanted_classed, counts_in_package, first_at_top as first_found, met_far, reached_in as reached_among, reached_own as own_reached};
 ghost use Rattle.mo_scope.specs.Outcome.{Gives};
 ghost use Rattle.mo_scope.specs.Worlds.{Grows, IsFrame, frame_at, frames_of, table_in};
-ghost use Rattle.mo_names.specs.Sights.{IsFound, IsReached, IsWalk, classed_seen, found_in, met_seen, reached_seen, walk_seen};
+ghost use Rattle.mo_names.specs.Sights.{IsFound, IsReached, IsWalk, classed_seen, met_seen, reached_seen, found_at, walk_at};
 ghost use Rattle.mo_names.specs.steps.Lookup.{all_met, element_met as element_found, reached_behind, reached_by_star};
 ghost use Rattle.mo_syntax.specs.Outcome.{Outcome, and_then};
 
@@ -25,7 +25,7 @@ pub(crate) fn class_given<'t>(
     found: &Result<Found<'t>, Stop>,
 ) -> Result<FrameId, Stop>
     requires { IfOk found.now (IsFound s.now) }
-    ensures value { (told : Outcome FoundSeen) → Gives (found_in (frames_of s.now)) found.now told → Gives (λ frame. frame_at s.now frame.0) result (and_then told (wanted_class place)) }
+    ensures value { (told : Outcome FoundSeen) → Gives (found_at s.now) found.now told → Gives (λ frame. frame_at s.now frame.0) result (and_then told (wanted_class place)) }
     ensures stand { IfOk result (λ frame. IsFrame s.now frame.0) }
 {
     match found {
@@ -41,7 +41,7 @@ pub(crate) fn classed_given<'t>(
     found: &Result<Found<'t>, Stop>,
 ) -> Result<Classed, Stop>
     requires { IfOk found.now (IsFound s.now) }
-    ensures value { (told : Outcome FoundSeen) → Gives (found_in (frames_of s.now)) found.now told → Gives (classed_seen (frames_of s.now)) result (and_then told (wanted_classed place)) }
+    ensures value { (told : Outcome FoundSeen) → Gives (found_at s.now) found.now told → Gives (classed_seen (frames_of s.now)) result (and_then told (wanted_classed place)) }
     ensures stand { IfOk result (λ class. IsFrame s.now class.frame.0) }
 {
     match found {
@@ -78,7 +78,7 @@ pub(crate) fn behind_given<'t>(
     requires frame { IsFrame s.old frame.0 }
     requires any { IfOk any.now (IsReached s.old) }
     ensures grows { Grows s.old s.new }
-    ensures value { (told : Outcome ReachedSeen) → Gives (reached_seen (frames_of s.old)) any.now told → Gives (found_in (frames_of s.new)) result (and_then told (reached_behind (table_in s.old) place component (frame_at s.old frame.0))) }
+    ensures value { (told : Outcome ReachedSeen) → Gives (reached_seen (frames_of s.old)) any.now told → Gives (found_at s.new) result (and_then told (reached_behind (table_in s.old) place component (frame_at s.old frame.0))) }
     ensures stand { IfOk result (IsFound s.new) }
 {
     match any {
@@ -97,7 +97,7 @@ pub(crate) fn star_given<'t>(
     requires frame { IsFrame s.old frame.0 }
     requires any { IfOk any.now (IsReached s.old) }
     ensures grows { Grows s.old s.new }
-    ensures value { (told : Outcome ReachedSeen) → Gives (reached_seen (frames_of s.old)) any.now told → Gives (option_map (found_in (frames_of s.new))) result (and_then told (reached_by_star (table_in s.old) (frame_at s.old frame.0))) }
+    ensures value { (told : Outcome ReachedSeen) → Gives (reached_seen (frames_of s.old)) any.now told → Gives (option_map (found_at s.new)) result (and_then told (reached_by_star (table_in s.old) (frame_at s.old frame.0))) }
     ensures stand { IfOk result (λ found. IfSome found (IsFound s.new)) }
 {
     match any {
@@ -116,7 +116,7 @@ pub(crate) fn element_given<'t>(
     requires frame { IsFrame s.old frame.0 }
     requires any { IfOk any.now (IsReached s.old) }
     ensures grows { Grows s.old s.new }
-    ensures value { (told : Outcome ReachedSeen) → Gives (reached_seen (frames_of s.old)) any.now told → Gives (option_map (found_in (frames_of s.new))) result (and_then told (element_found (table_in s.old) (frame_at s.old frame.0))) }
+    ensures value { (told : Outcome ReachedSeen) → Gives (reached_seen (frames_of s.old)) any.now told → Gives (option_map (found_at s.new)) result (and_then told (element_found (table_in s.old) (frame_at s.old frame.0))) }
     ensures stand { IfOk result (λ found. IfSome found (IsFound s.new)) }
 {
     match any {
@@ -134,7 +134,7 @@ pub(crate) fn own_met<'t>(
 ) -> Result<Option<Found<'t>>, Stop>
     requires { IsFrame s.old frame.0 }
     ensures grows { Grows s.old s.new }
-    ensures value { Gives (option_map (found_in (frames_of s.new))) result (and_then (own_reached (table_in s.old) (frame_at s.old frame.0) name.now) (element_found (table_in s.old) (frame_at s.old frame.0))) }
+    ensures value { Gives (option_map (found_at s.new)) result (and_then (own_reached (table_in s.old) (frame_at s.old frame.0) name.now) (element_found (table_in s.old) (frame_at s.old frame.0))) }
     ensures stand { IfOk result (λ found. IfSome found (IsFound s.new)) }
 {
     match reached_own(s, frame, name) {
@@ -150,7 +150,7 @@ pub(crate) fn met_given<'t>(
     found: &Result<Option<Found<'t>>, Stop>,
 ) -> Result<Option<Met<'t>>, Stop>
     requires { IfOk found.now (λ found. IfSome found (IsFound _s.now)) }
-    ensures value { (told : Outcome (Option FoundSeen)) → Gives (option_map (found_in (frames_of _s.now))) found.now told → Gives (option_map (met_seen (frames_of _s.now))) result (and_then told (all_met near)) }
+    ensures value { (told : Outcome (Option FoundSeen)) → Gives (option_map (found_at _s.now)) found.now told → Gives (option_map (met_seen (frames_of _s.now))) result (and_then told (all_met near)) }
     ensures stand { IfOk result (λ met. IfSome met (λ met. IsFound _s.now met.found)) }
 {
     match found {
@@ -166,7 +166,7 @@ pub(crate) fn met_given<'t>(
 /// What was found, as what is met far away.
 fn far_given<'t>(_s: &Scopes<'t>, found: &Result<Found<'t>, Stop>) -> Result<Met<'t>, Stop>
     requires { IfOk found.now (IsFound _s.now) }
-    ensures value { (told : Outcome FoundSeen) → Gives (found_in (frames_of _s.now)) found.now told → Gives (met_seen (frames_of _s.now)) result (met_far told) }
+    ensures value { (told : Outcome FoundSeen) → Gives (found_at _s.now) found.now told → Gives (met_seen (frames_of _s.now)) result (met_far told) }
     ensures stand { IfOk result (λ met. IsFound _s.now met.found) }
 {
     match found {
@@ -202,7 +202,7 @@ pub(crate) fn also_given<'t>(
 ) -> Result<Option<Found<'t>>, Stop>
     requires so_far { IfSome so_far.now (IsFound s.now) }
     requires found { IfOk found.now (λ found. IfSome found (IsFound s.now)) }
-    ensures value { (told : Outcome (Option FoundSeen)) → Gives (option_map (found_in (frames_of s.now))) found.now told → Gives (option_map (found_in (frames_of s.now))) result (and_then told (joined_found ask (option_map (found_in (frames_of s.now)) so_far.now))) }
+    ensures value { (told : Outcome (Option FoundSeen)) → Gives (option_map (found_at s.now)) found.now told → Gives (option_map (found_at s.now)) result (and_then told (joined_found ask (option_map (found_at s.now) so_far.now))) }
     ensures stand { IfOk result (λ found. IfSome found (IsFound s.now)) }
 {
     match found {
@@ -233,7 +233,7 @@ pub(crate) fn reached_given<'t>(
     name: &Text,
 ) -> Result<Reached<'t>, Stop>
     requires { IfOk walk (IsWalk s.now) }
-    ensures value { (told : Outcome Walked) → Gives (walk_seen (frames_of s.now)) walk.entry told → Gives (reached_seen (frames_of s.now)) result (and_then told (λ walked. Ok (reached_among (table_in s.now) walked name.now))) }
+    ensures value { (told : Outcome Walked) → Gives (walk_at s.now) walk.entry told → Gives (reached_seen (frames_of s.now)) result (and_then told (λ walked. Ok (reached_among (table_in s.now) walked name.now))) }
     ensures stand { IfOk result (IsReached s.now) }
 {
     match walk {
@@ -250,7 +250,7 @@ pub(crate) fn are_open_given<'t>(
     _s: &Scopes<'t>,
     walk: Result<Walk<'t>, Stop>,
 ) -> Result<bool, Stop>
-    ensures { (told : Outcome Walked) → Gives (walk_seen (frames_of _s.now)) walk.entry told → Gives (λ all. all) result (and_then told (λ walked. Ok (list_all counts_in_package (map (λ inherited. inherited.member) walked.members)))) }
+    ensures { (told : Outcome Walked) → Gives (walk_at _s.now) walk.entry told → Gives (λ all. all) result (and_then told (λ walked. Ok (list_all counts_in_package (map (λ inherited. inherited.member) walked.members)))) }
 {
     match walk {
         Ok(walk) => Ok(are_all_open(walk.members.as_slice())),

@@ -7,7 +7,7 @@ ghost use Rattle.mo_scope.specs.Lookup.{final_frame, is_counted, not_counted, wi
 ghost use Rattle.mo_scope.specs.Outcome.{Gives};
 ghost use Rattle.mo_scope.specs.Places.{Every};
 ghost use Rattle.mo_scope.specs.Worlds.{IsFrame, World, frame_at, frame_in, frames_of};
-ghost use Rattle.mo_names.specs.Sights.{AreThrough, IsAdded, IsBase, IsInherited, IsLeaf, IsMember, IsWalk, added_seen, frames_through, inherited_seen, member_of, walk_seen};
+ghost use Rattle.mo_names.specs.Sights.{AreThrough, IsAdded, IsBase, IsInherited, IsLeaf, IsMember, IsWalk, added_seen, frames_through, inherited_seen, member_of, walk_seen, walk_at};
 ghost use Rattle.mo_names.specs.steps.Joins.{all_added as added_all, base_added as added_by_base, base_behind, bases_added as added_bases, counts_through, inherited_behind, is_among, member_hidden};
 
 use crate::same::are_one_base;
@@ -20,7 +20,7 @@ use std::alloc::Global;
 #[tactic(auto, using(crate::proofs::WalkNames::named_among))]
 fn has_name(s: &Scopes, walk: &Walk, name: &Text) -> bool
     requires { IsWalk s.now walk.now }
-    ensures { result ≡ list_any (λ other. bytes_eq other.member.name name.now) (walk_seen (frames_of s.now) walk.now).members }
+    ensures { result ≡ list_any (λ other. bytes_eq other.member.name name.now) (walk_at s.now walk.now).members }
 {
     walk.names.place(name).is_some()
 }
@@ -34,7 +34,7 @@ pub(crate) fn with_member<'t>(
 ) -> Result<(), Stop>
     requires inherited { IsInherited s.now inherited }
     requires walk { IsWalk s.now walk.old }
-    ensures value { Gives (λ _. walk_seen (frames_of s.now) walk.new) result (joined_member (inherited_seen (frames_of s.now) inherited.entry) (walk_seen (frames_of s.now) walk.old)) }
+    ensures value { Gives (λ _. walk_at s.now walk.new) result (joined_member (inherited_seen (frames_of s.now) inherited.entry) (walk_at s.now walk.old)) }
     ensures stand { IfOk result (λ _. IsWalk s.now walk.new) }
 {
     if has_name(s, walk, inherited.member.name) {
@@ -66,7 +66,7 @@ fn with_members<'t>(
 ) -> Result<(), Stop>
     requires inherited { Every (IsInherited s.now) (reverse turned) }
     requires walk { IsWalk s.now walk.old }
-    ensures value { Gives (λ _. walk_seen (frames_of s.now) walk.new) result (joined_members (map (inherited_seen (frames_of s.now)) (reverse turned.entry)) (walk_seen (frames_of s.now) walk.old)) }
+    ensures value { Gives (λ _. walk_at s.now walk.new) result (joined_members (map (inherited_seen (frames_of s.now)) (reverse turned.entry)) (walk_at s.now walk.old)) }
     ensures stand { IfOk result (λ _. IsWalk s.now walk.new) }
 {
     let mut rest = turned;
@@ -312,7 +312,7 @@ fn with_bases<'t>(
     requires sections { Every (IsBase s.now) sections }
     requires leaf { IsLeaf s.now leaf }
     requires so_far { IsWalk s.now so_far.old }
-    ensures are { IfOk result (λ _. walk_seen (frames_of s.now) so_far.new ≡ added_bases (map (frames_through (frames_of s.now)) bases) (map (frames_through (frames_of s.now)) sections) (option_map (λ frame. frame_at s.now frame.0) leaf) (walk_seen (frames_of s.now) so_far.old)) }
+    ensures are { IfOk result (λ _. walk_at s.now so_far.new ≡ added_bases (map (frames_through (frames_of s.now)) bases) (map (frames_through (frames_of s.now)) sections) (option_map (λ frame. frame_at s.now frame.0) leaf) (walk_at s.now so_far.old)) }
     ensures stand { IfOk result (λ _. IsWalk s.now so_far.new) }
 {
     so_far.bases.append(bases)?;
@@ -327,7 +327,7 @@ fn with_bases<'t>(
 fn with_added<'t>(s: &Scopes<'t>, added: Added<'t>, so_far: &mut Walk<'t>) -> Result<(), Stop>
     requires added { IsAdded s.now added }
     requires so_far { IsWalk s.now so_far.old }
-    ensures value { Gives (λ _. walk_seen (frames_of s.now) so_far.new) result (added_all (added_seen (frames_of s.now) added.entry) (walk_seen (frames_of s.now) so_far.old)) }
+    ensures value { Gives (λ _. walk_at s.now so_far.new) result (added_all (added_seen (frames_of s.now) added.entry) (walk_at s.now so_far.old)) }
     ensures stand { IfOk result (λ _. IsWalk s.now so_far.new) }
 {
     let Added {
@@ -372,7 +372,7 @@ pub(crate) fn with_elements<'t>(
     requires base { IsFrame s.now base.0 }
     requires elements { IsAdded s.now elements }
     requires so_far { IsWalk s.now so_far.old }
-    ensures value { Gives (λ _. walk_seen (frames_of s.now) so_far.new) result (joined_base hidden (frame_at s.now base.0) (added_seen (frames_of s.now) elements.entry) (walk_seen (frames_of s.now) so_far.old)) }
+    ensures value { Gives (λ _. walk_at s.now so_far.new) result (joined_base hidden (frame_at s.now base.0) (added_seen (frames_of s.now) elements.entry) (walk_at s.now so_far.old)) }
     ensures stand { IfOk result (λ _. IsWalk s.now so_far.new) }
 {
     let added = base_added(alloc, s, so_far.bases.as_slice(), hidden, base, elements)?;
@@ -391,7 +391,7 @@ pub(crate) fn with_base<'t>(
     requires base { IsFrame s.now base.0 }
     requires walk { IsWalk s.now walk }
     requires so_far { IsWalk s.now so_far.old }
-    ensures value { Gives (λ _. walk_seen (frames_of s.now) so_far.new) result (joined_base hidden (frame_at s.now base.0) (walk_seen (frames_of s.now) walk.entry) (walk_seen (frames_of s.now) so_far.old)) }
+    ensures value { Gives (λ _. walk_at s.now so_far.new) result (joined_base hidden (frame_at s.now base.0) (walk_at s.now walk.entry) (walk_at s.now so_far.old)) }
     ensures stand { IfOk result (λ _. IsWalk s.now so_far.new) }
 {
     with_elements(alloc, s, hidden, base, without_names(walk), so_far)

@@ -6,7 +6,7 @@ ghost use Rattle.mo_scope.specs.Outcome.{Gives};
 ghost use Rattle.mo_scope.specs.Places.{Every};
 ghost use Rattle.mo_scope.specs.Sights.{member_seen};
 ghost use Rattle.mo_scope.specs.Worlds.{AreHomes, Grows, IsFrame, frame_at, frames_of, member_in, table_in};
-ghost use Rattle.mo_names.specs.Sights.{IsMember, IsReached, IsWalk, asks, member_of, reached_seen, walk_seen};
+ghost use Rattle.mo_names.specs.Sights.{IsMember, IsReached, IsWalk, asks, reached_seen, walk_at, member_of};
 
 use crate::found::{Ask, Reached};
 use crate::own::own_named;
@@ -150,7 +150,7 @@ pub(crate) fn walk_kept<'t>(
     walk: &Walk<'t>,
 ) -> Result<(), NoMemory>
     requires frame { IsFrame s.old frame.0 }
-    requires is { walked_of (table_in s.old) ask.now.left ask.now.busy.now ask.now.place (frame_at s.old frame.0) ≡ Ok (walk_seen (frames_of s.old) walk.now) }
+    requires is { walked_of (table_in s.old) ask.now.left ask.now.busy.now ask.now.place (frame_at s.old frame.0) ≡ Ok (walk_at s.old walk.now) }
     requires stands { IsWalk s.old walk.now }
     ensures grows { Grows s.old s.new }
 {
@@ -173,10 +173,10 @@ fn kept_walk<'t>(
     walk: Walk<'t>,
 ) -> Result<Walk<'t>, Stop>
     requires frame { IsFrame s.old frame.0 }
-    requires is { walked_of (table_in s.old) ask.now.left ask.now.busy.now ask.now.place (frame_at s.old frame.0) ≡ Ok (walk_seen (frames_of s.old) walk) }
+    requires is { walked_of (table_in s.old) ask.now.left ask.now.busy.now ask.now.place (frame_at s.old frame.0) ≡ Ok (walk_at s.old walk) }
     requires stands { IsWalk s.old walk }
     ensures grows { Grows s.old s.new }
-    ensures value { Gives (walk_seen (frames_of s.new)) result (walked_of (table_in s.old) ask.now.left ask.now.busy.now ask.now.place (frame_at s.old frame.0)) }
+    ensures value { Gives (walk_at s.new) result (walked_of (table_in s.old) ask.now.left ask.now.busy.now ask.now.place (frame_at s.old frame.0)) }
     ensures stand { IfOk result (IsWalk s.new) }
 {
     walk_kept(alloc, s, ask, frame, &walk)?;
@@ -192,10 +192,10 @@ pub(crate) fn walk_given<'t>(
     walk: Result<Walk<'t>, Stop>,
 ) -> Result<Walk<'t>, Stop>
     requires frame { IsFrame s.old frame.0 }
-    requires is { Gives (walk_seen (frames_of s.old)) walk (walked_of (table_in s.old) ask.now.left ask.now.busy.now ask.now.place (frame_at s.old frame.0)) }
+    requires is { Gives (walk_at s.old) walk (walked_of (table_in s.old) ask.now.left ask.now.busy.now ask.now.place (frame_at s.old frame.0)) }
     requires stands { IfOk walk (IsWalk s.old) }
     ensures grows { Grows s.old s.new }
-    ensures value { Gives (walk_seen (frames_of s.new)) result (walked_of (table_in s.old) ask.now.left ask.now.busy.now ask.now.place (frame_at s.old frame.0)) }
+    ensures value { Gives (walk_at s.new) result (walked_of (table_in s.old) ask.now.left ask.now.busy.now ask.now.place (frame_at s.old frame.0)) }
     ensures stand { IfOk result (IsWalk s.new) }
 {
     match walk {

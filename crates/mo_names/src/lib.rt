@@ -1,8 +1,8 @@
 //! What names mean (Modelica Language Specification 3.5, sections 5.3, 5.4, 5.6.1, 7.1 to 7.3 and 13.2).
 //!
 //! Begin with `src/element_list.rt`, `src/lookup.rt`, `src/path.rt`, `src/outer.rt` and `src/entering.rt`; the definitions to read first
-//! are `crates/mo_scope/specs/Names.antt`, `specs/Sights.antt` and `specs/Children.antt`. What this crate may not know ends its paragraph
-//! in docs/ARCHITECTURE.md.
+//! are `crates/mo_scope/specs/Names.antt`, `specs/Sights.antt` and `specs/Children.antt`, and `specs/Calls.antt` for what the calls
+//! answer. What this crate may not know ends its paragraph in docs/ARCHITECTURE.md.
 //!
 //! - `elements`, `walk_of`, `base_of`: the elements of a frame, inherited and own; those with the base frames on the way to them,
 //!   as `Walk` and `Inherited`; and the base frame of an extends clause.

@@ -5,7 +5,7 @@ ghost use Rattle.mo_scope.specs.Lookup.{literal_of, literals_at, predefined_lite
 ghost use Rattle.mo_scope.specs.Rows.{form_in, literals_in};
 ghost use Rattle.mo_scope.specs.Worlds.{frames_of, frame_in, table_in};
 ghost use Rattle.mo_syntax.specs.declared.class.Body.{out-Body};
-ghost use Rattle.mo_names.specs.Sights.{IsFound, IsLeaf, found_in};
+ghost use Rattle.mo_names.specs.Sights.{IsFound, IsLeaf, found_at};
 ghost use Rattle.mo_names.specs.steps.Parts.{none_listed};
 
 use crate::found::Found;
@@ -167,7 +167,7 @@ pub(crate) fn literal<'t>(
     name: &Text,
 ) -> Result<Option<Found<'t>>, NoMemory>
     requires { IsLeaf s.now leaf }
-    ensures is { IfOk result (λ found. option_map (found_in (frames_of s.now)) found ≡ literal_of (table_in s.now) (option_map (λ frame. frame_in (frames_of s.now) frame.0) leaf) name.now) }
+    ensures is { IfOk result (λ found. option_map (found_at s.now) found ≡ literal_of (table_in s.now) (option_map (λ frame. frame_in (frames_of s.now) frame.0) leaf) name.now) }
     ensures exists { IfOk result (λ found. IfSome found (IsFound s.now)) }
 {
     match leaf {

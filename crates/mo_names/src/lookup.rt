@@ -2,12 +2,12 @@
 #![tactic(auto, using(crate::proofs::Later::later))]
 
 ghost use Rattle.std.specs.Prelude.{IfOk};
-ghost use Rattle.mo_scope.specs.Lookup.{asking_of, reached as reached_of};
 ghost use Rattle.mo_scope.specs.Names.{constant_unless, found as found_of, taken as taken_found};
 ghost use Rattle.mo_scope.specs.Outcome.{Gives};
-ghost use Rattle.mo_scope.specs.Worlds.{Grows, IsFrame, frame_at, frames_of, scope_in, table_in};
-ghost use Rattle.mo_names.specs.Children.{first_declared, first_found};
-ghost use Rattle.mo_names.specs.Sights.{IsFound, IsReached, found_in, reached_seen};
+ghost use Rattle.mo_scope.specs.Worlds.{Grows, IsFrame, frames_of, table_in};
+ghost use Rattle.mo_scope.specs.Sights.{scope_at};
+ghost use Rattle.mo_names.specs.Sights.{IsFound, IsReached, reached_seen, found_at};
+ghost use Rattle.mo_names.specs.Calls.{reached_in, first_found_at, first_declared_at};
 
 use crate::found::{Found, Reached};
 use crate::free::{first_at, reached_at};
@@ -27,7 +27,7 @@ pub fn find_element<'t>(
 ) -> Result<Reached<'t>, Stop>
     requires { IsFrame s.old frame.0 }
     ensures grows { Grows s.old s.new }
-    ensures value { Gives (reached_seen (frames_of s.new)) result (reached_of (table_in s.old) (asking_of (table_in s.old)) place (frame_at s.old frame.0) name.now) }
+    ensures value { Gives (reached_seen (frames_of s.new)) result (reached_in s.old place frame.0 name.now) }
     ensures stand { IfOk result (IsReached s.new) }
 {
     reached_at(alloc, s, frame, name, place)
@@ -35,7 +35,7 @@ pub fn find_element<'t>(
 
 /// Asks that a component which is not near is a constant.
 fn constant_or_near(s: &Scopes, near: bool, found: &Found, place: Place) -> Result<(), Stop>
-    ensures { Gives (λ _. found_in (frames_of s.now) found.now) result (constant_unless near place (found_in (frames_of s.now) found.now)) }
+    ensures { Gives (λ _. found_at s.now found.now) result (constant_unless near place (found_at s.now found.now)) }
 {
     match found {
         Found::Component(_, member) => {
@@ -63,7 +63,7 @@ pub(crate) fn taken<'t>(
 ) -> Result<Found<'t>, Stop>
     requires { IsFound s.old found.now }
     ensures grows { Grows s.old s.new }
-    ensures value { Gives (found_in (frames_of s.new)) result (taken_found (table_in s.old) near place (found_in (frames_of s.old) found.now)) }
+    ensures value { Gives (found_at s.new) result (taken_found (table_in s.old) near place (found_at s.old found.now)) }
     ensures stand { IfOk result (IsFound s.new) }
 {
     constant_or_near(s, near, found, place)?;
@@ -82,7 +82,7 @@ pub fn find<'t>(
 ) -> Result<Found<'t>, Stop>
     requires { IsFrame s.old at.now.frame.0 }
     ensures grows { Grows s.old s.new }
-    ensures value { Gives (found_in (frames_of s.new)) result (found_of (table_in s.old) (scope_in (frames_of s.old) at.now.frame.0 at.now.iters) name.now place) }
+    ensures value { Gives (found_at s.new) result (found_of (table_in s.old) (scope_at s.old at.now) name.now place) }
     ensures stand { IfOk result (IsFound s.new) }
 {
     find_first(alloc, s, at, false, name, place)
@@ -99,7 +99,7 @@ pub fn find_first<'t>(
 ) -> Result<Found<'t>, Stop>
     requires { IsFrame s.old at.now.frame.0 }
     ensures grows { Grows s.old s.new }
-    ensures value { Gives (found_in (frames_of s.new)) result (first_found (table_in s.old) top (scope_in (frames_of s.old) at.now.frame.0 at.now.iters) name.now place) }
+    ensures value { Gives (found_at s.new) result (first_found_at s.old top at.now name.now place) }
     ensures stand { IfOk result (IsFound s.new) }
 {
     match first_at(alloc, s, at, top, name, place) {
@@ -120,7 +120,7 @@ pub fn find_declared<'t>(
 ) -> Result<Found<'t>, Stop>
     requires { IsFrame s.old at.now.frame.0 }
     ensures grows { Grows s.old s.new }
-    ensures value { Gives (found_in (frames_of s.new)) result (first_declared (table_in s.old) top (scope_in (frames_of s.old) at.now.frame.0 at.now.iters) name.now place) }
+    ensures value { Gives (found_at s.new) result (first_declared_at s.old top at.now name.now place) }
     ensures stand { IfOk result (IsFound s.new) }
 {
     match first_at(alloc, s, at, top, name, place) {

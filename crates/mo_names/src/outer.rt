@@ -4,12 +4,14 @@
 ghost use Rattle.std.specs.Prelude.{◌≡◌, find, map, option_map, IfOk, IfSome, Ok};
 ghost use Rattle.mo_scope.specs.Frames.{is_same_element as is_one_element};
 ghost use Rattle.mo_scope.specs.Lookup.{Component as found_component};
-ghost use Rattle.mo_scope.specs.Names.{elements_of, inner_of as inner_component, is_inner_for, stands_for as stood_for};
+ghost use Rattle.mo_scope.specs.Names.{elements_of, is_inner_for, stands_for as stood_for};
 ghost use Rattle.mo_scope.specs.Outcome.{Gives};
 ghost use Rattle.mo_scope.specs.Places.{Every};
 ghost use Rattle.mo_scope.specs.Worlds.{AreHomes, Grows, IsFrame, frame_at, frames_of, member_in, table_in};
+ghost use Rattle.mo_scope.specs.Sights.{member_at};
 ghost use Rattle.mo_names.specs.Children.{IsComponent, component_seen, first_inner, inner_in_frame};
-ghost use Rattle.mo_names.specs.Sights.{IsFound, IsInherited, IsMember, found_in, inherited_seen, member_of};
+ghost use Rattle.mo_names.specs.Sights.{IsFound, IsInherited, IsMember, inherited_seen, found_at};
+ghost use Rattle.mo_names.specs.Calls.{inner_component_at};
 
 use crate::found::Found;
 use crate::free::elements_kept_at;
@@ -23,7 +25,7 @@ use std::alloc::Global;
 fn is_same_element(s: &Scopes, a: &Member, b: &Member) -> bool
     requires a { IsFrame s.now a.now.home.0 }
     requires b { IsFrame s.now b.now.home.0 }
-    ensures { result ≡ is_one_element (member_of (frames_of s.now) a.now) (member_of (frames_of s.now) b.now) }
+    ensures { result ≡ is_one_element (member_at s.now a.now) (member_at s.now b.now) }
 {
     if !is_same_class(s, a.home, b.home) {
         return false;
@@ -38,7 +40,7 @@ fn is_same_element(s: &Scopes, a: &Member, b: &Member) -> bool
 fn is_inner(s: &Scopes, outer: &Member, member: &Member) -> bool
     requires outer { IsFrame s.now outer.now.home.0 }
     requires member { IsFrame s.now member.now.home.0 }
-    ensures { result ≡ is_inner_for (member_of (frames_of s.now) outer.now) (member_of (frames_of s.now) member.now) }
+    ensures { result ≡ is_inner_for (member_at s.now outer.now) (member_at s.now member.now) }
 {
     if !member.name.equals(outer.name) {
         return false;
@@ -60,7 +62,7 @@ fn inner_among<'t>(
 ) -> Option<Member<'t>>
     requires outer { IsMember s.now outer.now }
     requires members { Every (IsInherited s.now) members.now }
-    ensures is { option_map (member_of (frames_of s.now)) result ≡ first_inner (member_of (frames_of s.now) outer.now) (map (inherited_seen (frames_of s.now)) members.now) }
+    ensures is { option_map (member_at s.now) result ≡ first_inner (member_at s.now outer.now) (map (inherited_seen (frames_of s.now)) members.now) }
     ensures exists { IfSome result (IsMember s.now) }
 {
     for inherited in members {
@@ -79,7 +81,7 @@ fn inner_of_all<'t>(
 ) -> Option<Member<'t>>
     requires outer { IsMember s.now outer.now }
     requires members { Every (IsMember s.now) members.now }
-    ensures is { option_map (member_of (frames_of s.now)) result ≡ find (is_inner_for (member_of (frames_of s.now) outer.now)) (map (member_of (frames_of s.now)) members.now) }
+    ensures is { option_map (member_at s.now) result ≡ find (is_inner_for (member_at s.now outer.now)) (map (member_at s.now) members.now) }
     ensures exists { IfSome result (IsMember s.now) }
 {
     for member in members {
@@ -100,7 +102,7 @@ fn inner_in_table<'t>(
     requires outer { IsMember s.now outer.now }
     requires elements { elements_of (table_in s.now) (frame_at s.now frame.0) ≡ Ok (map (member_in (frames_of s.now)) table.now) }
     requires homes { AreHomes s.now table.now }
-    ensures is { option_map (member_of (frames_of s.now)) result ≡ find (is_inner_for (member_of (frames_of s.now) outer.now)) (map (member_in (frames_of s.now)) table.now) }
+    ensures is { option_map (member_at s.now) result ≡ find (is_inner_for (member_at s.now outer.now)) (map (member_in (frames_of s.now)) table.now) }
     ensures exists { IfSome result (IsMember s.now) }
 {
     match table.find(outer.name) {
@@ -119,7 +121,7 @@ fn inner_in_table<'t>(
 fn inner_kept<'t>(s: &Scopes<'t>, outer: &Member<'t>, owner: FrameId) -> Option<Option<Member<'t>>>
     requires outer { IsMember s.now outer.now }
     requires owner { IsFrame s.now owner.0 }
-    ensures is { IfSome result (λ inner. (place : Place) → inner_in_frame (table_in s.now) place (member_of (frames_of s.now) outer.now) (frame_at s.now owner.0) ≡ Ok (option_map (member_of (frames_of s.now)) inner)) }
+    ensures is { IfSome result (λ inner. (place : Place) → inner_in_frame (table_in s.now) place (member_at s.now outer.now) (frame_at s.now owner.0) ≡ Ok (option_map (member_at s.now) inner)) }
     ensures exists { IfSome result (λ inner. IfSome inner (IsMember s.now)) }
 {
     match s.table(owner) {
@@ -139,7 +141,7 @@ fn inner_in<'t>(
     requires outer { IsMember s.old outer.now }
     requires owner { IsFrame s.old owner.0 }
     ensures grows { Grows s.old s.new }
-    ensures value { Gives (option_map (member_of (frames_of s.new))) result (inner_in_frame (table_in s.old) place (member_of (frames_of s.old) outer.now) (frame_at s.old owner.0)) }
+    ensures value { Gives (option_map (member_at s.new)) result (inner_in_frame (table_in s.old) place (member_at s.old outer.now) (frame_at s.old owner.0)) }
     ensures stand { IfOk result (λ member. IfSome member (IsMember s.new)) }
 {
     if let Some(inner) = inner_kept(s, outer, owner) {
@@ -160,7 +162,7 @@ pub fn inner_of<'t>(
 ) -> Result<(FrameId, Member<'t>), Stop>
     requires { IsMember s.old outer.now }
     ensures grows { Grows s.old s.new }
-    ensures value { Gives (component_seen (frames_of s.new)) result (inner_component (table_in s.old) place (member_of (frames_of s.old) outer.now)) }
+    ensures value { Gives (component_seen (frames_of s.new)) result (inner_component_at s.old place outer.now) }
     ensures stand { IfOk result (IsComponent s.new) }
 {
     let mut frame = outer.home;
@@ -183,7 +185,7 @@ pub fn stands_for<'t>(
 ) -> Result<Found<'t>, Stop>
     requires { IsFound s.old found.now }
     ensures grows { Grows s.old s.new }
-    ensures value { Gives (found_in (frames_of s.new)) result (stood_for (table_in s.old) place (found_in (frames_of s.old) found.now)) }
+    ensures value { Gives (found_at s.new) result (stood_for (table_in s.old) place (found_at s.old found.now)) }
     ensures stand { IfOk result (IsFound s.new) }
 {
     match found {
@@ -207,7 +209,7 @@ fn component_for<'t>(
     requires frame { IsFrame s.old frame.0 }
     requires member { IsMember s.old member.now }
     ensures grows { Grows s.old s.new }
-    ensures value { Gives (found_in (frames_of s.new)) result (stood_for (table_in s.old) place (found_component (frame_at s.old frame.0) (member_of (frames_of s.old) member.now))) }
+    ensures value { Gives (found_at s.new) result (stood_for (table_in s.old) place (found_component (frame_at s.old frame.0) (member_at s.old member.now))) }
     ensures stand { IfOk result (IsFound s.new) }
 {
     if !member.declares.flags.outer {

@@ -5,9 +5,10 @@ ghost use Rattle.mo_scope.specs.Lookup.{counts_in_package, members_from, named, 
 ghost use Rattle.mo_scope.specs.Open.{is_open_declares};
 ghost use Rattle.mo_scope.specs.Own.{own_declared};
 ghost use Rattle.mo_scope.specs.Rows.{elements_in, number_of_classes};
-ghost use Rattle.mo_scope.specs.Sights.{part_seen};
-ghost use Rattle.mo_scope.specs.Worlds.{IsFrame, PartsExist, frame_at, frames_of, table_in};
-ghost use Rattle.mo_names.specs.Sights.{IsMember, member_of};
+ghost use Rattle.mo_scope.specs.Sights.{part_seen, member_at};
+ghost use Rattle.mo_scope.specs.Worlds.{IsFrame, PartsExist, frame_at, table_in};
+ghost use Rattle.mo_names.specs.Sights.{IsMember};
+ghost use Rattle.mo_names.specs.Calls.{IsOwnNamed};
 
 use mo_scope::{Member, Part, Scopes, is_open};
 use mo_syntax::{FrameId, NoMemory, Text};
@@ -22,7 +23,7 @@ fn named_part<'t>(
     requires frame { IsFrame s.now frame.0 }
     requires parts { PartsExist (number_of_classes (table_in s.now)) (map part_seen parts.now) }
     requires own { elements_in (map part_seen parts.now) ≡ own_declared (table_in s.now) (frame_at s.now frame.0) }
-    ensures is { IfOk result (λ found. option_map (member_of (frames_of s.now)) found ≡ named name.now (members_from (frame_at s.now frame.0) 0 (elements_in (map part_seen parts.now)))) }
+    ensures is { IfOk result (λ found. option_map (member_at s.now) found ≡ named name.now (members_from (frame_at s.now frame.0) 0 (elements_in (map part_seen parts.now)))) }
     ensures exists { IfOk result (λ found. IfSome found (IsMember s.now)) }
 {
     let mut item = 0u32;
@@ -53,7 +54,7 @@ pub fn own_named<'t>(
     name: &Text,
 ) -> Result<Option<Member<'t>>, NoMemory>
     requires { IsFrame s.now frame.0 }
-    ensures is { IfOk result (λ found. option_map (member_of (frames_of s.now)) found ≡ named name.now (own_members (table_in s.now) (frame_at s.now frame.0))) }
+    ensures is { IfOk result (IsOwnNamed s.now frame.0 name.now) }
     ensures exists { IfOk result (λ found. IfSome found (IsMember s.now)) }
 {
     match s.row(s.class_of(frame)) {

@@ -5,8 +5,8 @@ ghost use Rattle.mo_scope.specs.Outcome.{Gives};
 ghost use Rattle.mo_scope.specs.Own.{own_declared};
 ghost use Rattle.mo_scope.specs.Rows.{class_number, number_of_classes};
 ghost use Rattle.mo_scope.specs.Sights.{declares_seen};
-ghost use Rattle.mo_scope.specs.Worlds.{IsFrame, frame_at, frames_of, table_in};
-ghost use Rattle.mo_names.specs.Sights.{IsWalk, walk_seen};
+ghost use Rattle.mo_scope.specs.Worlds.{IsFrame, frame_at, table_in};
+ghost use Rattle.mo_names.specs.Sights.{IsWalk, walk_at};
 ghost use Rattle.mo_names.specs.steps.Lookup.{own_inherited};
 
 use crate::join::with_member;
@@ -28,7 +28,7 @@ pub(crate) fn own_walked<'t>(
     requires class { class_number (declares_seen declares.now) < number_of_classes (table_in s.now) }
     requires own { slice_get (own_declared (table_in s.now) (frame_at s.now frame.0)) item ≡ Some (declares_seen declares.now) }
     requires so_far { IsWalk s.now so_far.old }
-    ensures value { Gives (λ _. walk_seen (frames_of s.now) so_far.new) result (joined_member (own_inherited (frame_at s.now frame.0) item (declares_seen declares.now)) (walk_seen (frames_of s.now) so_far.old)) }
+    ensures value { Gives (λ _. walk_at s.now so_far.new) result (joined_member (own_inherited (frame_at s.now frame.0) item (declares_seen declares.now)) (walk_at s.now so_far.old)) }
     ensures stand { IfOk result (λ _. IsWalk s.now so_far.new) }
 {
     let own = Inherited {

@@ -5,7 +5,7 @@ ghost use Rattle.std.specs.Prelude.{◌≡◌, None, map, IfOk, IfSome};
 ghost use Rattle.mo_scope.specs.Places.{Every};
 ghost use Rattle.mo_scope.specs.Worlds.{Grows, IsFrame, frame_at, frames_of, table_in};
 ghost use Rattle.mo_names.specs.steps.Settled.{AreOwned, IsOwned};
-ghost use Rattle.mo_names.specs.Sights.{AreThrough, IsBase, IsInherited, IsMember, IsWalk, frames_through, inherited_seen, member_of, walk_seen};
+ghost use Rattle.mo_names.specs.Sights.{AreThrough, IsBase, IsInherited, IsMember, IsWalk, frames_through, inherited_seen, member_of, walk_at};
 ghost use Rattle.mo_names.specs.steps.Twins.{owned_by, owned_home, owned_inherited, owned_through, owned_walk};
 
 use crate::copying::frames_copied;
@@ -216,7 +216,7 @@ pub(crate) fn walk_owned<'t>(
     requires frame { IsFrame s.old frame.0 }
     requires walk { IsWalk s.old walk }
     ensures grows { Grows s.old s.new }
-    ensures is { IfOk result (λ found. walk_seen (frames_of s.new) found ≡ owned_walk (frame_at s.old frame.0) (walk_seen (frames_of s.old) walk.entry)) }
+    ensures is { IfOk result (λ found. walk_at s.new found ≡ owned_walk (frame_at s.old frame.0) (walk_at s.old walk.entry)) }
     ensures stand { IfOk result (IsWalk s.new) }
 {
     let mut made = List::new(alloc);

@@ -4,7 +4,7 @@ ghost use Rattle.mo_scope.specs.Lookup.{Found as FoundSeen, Met as MetSeen};
 ghost use Rattle.mo_scope.specs.Outcome.{Gives};
 ghost use Rattle.mo_scope.specs.Worlds.{Grows, IsFrame, frame_at, frames_of, table_in};
 ghost use Rattle.mo_names.specs.Past.{GivesNext, IsNext, IsPast, Past as PastSeen, found_past, next_of, or_past, past as what_is_past, past_seen};
-ghost use Rattle.mo_names.specs.Sights.{IsFound, found_in, met_seen};
+ghost use Rattle.mo_names.specs.Sights.{IsFound, met_seen, found_at};
 ghost use Rattle.mo_syntax.specs.Outcome.{Outcome, and_then};
 
 use crate::found::{Found, Met};
@@ -30,7 +30,7 @@ pub(crate) enum Next<'t> {
 /// What was found, as what is past a frame.
 fn past_given<'t>(_s: &Scopes<'t>, found: &Result<Found<'t>, Stop>) -> Result<Past<'t>, Stop>
     requires { IfOk found.now (IsFound _s.now) }
-    ensures value { (told : Outcome FoundSeen) → Gives (found_in (frames_of _s.now)) found.now told → Gives (past_seen (frames_of _s.now)) result (found_past told) }
+    ensures value { (told : Outcome FoundSeen) → Gives (found_at _s.now) found.now told → Gives (past_seen (frames_of _s.now)) result (found_past told) }
     ensures stand { IfOk result (IsPast _s.now) }
 {
     match found {

@@ -2,11 +2,13 @@
 #![tactic(auto, using(crate::proofs::Later::later))]
 
 ghost use Rattle.std.specs.Prelude.{drop, IfOk};
-ghost use Rattle.mo_scope.specs.Names.{behind_component as component_behind, behind_found as one_behind, found_behind as all_behind, found_path, found_reference as reference_found};
+ghost use Rattle.mo_scope.specs.Names.{behind_component as component_behind, behind_found as one_behind, found_behind as all_behind, found_reference as reference_found};
 ghost use Rattle.mo_scope.specs.Outcome.{Gives};
-ghost use Rattle.mo_scope.specs.Worlds.{Grows, IsFrame, frame_at, frames_of, scope_in, table_in};
-ghost use Rattle.mo_names.specs.Children.{class_next, component_next, found_in_component, next_found, reached_in_component};
-ghost use Rattle.mo_names.specs.Sights.{IsFound, IsMember, found_in, member_of};
+ghost use Rattle.mo_scope.specs.Worlds.{Grows, IsFrame, frame_at, table_in};
+ghost use Rattle.mo_scope.specs.Sights.{scope_at, member_at};
+ghost use Rattle.mo_names.specs.Children.{class_next, component_next, found_in_component, reached_in_component};
+ghost use Rattle.mo_names.specs.Sights.{IsFound, IsMember, found_at};
+ghost use Rattle.mo_names.specs.Calls.{next_found_at, found_path_at};
 
 use crate::entering::enter_component;
 use crate::found::{Found, Reached};
@@ -28,7 +30,7 @@ fn part_of_component<'t>(
     requires frame { IsFrame s.old frame.0 }
     requires part { IsMember s.old part.now }
     ensures grows { Grows s.old s.new }
-    ensures value { Gives (found_in (frames_of s.new)) result (found_in_component (table_in s.old) place (frame_at s.old frame.0) (member_of (frames_of s.old) part.now)) }
+    ensures value { Gives (found_at s.new) result (found_in_component (table_in s.old) place (frame_at s.old frame.0) (member_at s.old part.now)) }
     ensures stand { IfOk result (IsFound s.new) }
 {
     if is_class(&part.declares) {
@@ -50,7 +52,7 @@ fn find_in_component<'t>(
 ) -> Result<Found<'t>, Stop>
     requires { IsFrame s.old frame.0 }
     ensures grows { Grows s.old s.new }
-    ensures value { Gives (found_in (frames_of s.new)) result (reached_in_component (table_in s.old) place (frame_at s.old frame.0) name.now) }
+    ensures value { Gives (found_at s.new) result (reached_in_component (table_in s.old) place (frame_at s.old frame.0) name.now) }
     ensures stand { IfOk result (IsFound s.new) }
 {
     match find_element(alloc, s, frame, name, place) {
@@ -71,7 +73,7 @@ fn find_entered<'t>(
 ) -> Result<Found<'t>, Stop>
     requires { IsMember s.old member.now }
     ensures grows { Grows s.old s.new }
-    ensures value { Gives (found_in (frames_of s.new)) result (component_next (table_in s.old) place (member_of (frames_of s.old) member.now) name.now) }
+    ensures value { Gives (found_at s.new) result (component_next (table_in s.old) place (member_at s.old member.now) name.now) }
     ensures stand { IfOk result (IsFound s.new) }
 {
     let frame = enter_component(alloc, s, member, &[])?;
@@ -89,7 +91,7 @@ fn find_behind_component<'t>(
 ) -> Result<Found<'t>, Stop>
     requires { IsMember s.old member.now }
     ensures grows { Grows s.old s.new }
-    ensures value { Gives (found_in (frames_of s.new)) result (component_behind (table_in s.old) place (member_of (frames_of s.old) member.now) name.now) }
+    ensures value { Gives (found_at s.new) result (component_behind (table_in s.old) place (member_at s.old member.now) name.now) }
     ensures stand { IfOk result (IsFound s.new) }
 {
     find_entered(alloc, s, member, name, place)
@@ -105,7 +107,7 @@ fn find_behind_class<'t>(
 ) -> Result<Found<'t>, Stop>
     requires { IsFrame s.old frame.0 }
     ensures grows { Grows s.old s.new }
-    ensures value { Gives (found_in (frames_of s.new)) result (class_next (table_in s.old) (frame_at s.old frame.0) name.now place) }
+    ensures value { Gives (found_at s.new) result (class_next (table_in s.old) (frame_at s.old frame.0) name.now place) }
     ensures stand { IfOk result (IsFound s.new) }
 {
     match behind_class_at(alloc, s, frame, name, place) {
@@ -125,7 +127,7 @@ pub fn find_behind<'t>(
 ) -> Result<Found<'t>, Stop>
     requires { IsFound s.old found.now }
     ensures grows { Grows s.old s.new }
-    ensures value { Gives (found_in (frames_of s.new)) result (next_found (table_in s.old) (found_in (frames_of s.old) found.now) name.now place) }
+    ensures value { Gives (found_at s.new) result (next_found_at s.old found.now name.now place) }
     ensures stand { IfOk result (IsFound s.new) }
 {
     match found {
@@ -147,7 +149,7 @@ fn find_next<'t>(
 ) -> Result<Found<'t>, Stop>
     requires { IsFound s.old found.now }
     ensures grows { Grows s.old s.new }
-    ensures value { Gives (found_in (frames_of s.new)) result (one_behind (table_in s.old) (found_in (frames_of s.old) found.now) part.now) }
+    ensures value { Gives (found_at s.new) result (one_behind (table_in s.old) (found_at s.old found.now) part.now) }
     ensures stand { IfOk result (IsFound s.new) }
 {
     find_behind(alloc, s, found, &part.name, part.place)
@@ -162,7 +164,7 @@ fn find_all_behind<'t>(
 ) -> Result<Found<'t>, Stop>
     requires { IsFound s.old first }
     ensures grows { Grows s.old s.new }
-    ensures value { Gives (found_in (frames_of s.new)) result (all_behind (table_in s.old) (found_in (frames_of s.old) first.entry) (drop 1 parts.now)) }
+    ensures value { Gives (found_at s.new) result (all_behind (table_in s.old) (found_at s.old first.entry) (drop 1 parts.now)) }
     ensures stand { IfOk result (IsFound s.new) }
 {
     let mut found = first;
@@ -185,7 +187,7 @@ fn find_reference<'t>(
 ) -> Result<Found<'t>, Stop>
     requires { IsFrame s.old at.now.frame.0 }
     ensures grows { Grows s.old s.new }
-    ensures value { Gives (found_in (frames_of s.new)) result (reference_found (table_in s.old) (scope_in (frames_of s.old) at.now.frame.0 at.now.iters) (record { top = top; parts = parts.now })) }
+    ensures value { Gives (found_at s.new) result (reference_found (table_in s.old) (scope_at s.old at.now) (record { top = top; parts = parts.now })) }
     ensures stand { IfOk result (IsFound s.new) }
 {
     match parts {
@@ -208,7 +210,7 @@ pub fn find_path<'t>(
 ) -> Result<Found<'t>, Stop>
     requires { IsFrame s.old at.now.frame.0 }
     ensures grows { Grows s.old s.new }
-    ensures value { Gives (found_in (frames_of s.new)) result (found_path (table_in s.old) (scope_in (frames_of s.old) at.now.frame.0 at.now.iters) path.now class_wanted) }
+    ensures value { Gives (found_at s.new) result (found_path_at s.old at.now path.now class_wanted) }
     ensures stand { IfOk result (IsFound s.new) }
 {
     if class_wanted {

@@ -6,7 +6,8 @@ ghost use Rattle.mo_scope.specs.Lookup.{Found as FoundSeen, Reached as ReachedSe
 ghost use Rattle.mo_scope.specs.Outcome.{Gives};
 ghost use Rattle.mo_scope.specs.Places.{Every};
 ghost use Rattle.mo_scope.specs.Worlds.{Grows, IsFrame, frame_at, frames_of, table_in};
-ghost use Rattle.mo_names.specs.Sights.{IsFound, IsInherited, IsMember, IsReached, IsWalk, classed_seen, found_in, inherited_seen, member_of, reached_seen, walk_seen};
+ghost use Rattle.mo_scope.specs.Sights.{member_at};
+ghost use Rattle.mo_names.specs.Sights.{IsFound, IsInherited, IsMember, IsReached, IsWalk, classed_seen, inherited_seen, reached_seen, found_at, walk_at, member_of};
 ghost use Rattle.mo_names.specs.steps.Lookup.{element_behind, element_met as element_found, open_element as open_found, reached_behind as found_behind, reached_by_star as found_by_star, shown as shown_reached};
 ghost use Rattle.mo_syntax.specs.Outcome.{Outcome, and_then};
 
@@ -49,7 +50,7 @@ pub(crate) fn reached_in<'t>(
     name: &Text,
 ) -> Result<Reached<'t>, NoMemory>
     requires { IsWalk s.now walk.now }
-    ensures is { IfOk result (λ reached. reached_seen (frames_of s.now) reached ≡ reached_among (table_in s.now) (walk_seen (frames_of s.now) walk.now) name.now) }
+    ensures is { IfOk result (λ reached. reached_seen (frames_of s.now) reached ≡ reached_among (table_in s.now) (walk_at s.now walk.now) name.now) }
     ensures stand { IfOk result (IsReached s.now) }
 {
     if let Some(member) = member_named(s, walk.members.as_slice(), name) {
@@ -100,7 +101,7 @@ fn open_element<'t>(
     requires frame { IsFrame s.old frame.0 }
     requires member { IsMember s.old member.now }
     ensures grows { Grows s.old s.new }
-    ensures value { Gives (found_in (frames_of s.new)) result (open_found (table_in s.old) place (frame_at s.old frame.0) (member_of (frames_of s.old) member.now)) }
+    ensures value { Gives (found_at s.new) result (open_found (table_in s.old) place (frame_at s.old frame.0) (member_at s.old member.now)) }
     ensures stand { IfOk result (IsFound s.new) }
 {
     if member.hidden {
@@ -121,7 +122,7 @@ pub(crate) fn behind_element<'t>(
     requires frame { IsFrame s.old frame.0 }
     requires member { IsMember s.old member.now }
     ensures grows { Grows s.old s.new }
-    ensures value { Gives (found_in (frames_of s.new)) result (element_behind (table_in s.old) place component (frame_at s.old frame.0) (member_of (frames_of s.old) member.now)) }
+    ensures value { Gives (found_at s.new) result (element_behind (table_in s.old) place component (frame_at s.old frame.0) (member_at s.old member.now)) }
     ensures stand { IfOk result (IsFound s.new) }
 {
     match component {
@@ -147,7 +148,7 @@ pub(crate) fn behind_reached<'t>(
     requires frame { IsFrame s.old frame.0 }
     requires reached { IsReached s.old reached.now }
     ensures grows { Grows s.old s.new }
-    ensures value { Gives (found_in (frames_of s.new)) result (found_behind (table_in s.old) place component (frame_at s.old frame.0) (reached_seen (frames_of s.old) reached.now)) }
+    ensures value { Gives (found_at s.new) result (found_behind (table_in s.old) place component (frame_at s.old frame.0) (reached_seen (frames_of s.old) reached.now)) }
     ensures stand { IfOk result (IsFound s.new) }
 {
     match reached {
@@ -163,7 +164,7 @@ fn some_given<'t>(
     found: &Result<Found<'t>, Stop>,
 ) -> Result<Option<Found<'t>>, Stop>
     requires { IfOk found.now (IsFound _s.now) }
-    ensures value { (told : Outcome FoundSeen) → Gives (found_in (frames_of _s.now)) found.now told → Gives (option_map (found_in (frames_of _s.now))) result (and_then told (λ found. Ok (Some found))) }
+    ensures value { (told : Outcome FoundSeen) → Gives (found_at _s.now) found.now told → Gives (option_map (found_at _s.now)) result (and_then told (λ found. Ok (Some found))) }
     ensures stand { IfOk result (λ found. IfSome found (IsFound _s.now)) }
 {
     match found {
@@ -204,7 +205,7 @@ pub(crate) fn star_reached<'t>(
     requires frame { IsFrame s.old frame.0 }
     requires reached { IsReached s.old reached.now }
     ensures grows { Grows s.old s.new }
-    ensures value { Gives (option_map (found_in (frames_of s.new))) result (found_by_star (table_in s.old) (frame_at s.old frame.0) (reached_seen (frames_of s.old) reached.now)) }
+    ensures value { Gives (option_map (found_at s.new)) result (found_by_star (table_in s.old) (frame_at s.old frame.0) (reached_seen (frames_of s.old) reached.now)) }
     ensures stand { IfOk result (λ found. IfSome found (IsFound s.new)) }
 {
     match reached {
@@ -227,7 +228,7 @@ pub(crate) fn element_met<'t>(
     requires frame { IsFrame s.old frame.0 }
     requires reached { IsReached s.old reached.now }
     ensures grows { Grows s.old s.new }
-    ensures value { Gives (option_map (found_in (frames_of s.new))) result (element_found (table_in s.old) (frame_at s.old frame.0) (reached_seen (frames_of s.old) reached.now)) }
+    ensures value { Gives (option_map (found_at s.new)) result (element_found (table_in s.old) (frame_at s.old frame.0) (reached_seen (frames_of s.old) reached.now)) }
     ensures stand { IfOk result (λ found. IfSome found (IsFound s.new)) }
 {
     match reached {
@@ -243,7 +244,7 @@ pub(crate) fn element_met<'t>(
 /// The frame of the class that was found.
 pub(crate) fn class_wanted(s: &Scopes, place: Place, found: &Found) -> Result<FrameId, Stop>
     requires { IsFound s.now found.now }
-    ensures value { Gives (λ frame. frame_at s.now frame.0) result (wanted_class place (found_in (frames_of s.now) found.now)) }
+    ensures value { Gives (λ frame. frame_at s.now frame.0) result (wanted_class place (found_at s.now found.now)) }
     ensures stand { IfOk result (λ frame. IsFrame s.now frame.0) }
 {
     match found {
@@ -259,7 +260,7 @@ pub(crate) fn class_wanted(s: &Scopes, place: Place, found: &Found) -> Result<Fr
 /// The class that was found, and whether its element is replaceable.
 pub(crate) fn classed(s: &Scopes, place: Place, found: &Found) -> Result<Classed, Stop>
     requires { IsFound s.now found.now }
-    ensures value { Gives (classed_seen (frames_of s.now)) result (wanted_classed place (found_in (frames_of s.now) found.now)) }
+    ensures value { Gives (classed_seen (frames_of s.now)) result (wanted_classed place (found_at s.now found.now)) }
     ensures stand { IfOk result (λ class. IsFrame s.now class.frame.0) }
 {
     match found {
@@ -283,7 +284,7 @@ pub(crate) fn first_at_top<'t>(
     name: &Text,
 ) -> Result<Found<'t>, Stop>
     ensures grows { Grows s.old s.new }
-    ensures value { Gives (found_in (frames_of s.new)) result (first_found (table_in s.old) place name.now) }
+    ensures value { Gives (found_at s.new) result (first_found (table_in s.old) place name.now) }
     ensures stand { IfOk result (IsFound s.new) }
 {
     match at_top(alloc, s, name)? {
@@ -300,7 +301,7 @@ pub(crate) fn first_predefined<'t>(
     name: &Text,
 ) -> Result<Found<'t>, Stop>
     ensures grows { Grows s.old s.new }
-    ensures value { Gives (found_in (frames_of s.new)) result (or_absent place (found_predefined name.now)) }
+    ensures value { Gives (found_at s.new) result (or_absent place (found_predefined name.now)) }
     ensures stand { IfOk result (IsFound s.new) }
 {
     match predefined(alloc, s, name)? {
@@ -318,7 +319,7 @@ pub(crate) fn and_also<'t>(
 ) -> Result<Option<Found<'t>>, Stop>
     requires so_far { IfSome so_far.now (IsFound s.now) }
     requires found { IfSome found.now (IsFound s.now) }
-    ensures value { Gives (option_map (found_in (frames_of s.now))) result (joined_found ask (option_map (found_in (frames_of s.now)) so_far.now) (option_map (found_in (frames_of s.now)) found.now)) }
+    ensures value { Gives (option_map (found_at s.now)) result (joined_found ask (option_map (found_at s.now) so_far.now) (option_map (found_at s.now) found.now)) }
     ensures stand { IfOk result (λ found. IfSome found (IsFound s.now)) }
 {
     match (so_far, found) {

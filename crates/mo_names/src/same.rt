@@ -4,9 +4,9 @@ ghost use Rattle.mo_scope.specs.Lookup.{is_same_found};
 ghost use Rattle.mo_scope.specs.Frames.{Frame, class_of, is_same_base, listing_eq, same_listings};
 ghost use Rattle.mo_scope.specs.Rows.{place_eq};
 ghost use Rattle.mo_scope.specs.Sights.{listing_seen, source_seen};
-ghost use Rattle.mo_scope.specs.Worlds.{IsFrame, frame_at, frames_of, sources_in};
+ghost use Rattle.mo_scope.specs.Worlds.{IsFrame, frame_at, sources_in};
 ghost use Rattle.mo_syntax.specs.ClassTable.{path_eq};
-ghost use Rattle.mo_names.specs.Sights.{IsFound, found_in};
+ghost use Rattle.mo_names.specs.Sights.{IsFound, found_at};
 
 use crate::found::Found;
 use mo_scope::{Listing, Scopes, Source};
@@ -25,7 +25,7 @@ pub(crate) fn is_same_class(s: &Scopes, a: FrameId, b: FrameId) -> bool
 pub(crate) fn is_same(s: &Scopes, a: &Found, b: &Found) -> bool
     requires a { IsFound s.now a.now }
     requires b { IsFound s.now b.now }
-    ensures { result ≡ is_same_found (found_in (frames_of s.now) a.now) (found_in (frames_of s.now) b.now) }
+    ensures { result ≡ is_same_found (found_at s.now a.now) (found_at s.now b.now) }
 {
     match (a, b) {
         (Found::Component(_, a), Found::Component(_, b)) => {

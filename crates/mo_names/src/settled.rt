@@ -7,13 +7,13 @@ ghost use Rattle.mo_syntax.specs.declared.place.Place.{Place as PlaceAt};
 ghost use Rattle.mo_scope.specs.Frames.{class_of, sources_of};
 ghost use Rattle.mo_scope.specs.Lookup.{asking_of, contains, walked_class as class_walked, with_member as joined_member};
 ghost use Rattle.mo_scope.specs.Own.{own_declared};
-ghost use Rattle.mo_scope.specs.Rows.{class_number, number_of_classes, row_at};
+ghost use Rattle.mo_scope.specs.Rows.{class_number, number_of_classes};
 ghost use Rattle.mo_scope.specs.Sights.{clause_seen, declares_seen, part_seen};
-ghost use Rattle.mo_scope.specs.Worlds.{Grows, IsFrame, frame_at, frames_of, table_in};
+ghost use Rattle.mo_scope.specs.Worlds.{Grows, IsFrame, frame_at, table_in, row_of_frame};
 ghost use Rattle.mo_names.specs.steps.Bases.{IsOwnPart, PartExists, base_walked as walked_base, part_walked as walked_part, parts_walked as walked_parts_from};
 ghost use Rattle.mo_names.specs.steps.Parts.{parts_of};
 ghost use Rattle.mo_names.specs.steps.Settled.{AreSettled, ClassOwned, IsFurther, IsJoined, IsSettled, ToldFree, ToldOwned};
-ghost use Rattle.mo_names.specs.Sights.{IsWalk, asking_at, walk_seen};
+ghost use Rattle.mo_names.specs.Sights.{IsWalk, asking_at, walk_at};
 ghost use Rattle.mo_names.specs.steps.Twins.{BeginsElsewhere, owned_walk, unowned};
 ghost use Rattle.mo_names.specs.steps.Lookup.{base_at, next_item, own_inherited, started as walk_started};
 
@@ -170,7 +170,7 @@ fn base_named<'t>(
 ) -> Result<FrameId, Stop>
     requires { IsFrame s.old frame.0 }
     ensures grows { Grows s.old s.new }
-    ensures value { IfOk result (λ base. base_at (table_in s.old) (asking_at (table_in s.old) 0 []) (frame_at s.old frame.0) (row_at (table_in s.old) (class_of (frame_at s.old frame.0))) (clause_seen clause.now) ≡ Ok (frame_at s.new base.0)) }
+    ensures value { IfOk result (λ base. base_at (table_in s.old) (asking_at (table_in s.old) 0 []) (frame_at s.old frame.0) (row_of_frame s.old frame.0) (clause_seen clause.now) ≡ Ok (frame_at s.new base.0)) }
     ensures stand { IfOk result (λ base. IsFrame s.new base.0) }
 {
     let ask = Ask {
@@ -206,7 +206,7 @@ fn is_base_alike(
 ) -> Result<bool, NoMemory>
     requires frame { IsFrame s.now frame.0 }
     requires base { IsFrame s.now base.0 }
-    ensures row { IfOk result (λ alike. alike ≡ true → is_some (row_at (table_in s.now) (class_of (frame_at s.now frame.0))) ≡ true) }
+    ensures row { IfOk result (λ alike. alike ≡ true → is_some (row_of_frame s.now frame.0) ≡ true) }
     ensures unowned { IfOk result (λ alike. alike ≡ true → unowned (frame_at s.now base.0) ≡ frame_at s.now base.0) }
     ensures sources { IfOk result (λ alike. alike ≡ true → length (sources_of (frame_at s.now base.0)) ≡ length (sources_of (frame_at s.now frame.0))) }
     ensures elsewhere { IfOk result (λ alike. alike ≡ true → BeginsElsewhere (table_in s.now) (frame_at s.now frame.0) (clause_seen clause.now).base.top (clause_seen clause.now).base.parts) }
@@ -239,8 +239,8 @@ fn base_settled<'t>(
     requires so_far { IsWalk s.old so_far.old.walk }
     ensures grows { Grows s.old s.new }
     ensures known { IfOk result (λ _. AreSettled s.new known.new) }
-    ensures told { IfOk result (λ _. ToldFree (table_in s.old) so_far.new.classes so_far.new.deep (λ asking. walked_base (table_in s.old) asking (frame_at s.old frame.0) (row_at (table_in s.old) (class_of (frame_at s.old frame.0))) (clause_seen clause.now) (walk_seen (frames_of s.old) so_far.old.walk)) (walk_seen (frames_of s.new) so_far.new.walk)) }
-    ensures owned { IfOk result (λ _. so_far.new.alike ≡ true → ToldOwned (table_in s.old) so_far.new.classes so_far.new.deep (frame_at s.old frame.0) (λ asking owned walk. walked_base (table_in s.old) asking owned (row_at (table_in s.old) (class_of (frame_at s.old frame.0))) (clause_seen clause.now) walk) (walk_seen (frames_of s.old) so_far.old.walk) (walk_seen (frames_of s.new) so_far.new.walk)) }
+    ensures told { IfOk result (λ _. ToldFree (table_in s.old) so_far.new.classes so_far.new.deep (λ asking. walked_base (table_in s.old) asking (frame_at s.old frame.0) (row_of_frame s.old frame.0) (clause_seen clause.now) (walk_at s.old so_far.old.walk)) (walk_at s.new so_far.new.walk)) }
+    ensures owned { IfOk result (λ _. so_far.new.alike ≡ true → ToldOwned (table_in s.old) so_far.new.classes so_far.new.deep (frame_at s.old frame.0) (λ asking owned walk. walked_base (table_in s.old) asking owned (row_of_frame s.old frame.0) (clause_seen clause.now) walk) (walk_at s.old so_far.old.walk) (walk_at s.new so_far.new.walk)) }
     ensures further { IfOk result (λ _. IsFurther so_far.old so_far.new) }
     ensures item { IfOk result (λ _. so_far.new.item ≡ so_far.old.item) }
     ensures stand { IfOk result (λ _. IsWalk s.new so_far.new.walk) }
@@ -265,7 +265,7 @@ fn own_settled<'t>(
     requires class { class_number (declares_seen declares.now) < number_of_classes (table_in s.now) }
     requires own { slice_get (own_declared (table_in s.now) (frame_at s.now frame.0)) so_far.old.item ≡ Some (declares_seen declares.now) }
     requires so_far { IsWalk s.now so_far.old.walk }
-    ensures joined { IfOk result (λ _. joined_member (own_inherited (frame_at s.now frame.0) so_far.old.item (declares_seen declares.now)) (walk_seen (frames_of s.now) so_far.old.walk) ≡ Ok (walk_seen (frames_of s.now) so_far.new.walk)) }
+    ensures joined { IfOk result (λ _. joined_member (own_inherited (frame_at s.now frame.0) so_far.old.item (declares_seen declares.now)) (walk_at s.now so_far.old.walk) ≡ Ok (walk_at s.now so_far.new.walk)) }
     ensures further { IfOk result (λ _. IsFurther so_far.old so_far.new) }
     ensures item { IfOk result (λ _. so_far.new.item ≡ so_far.old.item + 1) }
     ensures stand { IfOk result (λ _. IsWalk s.now so_far.new.walk) }
@@ -293,8 +293,8 @@ fn part_settled<'t>(
     requires own { IsOwnPart (table_in s.old) (frame_at s.old frame.0) so_far.old.item (part_seen part.now) }
     ensures grows { Grows s.old s.new }
     ensures known { IfOk result (λ _. AreSettled s.new known.new) }
-    ensures told { IfOk result (λ _. ToldFree (table_in s.old) so_far.new.classes so_far.new.deep (λ asking. walked_part (table_in s.old) asking (frame_at s.old frame.0) (row_at (table_in s.old) (class_of (frame_at s.old frame.0))) so_far.old.item (part_seen part.now) (walk_seen (frames_of s.old) so_far.old.walk)) (walk_seen (frames_of s.new) so_far.new.walk)) }
-    ensures owned { IfOk result (λ _. so_far.new.alike ≡ true → ToldOwned (table_in s.old) so_far.new.classes so_far.new.deep (frame_at s.old frame.0) (λ asking owned walk. walked_part (table_in s.old) asking owned (row_at (table_in s.old) (class_of (frame_at s.old frame.0))) so_far.old.item (part_seen part.now) walk) (walk_seen (frames_of s.old) so_far.old.walk) (walk_seen (frames_of s.new) so_far.new.walk)) }
+    ensures told { IfOk result (λ _. ToldFree (table_in s.old) so_far.new.classes so_far.new.deep (λ asking. walked_part (table_in s.old) asking (frame_at s.old frame.0) (row_of_frame s.old frame.0) so_far.old.item (part_seen part.now) (walk_at s.old so_far.old.walk)) (walk_at s.new so_far.new.walk)) }
+    ensures owned { IfOk result (λ _. so_far.new.alike ≡ true → ToldOwned (table_in s.old) so_far.new.classes so_far.new.deep (frame_at s.old frame.0) (λ asking owned walk. walked_part (table_in s.old) asking owned (row_of_frame s.old frame.0) so_far.old.item (part_seen part.now) walk) (walk_at s.old so_far.old.walk) (walk_at s.new so_far.new.walk)) }
     ensures further { IfOk result (λ _. IsFurther so_far.old so_far.new) }
     ensures item { IfOk result (λ _. so_far.new.item ≡ next_item (part_seen part.now) so_far.old.item) }
     ensures stand { IfOk result (λ _. IsWalk s.new so_far.new.walk) }
@@ -327,8 +327,8 @@ fn parts_settled<'t>(
     requires none { so_far.old.item ≡ 0 }
     ensures grows { Grows s.old s.new }
     ensures known { IfOk result (λ _. AreSettled s.new known.new) }
-    ensures told { IfOk result (λ _. ToldFree (table_in s.old) so_far.new.classes so_far.new.deep (λ asking. walked_parts_from (table_in s.old) asking (frame_at s.old frame.0) (row_at (table_in s.old) (class_of (frame_at s.old frame.0))) 0 (parts_of (row_at (table_in s.old) (class_of (frame_at s.old frame.0)))) (walk_seen (frames_of s.old) so_far.old.walk)) (walk_seen (frames_of s.new) so_far.new.walk)) }
-    ensures owned { IfOk result (λ _. so_far.new.alike ≡ true → ToldOwned (table_in s.old) so_far.new.classes so_far.new.deep (frame_at s.old frame.0) (λ asking owned walk. walked_parts_from (table_in s.old) asking owned (row_at (table_in s.old) (class_of (frame_at s.old frame.0))) 0 (parts_of (row_at (table_in s.old) (class_of (frame_at s.old frame.0)))) walk) (walk_seen (frames_of s.old) so_far.old.walk) (walk_seen (frames_of s.new) so_far.new.walk)) }
+    ensures told { IfOk result (λ _. ToldFree (table_in s.old) so_far.new.classes so_far.new.deep (λ asking. walked_parts_from (table_in s.old) asking (frame_at s.old frame.0) (row_of_frame s.old frame.0) 0 (parts_of (row_of_frame s.old frame.0)) (walk_at s.old so_far.old.walk)) (walk_at s.new so_far.new.walk)) }
+    ensures owned { IfOk result (λ _. so_far.new.alike ≡ true → ToldOwned (table_in s.old) so_far.new.classes so_far.new.deep (frame_at s.old frame.0) (λ asking owned walk. walked_parts_from (table_in s.old) asking owned (row_of_frame s.old frame.0) 0 (parts_of (row_of_frame s.old frame.0)) walk) (walk_at s.old so_far.old.walk) (walk_at s.new so_far.new.walk)) }
     ensures alike { IfOk result (λ _. so_far.new.alike ≡ true → so_far.old.alike ≡ true) }
     ensures stand { IfOk result (λ _. IsWalk s.new so_far.new.walk) }
 {
@@ -343,9 +343,9 @@ fn parts_settled<'t>(
 /// What the elements of a frame begin with.
 fn begun<'t>(alloc: Global, s: &Scopes<'t>, frame: FrameId) -> Result<Settling<'t>, Stop>
     requires { IsFrame s.now frame.0 }
-    ensures value { IfOk result (λ made. walk_started (frame_at s.now frame.0) (row_at (table_in s.now) (class_of (frame_at s.now frame.0))) ≡ Ok (walk_seen (frames_of s.now) made.walk)) }
+    ensures value { IfOk result (λ made. walk_started (frame_at s.now frame.0) (row_of_frame s.now frame.0) ≡ Ok (walk_at s.now made.walk)) }
     ensures none { IfOk result (λ made. made.item ≡ 0) }
-    ensures leaf { IfOk result (λ made. made.alike ≡ true → (walk_seen (frames_of s.now) made.walk).leaf ≡ None) }
+    ensures leaf { IfOk result (λ made. made.alike ≡ true → (walk_at s.now made.walk).leaf ≡ None) }
     ensures stand { IfOk result (λ made. IsWalk s.now made.walk) }
 {
     let walk = started(alloc, s, frame)?;
@@ -372,8 +372,8 @@ fn class_settled<'t>(
     requires known { AreSettled s.old known.old }
     ensures grows { Grows s.old s.new }
     ensures known { IfOk result (λ _. AreSettled s.new known.new) }
-    ensures told { IfOk result (λ made. ToldFree (table_in s.old) made.classes made.deep (λ asking. class_walked (table_in s.old) asking (frame_at s.old frame.0) (row_at (table_in s.old) (class_of (frame_at s.old frame.0)))) (walk_seen (frames_of s.new) made.walk)) }
-    ensures owned { IfOk result (λ made. made.alike ≡ true → ClassOwned (table_in s.old) made.classes made.deep (frame_at s.old frame.0) (walk_seen (frames_of s.new) made.walk)) }
+    ensures told { IfOk result (λ made. ToldFree (table_in s.old) made.classes made.deep (λ asking. class_walked (table_in s.old) asking (frame_at s.old frame.0) (row_of_frame s.old frame.0)) (walk_at s.new made.walk)) }
+    ensures owned { IfOk result (λ made. made.alike ≡ true → ClassOwned (table_in s.old) made.classes made.deep (frame_at s.old frame.0) (walk_at s.new made.walk)) }
     ensures stand { IfOk result (λ made. IsWalk s.new made.walk) }
 {
     let mut made = begun(alloc, s, frame)?;
@@ -391,8 +391,8 @@ fn put_settled<'t>(
 ) -> Result<(), Stop>
     requires frame { IsFrame s.now frame.0 }
     requires made { IsWalk s.now made.walk }
-    requires told { ToldFree (table_in s.now) made.classes made.deep (λ asking. class_walked (table_in s.now) asking (frame_at s.now frame.0) (row_at (table_in s.now) (class_of (frame_at s.now frame.0)))) (walk_seen (frames_of s.now) made.walk) }
-    requires owned { made.alike ≡ true → ClassOwned (table_in s.now) made.classes made.deep (frame_at s.now frame.0) (walk_seen (frames_of s.now) made.walk) }
+    requires told { ToldFree (table_in s.now) made.classes made.deep (λ asking. class_walked (table_in s.now) asking (frame_at s.now frame.0) (row_of_frame s.now frame.0)) (walk_at s.now made.walk) }
+    requires owned { made.alike ≡ true → ClassOwned (table_in s.now) made.classes made.deep (frame_at s.now frame.0) (walk_at s.now made.walk) }
     requires known { AreSettled s.now known.old }
     ensures { IfOk result (λ _. AreSettled s.now known.new) }
 {
@@ -449,9 +449,9 @@ fn settle<'t>(
 /// The walk, if it is that of the frame where no class is having its bases found.
 fn walk_if_free<'t>(s: &Scopes<'t>, frame: FrameId, made: Settling<'t>) -> Option<Walk<'t>>
     requires frame { IsFrame s.now frame.0 }
-    requires told { ToldFree (table_in s.now) made.classes made.deep (λ asking. class_walked (table_in s.now) asking (frame_at s.now frame.0) (row_at (table_in s.now) (class_of (frame_at s.now frame.0)))) (walk_seen (frames_of s.now) made.walk) }
+    requires told { ToldFree (table_in s.now) made.classes made.deep (λ asking. class_walked (table_in s.now) asking (frame_at s.now frame.0) (row_of_frame s.now frame.0)) (walk_at s.now made.walk) }
     requires stand { IsWalk s.now made.walk }
-    ensures is { IfSome result (λ walk. (place : PlaceAt) → (asking_of (table_in s.now)).elements place (frame_at s.now frame.0) ≡ Ok (walk_seen (frames_of s.now) walk)) }
+    ensures is { IfSome result (λ walk. (place : PlaceAt) → (asking_of (table_in s.now)).elements place (frame_at s.now frame.0) ≡ Ok (walk_at s.now walk)) }
     ensures stand { IfSome result (IsWalk s.now) }
 {
     if is_busy(made.classes.as_slice(), s.class_of(frame)) {
@@ -473,7 +473,7 @@ fn settled_walk<'t>(
 ) -> Result<Option<Walk<'t>>, NoMemory>
     requires { IsFrame s.old frame.0 }
     ensures grows { Grows s.old s.new }
-    ensures is { IfOk result (λ walk. IfSome walk (λ walk. (place : PlaceAt) → (asking_of (table_in s.old)).elements place (frame_at s.old frame.0) ≡ Ok (walk_seen (frames_of s.new) walk))) }
+    ensures is { IfOk result (λ walk. IfSome walk (λ walk. (place : PlaceAt) → (asking_of (table_in s.old)).elements place (frame_at s.old frame.0) ≡ Ok (walk_at s.new walk))) }
     ensures stand { IfOk result (λ walk. IfSome walk (IsWalk s.new)) }
 {
     let mut known = List::new(alloc);
@@ -509,10 +509,10 @@ fn owned_if_free<'t>(
     made: Settling<'t>,
 ) -> Result<Option<Walk<'t>>, NoMemory>
     requires frame { IsFrame s.old frame.0 }
-    requires told { made.alike ≡ true → ToldFree (table_in s.old) made.classes made.deep (λ asking. class_walked (table_in s.old) asking (frame_at s.old frame.0) (row_at (table_in s.old) (class_of (frame_at s.old frame.0)))) (owned_walk (frame_at s.old frame.0) (walk_seen (frames_of s.old) made.walk)) }
+    requires told { made.alike ≡ true → ToldFree (table_in s.old) made.classes made.deep (λ asking. class_walked (table_in s.old) asking (frame_at s.old frame.0) (row_of_frame s.old frame.0)) (owned_walk (frame_at s.old frame.0) (walk_at s.old made.walk)) }
     requires stand { IsWalk s.old made.walk }
     ensures grows { Grows s.old s.new }
-    ensures is { IfOk result (λ walk. IfSome walk (λ walk. (place : PlaceAt) → (asking_of (table_in s.old)).elements place (frame_at s.old frame.0) ≡ Ok (walk_seen (frames_of s.new) walk))) }
+    ensures is { IfOk result (λ walk. IfSome walk (λ walk. (place : PlaceAt) → (asking_of (table_in s.old)).elements place (frame_at s.old frame.0) ≡ Ok (walk_at s.new walk))) }
     ensures stand { IfOk result (λ walk. IfSome walk (IsWalk s.new)) }
 {
     if !is_so_freely(s, frame, &made) {
@@ -535,7 +535,7 @@ fn owned_settled<'t>(
 ) -> Result<Option<Walk<'t>>, NoMemory>
     requires { IsFrame s.old frame.0 }
     ensures grows { Grows s.old s.new }
-    ensures is { IfOk result (λ walk. IfSome walk (λ walk. (place : PlaceAt) → (asking_of (table_in s.old)).elements place (frame_at s.old frame.0) ≡ Ok (walk_seen (frames_of s.new) walk))) }
+    ensures is { IfOk result (λ walk. IfSome walk (λ walk. (place : PlaceAt) → (asking_of (table_in s.old)).elements place (frame_at s.old frame.0) ≡ Ok (walk_at s.new walk))) }
     ensures stand { IfOk result (λ walk. IfSome walk (IsWalk s.new)) }
 {
     if !s.sources(frame).is_empty() {
@@ -562,7 +562,7 @@ pub(crate) fn walked_once<'t>(
 ) -> Result<Option<Walk<'t>>, NoMemory>
     requires { IsFrame s.old frame.0 }
     ensures grows { Grows s.old s.new }
-    ensures is { IfOk result (λ walk. IfSome walk (λ walk. (place : PlaceAt) → (asking_of (table_in s.old)).elements place (frame_at s.old frame.0) ≡ Ok (walk_seen (frames_of s.new) walk))) }
+    ensures is { IfOk result (λ walk. IfSome walk (λ walk. (place : PlaceAt) → (asking_of (table_in s.old)).elements place (frame_at s.old frame.0) ≡ Ok (walk_at s.new walk))) }
     ensures stand { IfOk result (λ walk. IfSome walk (IsWalk s.new)) }
 {
     if is_unowned(s, frame) {

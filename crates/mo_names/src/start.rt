@@ -4,12 +4,12 @@ ghost use Rattle.mo_scope.specs.Entries.{names_of as path_names, number_of};
 ghost use Rattle.mo_scope.specs.Frames.{Frame, In, Top, at_of, class_of, gathered, outer_of, owner_of_base};
 ghost use Rattle.mo_scope.specs.Lookup.{Walked, last_place as place_of_last, leaf_checked as checked_leaf, nothing_walked};
 ghost use Rattle.mo_scope.specs.Outcome.{Gives};
-ghost use Rattle.mo_scope.specs.Rows.{form_in, is_left_out as is_row_left_out, is_other_form, is_record, row_at};
-ghost use Rattle.mo_scope.specs.Sights.{clause_seen, row_seen, source_seen};
-ghost use Rattle.mo_scope.specs.Worlds.{AreFrames, Grows, IsFrame, IsFrameOrNone, World, frame_at, frame_in, frame_or_top, frames_of, sources_in, table_in};
+ghost use Rattle.mo_scope.specs.Rows.{form_in, is_left_out as is_row_left_out, is_other_form, is_record};
+ghost use Rattle.mo_scope.specs.Sights.{clause_seen, row_seen, source_seen, frame_at_or_top, sources_at};
+ghost use Rattle.mo_scope.specs.Worlds.{AreFrames, Grows, IsFrame, IsFrameOrNone, World, frame_at, frame_in, row_of_frame};
 ghost use Rattle.mo_syntax.specs.Outcome.{Outcome, and_then};
 ghost use Rattle.mo_syntax.specs.declared.class.Body.{out-Body};
-ghost use Rattle.mo_names.specs.Sights.{IsLeaf, IsWalk, walk_seen};
+ghost use Rattle.mo_names.specs.Sights.{IsLeaf, IsWalk, walk_seen, walk_at};
 ghost use Rattle.mo_names.specs.steps.Parts.{is_enumeration_form};
 ghost use Rattle.mo_names.specs.steps.Lookup.{entered_base, started as walk_started};
 
@@ -117,7 +117,7 @@ fn nothing<'t>(alloc: Global, leaf: Option<FrameId>) -> Result<Walk<'t>, NoMemor
 /// What the elements of a frame begin with.
 pub(crate) fn started<'t>(alloc: Global, s: &Scopes<'t>, frame: FrameId) -> Result<Walk<'t>, Stop>
     requires { IsFrame s.now frame.0 }
-    ensures value { Gives (walk_seen (frames_of s.now)) result (walk_started (frame_at s.now frame.0) (row_at (table_in s.now) (class_of (frame_at s.now frame.0)))) }
+    ensures value { Gives (walk_at s.now) result (walk_started (frame_at s.now frame.0) (row_of_frame s.now frame.0)) }
     ensures stand { IfOk result (IsWalk s.now) }
 {
     match s.row(s.class_of(frame)) {
@@ -137,7 +137,7 @@ pub(crate) fn started<'t>(alloc: Global, s: &Scopes<'t>, frame: FrameId) -> Resu
 /// Asks that a frame that ends at a leaf type has no elements.
 fn elements_checked(s: &Scopes, _leaf: FrameId, walk: &Walk) -> Result<(), Stop>
     requires { walk.now.leaf ≡ Some _leaf }
-    ensures { Gives (λ _. walk_seen (frames_of s.now) walk.now) result (checked_leaf (walk_seen (frames_of s.now) walk.now)) }
+    ensures { Gives (λ _. walk_at s.now walk.now) result (checked_leaf (walk_at s.now walk.now)) }
 {
     match walk.members.get(0) {
         Some(first) => Err(stop(rules::WRONG_KIND_OF_NAME, first.member.declares.place)),
@@ -147,7 +147,7 @@ fn elements_checked(s: &Scopes, _leaf: FrameId, walk: &Walk) -> Result<(), Stop>
 
 /// Asks that no leaf type has elements.
 pub(crate) fn leaf_checked(s: &Scopes, walk: &Walk) -> Result<(), Stop>
-    ensures { Gives (λ _. walk_seen (frames_of s.now) walk.now) result (checked_leaf (walk_seen (frames_of s.now) walk.now)) }
+    ensures { Gives (λ _. walk_at s.now walk.now) result (checked_leaf (walk_at s.now walk.now)) }
 {
     match walk.leaf {
         Some(leaf) => elements_checked(s, leaf, walk),
@@ -162,7 +162,7 @@ pub(crate) fn walk_checked<'t>(
     walk: Walk<'t>,
 ) -> Result<Walk<'t>, Stop>
     requires { IfOk done (λ _. IsWalk s.now walk) }
-    ensures value { (told : Outcome Walked) → Gives (λ _. walk_seen (frames_of s.now) walk.entry) done told → Gives (walk_seen (frames_of s.now)) result (and_then told checked_leaf) }
+    ensures value { (told : Outcome Walked) → Gives (λ _. walk_at s.now walk.entry) done told → Gives (walk_at s.now) result (and_then told checked_leaf) }
     ensures stand { IfOk result (IsWalk s.now) }
 {
     done?;
@@ -211,7 +211,7 @@ pub(crate) fn path_copied(
 /// The frame that owns what is a base of a frame: that frame, if it has a path or an owner.
 pub(crate) fn owner_of(s: &Scopes, frame: FrameId) -> Option<FrameId>
     requires { IsFrame s.now frame.0 }
-    ensures is { frame_or_top (frames_of s.now) (option_map number_of result) ≡ owner_of_base (frame_at s.now frame.0) }
+    ensures is { frame_at_or_top s.now result ≡ owner_of_base (frame_at s.now frame.0) }
     ensures exists { IsFrameOrNone s.now (option_map number_of result) }
 {
     if s.path(frame).is_some() {
@@ -247,7 +247,7 @@ fn base_anew<'t>(
     requires class { IsFrame s.old class.0 }
     requires sources { AreFrames s.old (map source_seen sources) }
     ensures grows { Grows s.old s.new }
-    ensures value { IfOk result (λ base. frame_at s.new base.0 ≡ In (class_of (frame_at s.old class.0)) (gathered (sources_in (frames_of s.old) (map source_seen sources.entry))) (outer_of (frame_at s.old class.0)) (at_of (frame_at s.old frame.0)) (owner_of_base (frame_at s.old frame.0))) }
+    ensures value { IfOk result (λ base. frame_at s.new base.0 ≡ In (class_of (frame_at s.old class.0)) (gathered (sources_at s.old sources.entry)) (outer_of (frame_at s.old class.0)) (at_of (frame_at s.old frame.0)) (owner_of_base (frame_at s.old frame.0))) }
     ensures stand { IfOk result (λ base. IsFrame s.new base.0) }
 {
     let at = path_copied(alloc, s.path(frame))?;
@@ -269,7 +269,7 @@ fn base_with<'t>(
     requires class { IsFrame s.old class.0 }
     requires sources { AreFrames s.old (map source_seen sources) }
     ensures grows { Grows s.old s.new }
-    ensures value { IfOk result (λ base. frame_at s.new base.0 ≡ In (class_of (frame_at s.old class.0)) (gathered (sources_in (frames_of s.old) (map source_seen sources.entry))) (outer_of (frame_at s.old class.0)) (at_of (frame_at s.old frame.0)) (owner_of_base (frame_at s.old frame.0))) }
+    ensures value { IfOk result (λ base. frame_at s.new base.0 ≡ In (class_of (frame_at s.old class.0)) (gathered (sources_at s.old sources.entry)) (outer_of (frame_at s.old class.0)) (at_of (frame_at s.old frame.0)) (owner_of_base (frame_at s.old frame.0))) }
     ensures stand { IfOk result (λ base. IsFrame s.new base.0) }
 {
     if !sources.is_empty() {
@@ -294,7 +294,7 @@ pub(crate) fn base_entered<'t>(
     requires frame { IsFrame s.old frame.0 }
     requires class { IsFrame s.old class.0 }
     ensures grows { Grows s.old s.new }
-    ensures value { IfOk result (λ base. frame_at s.new base.0 ≡ entered_base (frame_at s.old frame.0) (row_at (table_in s.old) (class_of (frame_at s.old frame.0))) (clause_seen clause.now) (frame_at s.old class.0)) }
+    ensures value { IfOk result (λ base. frame_at s.new base.0 ≡ entered_base (frame_at s.old frame.0) (row_of_frame s.old frame.0) (clause_seen clause.now) (frame_at s.old class.0)) }
     ensures stand { IfOk result (λ base. IsFrame s.new base.0) }
 {
     let sources = match s.row(s.class_of(frame)) {

@@ -6,8 +6,9 @@ ghost use Rattle.mo_scope.specs.Entries.{number_of};
 ghost use Rattle.mo_scope.specs.Frames.{Top, looked_up};
 ghost use Rattle.mo_scope.specs.Lookup.{at_top as found_at_top, predefined as found_predefined, type_names, predefined_function, Class as found_class, Time as found_time};
 ghost use Rattle.mo_scope.specs.Rows.{number_of_classes};
-ghost use Rattle.mo_scope.specs.Worlds.{Grows, IsFrame, IsFrameOrNone, frame_at, frame_or_top, frames_of, table_in};
-ghost use Rattle.mo_names.specs.Sights.{IsFound, found_in};
+ghost use Rattle.mo_scope.specs.Worlds.{Grows, IsFrame, IsFrameOrNone, frame_at, table_in};
+ghost use Rattle.mo_scope.specs.Sights.{frame_at_or_top};
+ghost use Rattle.mo_names.specs.Sights.{IsFound, found_at};
 
 use crate::found::Found;
 use crate::literals::{word_at, word_place};
@@ -50,7 +51,7 @@ pub(crate) fn looked_up_class<'t>(
     requires class { class.0 < number_of_classes (table_in s.old) }
     requires outer { IsFrameOrNone s.old (option_map number_of outer) }
     ensures grows { Grows s.old s.new }
-    ensures is { IfOk result (λ frame. frame_at s.new frame.0 ≡ looked_up class.0 [] (frame_or_top (frames_of s.old) (option_map number_of outer))) }
+    ensures is { IfOk result (λ frame. frame_at s.new frame.0 ≡ looked_up class.0 [] (frame_at_or_top s.old outer)) }
     ensures exists { IfOk result (λ frame. IsFrame s.new frame.0) }
 {
     match s.entered(class, outer) {
@@ -67,7 +68,7 @@ fn top_frame<'t>(
 ) -> Result<Option<Found<'t>>, NoMemory>
     requires class { class.0 < number_of_classes (table_in s.old) }
     ensures grows { Grows s.old s.new }
-    ensures is { IfOk result (λ found. option_map (found_in (frames_of s.new)) found ≡ Some (found_class (looked_up class.0 [] Top) false)) }
+    ensures is { IfOk result (λ found. option_map (found_at s.new) found ≡ Some (found_class (looked_up class.0 [] Top) false)) }
     ensures exists { IfOk result (λ found. IfSome found (IsFound s.new)) }
 {
     Ok(Some(Found::Class(looked_up_class(alloc, s, class, None)?, false)))
@@ -80,7 +81,7 @@ pub(crate) fn predefined<'t>(
     name: &Text,
 ) -> Result<Option<Found<'t>>, NoMemory>
     ensures grows { Grows s.old s.new }
-    ensures is { IfOk result (λ found. option_map (found_in (frames_of s.new)) found ≡ found_predefined name.now) }
+    ensures is { IfOk result (λ found. option_map (found_at s.new) found ≡ found_predefined name.now) }
     ensures exists { IfOk result (λ found. IfSome found (IsFound s.new)) }
 {
     match type_number(name) {
@@ -91,7 +92,7 @@ pub(crate) fn predefined<'t>(
 
 /// What a name that is no type finds.
 fn predefined_value<'t>(_s: &Scopes<'t>, name: &Text) -> Option<Found<'t>>
-    ensures is { option_map (found_in (frames_of _s.now)) result ≡ (if bytes_eq name.now (codes "time") then Some found_time else predefined_function (code_in functions name.now)) }
+    ensures is { option_map (found_at _s.now) result ≡ (if bytes_eq name.now (codes "time") then Some found_time else predefined_function (code_in functions name.now)) }
     ensures exists { IfSome result (IsFound _s.now) }
 {
     if name.as_str() == "time" {
@@ -110,7 +111,7 @@ pub(crate) fn at_top<'t>(
     name: &Text,
 ) -> Result<Option<Found<'t>>, NoMemory>
     ensures grows { Grows s.old s.new }
-    ensures is { IfOk result (λ found. option_map (found_in (frames_of s.new)) found ≡ found_at_top (table_in s.old) name.now) }
+    ensures is { IfOk result (λ found. option_map (found_at s.new) found ≡ found_at_top (table_in s.old) name.now) }
     ensures exists { IfOk result (λ found. IfSome found (IsFound s.new)) }
 {
     match s.top_class(name) {

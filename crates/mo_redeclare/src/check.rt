@@ -5,9 +5,9 @@ ghost use Rattle.std.specs.Prelude.{map};
 ghost use Rattle.mo_scope.specs.Outcome.{Gives};
 ghost use Rattle.mo_scope.specs.Places.{Every};
 ghost use Rattle.mo_scope.specs.Redeclarations.{each_checked, redeclaration_checked as redeclaration_is_checked, redeclarations_checked, redeclared_checked};
-ghost use Rattle.mo_scope.specs.Sights.{redeclaration_in};
 ghost use Rattle.mo_scope.specs.Worlds.{Grows, IsFrame, frame_at, frames_of, member_in, table_in};
-ghost use Rattle.mo_names.specs.Sights.{IsMember, IsWalk, member_of, walk_seen};
+ghost use Rattle.mo_scope.specs.Sights.{redeclaration_at, member_at};
+ghost use Rattle.mo_names.specs.Sights.{IsMember, IsWalk, walk_at};
 ghost use Rattle.mo_redeclare.specs.steps.Sights.{IsKept, IsNamed, IsRedeclaration, named_seen};
 ghost use Rattle.mo_redeclare.specs.steps.Comparing.{classes_checked as classes_are_checked, found_checked};
 
@@ -32,7 +32,7 @@ fn classes_checked<'t>(
     requires member { IsMember s.old member.now }
     requires redeclaration { IsRedeclaration s.old redeclaration.now }
     ensures grows { Grows s.old s.new }
-    ensures value { Gives (λ _. tt) result (classes_are_checked (table_in s.old) (member_of (frames_of s.old) member.now) (redeclaration_in (frames_of s.old) redeclaration.now)) }
+    ensures value { Gives (λ _. tt) result (classes_are_checked (table_in s.old) (member_at s.old member.now) (redeclaration_at s.old redeclaration.now)) }
 {
     let new = new_class(alloc, s, redeclaration)?;
     let wanted = constraining_class(alloc, s, member)?;
@@ -50,7 +50,7 @@ fn redeclaration_checked<'t>(
     requires member { IsMember s.old member.now }
     requires redeclaration { IsRedeclaration s.old redeclaration.now }
     ensures grows { Grows s.old s.new }
-    ensures value { Gives (λ _. tt) result (redeclaration_is_checked (table_in s.old) (member_of (frames_of s.old) member.now) (redeclaration_in (frames_of s.old) redeclaration.now)) }
+    ensures value { Gives (λ _. tt) result (redeclaration_is_checked (table_in s.old) (member_at s.old member.now) (redeclaration_at s.old redeclaration.now)) }
 {
     if !is_same(
         is_class(&redeclaration.declares),
@@ -118,7 +118,7 @@ fn walk_checked<'t>(
     requires frame { IsFrame s.old frame.0 }
     requires walk { IsWalk s.old walk.now }
     ensures grows { Grows s.old s.new }
-    ensures value { Gives (λ _. tt) result (redeclarations_checked (table_in s.old) (walk_seen (frames_of s.old) walk.now) (frame_at s.old frame.0)) }
+    ensures value { Gives (λ _. tt) result (redeclarations_checked (table_in s.old) (walk_at s.old walk.now) (frame_at s.old frame.0)) }
 {
     let redeclared = redeclared_in(alloc, s, frame)?;
     let members = all_elements(alloc, walk.members.as_slice())?;

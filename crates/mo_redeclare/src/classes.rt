@@ -9,9 +9,9 @@ ghost use Rattle.mo_scope.specs.Parts.{is_nothing as holds_nothing, with_list as
 ghost use Rattle.mo_scope.specs.Places.{Every};
 ghost use Rattle.mo_scope.specs.Redeclarations.{constraining_class as class_constraining, declared_class as class_declared, new_class as class_new};
 ghost use Rattle.mo_scope.specs.Rows.{number_of_classes};
-ghost use Rattle.mo_scope.specs.Sights.{modifiers_seen, redeclaration_in, source_seen};
-ghost use Rattle.mo_scope.specs.Worlds.{Grows, IsFrame, frame_at, frames_of, source_in, sources_in, table_in};
-ghost use Rattle.mo_names.specs.Sights.{IsMember, member_of};
+ghost use Rattle.mo_scope.specs.Sights.{modifiers_seen, source_seen, source_at, redeclaration_at, member_at};
+ghost use Rattle.mo_scope.specs.Worlds.{Grows, IsFrame, frame_at, source_in, sources_in, table_in};
+ghost use Rattle.mo_names.specs.Sights.{IsMember};
 ghost use Rattle.mo_redeclare.specs.steps.Sights.{IsRedeclaration};
 
 use crate::names::{class_at, class_at_home};
@@ -83,7 +83,7 @@ fn class_with_list<'t>(
     requires class { class.0 < number_of_classes (table_in s.old) }
     requires scope { IsFrame s.old redeclaration.now.source.scope.frame.0 }
     ensures grows { Grows s.old s.new }
-    ensures is { IfOk result (λ frame. frame_at s.new frame.0 ≡ looked_up class.0 (source_with_list (source_in (frames_of s.old) (source_seen redeclaration.now.source)) (modifiers_seen redeclaration.now.declares.own)) (frame_at s.old redeclaration.now.source.scope.frame.0)) }
+    ensures is { IfOk result (λ frame. frame_at s.new frame.0 ≡ looked_up class.0 (source_with_list (source_at s.old redeclaration.now.source) (modifiers_seen redeclaration.now.declares.own)) (frame_at s.old redeclaration.now.source.scope.frame.0)) }
     ensures exists { IfOk result (λ frame. IsFrame s.new frame.0) }
 {
     let sources = with_list(alloc, &redeclaration.source, redeclaration.declares.own)?;
@@ -99,7 +99,7 @@ pub(crate) fn new_class<'t>(
 ) -> Result<FrameId, Stop>
     requires { IsRedeclaration s.old redeclaration.now }
     ensures grows { Grows s.old s.new }
-    ensures value { Gives (λ class. frame_at s.new class.0) result (class_new (table_in s.old) (redeclaration_in (frames_of s.old) redeclaration.now)) }
+    ensures value { Gives (λ class. frame_at s.new class.0) result (class_new (table_in s.old) (redeclaration_at s.old redeclaration.now)) }
     ensures stand { IfOk result (λ class. IsFrame s.new class.0) }
 {
     match redeclaration.declares.sort {
@@ -140,7 +140,7 @@ fn declared_class<'t>(
 ) -> Result<FrameId, Stop>
     requires { IsMember s.old member.now }
     ensures grows { Grows s.old s.new }
-    ensures value { Gives (λ class. frame_at s.new class.0) result (class_declared (table_in s.old) (member_of (frames_of s.old) member.now)) }
+    ensures value { Gives (λ class. frame_at s.new class.0) result (class_declared (table_in s.old) (member_at s.old member.now)) }
     ensures stand { IfOk result (λ class. IsFrame s.new class.0) }
 {
     match member.declares.sort {
@@ -161,7 +161,7 @@ pub(crate) fn constraining_class<'t>(
 ) -> Result<FrameId, Stop>
     requires { IsMember s.old member.now }
     ensures grows { Grows s.old s.new }
-    ensures value { Gives (λ class. frame_at s.new class.0) result (class_constraining (table_in s.old) (member_of (frames_of s.old) member.now)) }
+    ensures value { Gives (λ class. frame_at s.new class.0) result (class_constraining (table_in s.old) (member_at s.old member.now)) }
     ensures stand { IfOk result (λ class. IsFrame s.new class.0) }
 {
     match member.declares.limit {

@@ -2,13 +2,15 @@
 #![tactic(auto, using(crate::proofs::Later::later))]
 
 ghost use Rattle.std.specs.Prelude.{◌≡◌, filter, map, option_map, IfOk};
-ghost use Rattle.mo_scope.specs.Compatible.{are_matched as are_all_matched, compared as walks_are_compared, compatible as is_compatible, compatible_from, is_matched as is_one_matched, is_pair as pair_is_among, with_pair as pair_put_before};
+ghost use Rattle.mo_scope.specs.Compatible.{are_matched as are_all_matched, compared as walks_are_compared, compatible_from, is_matched as is_one_matched, is_pair as pair_is_among, with_pair as pair_put_before};
 ghost use Rattle.mo_scope.specs.Outcome.{Gives};
 ghost use Rattle.mo_scope.specs.Places.{Every};
 ghost use Rattle.mo_scope.specs.Worlds.{Grows, IsFrame, frame_at, frames_of, member_in, table_in};
-ghost use Rattle.mo_names.specs.Sights.{IsInherited, IsLeaf, IsMember, IsWalk, inherited_seen, member_of, walk_seen};
+ghost use Rattle.mo_scope.specs.Sights.{member_at};
+ghost use Rattle.mo_names.specs.Sights.{IsInherited, IsLeaf, IsMember, IsWalk, inherited_seen, walk_at};
 ghost use Rattle.mo_redeclare.specs.steps.Sights.{IsKept, is_open};
 ghost use Rattle.mo_redeclare.specs.steps.Comparing.{both_walked as both_are_walked, components_compared as components_are_compared, element_matched as element_is_matched, leaves_compared as leaves_are_compared, pair_compared as pair_is_compared};
+ghost use Rattle.mo_redeclare.specs.Calls.{compatible_at};
 
 use crate::entering::entered_matching;
 use crate::known::{is_open_component, named, open_components};
@@ -68,7 +70,7 @@ fn both_walked<'t>(
     requires new { IsFrame s.old new.0 }
     requires wanted { IsFrame s.old wanted.0 }
     ensures grows { Grows s.old s.new }
-    ensures value { Gives (λ walks. (walk_seen (frames_of s.new) walks.0, walk_seen (frames_of s.new) walks.1)) result (both_are_walked (table_in s.old) (frame_at s.old new.0) (frame_at s.old wanted.0)) }
+    ensures value { Gives (λ walks. (walk_at s.new walks.0, walk_at s.new walks.1)) result (both_are_walked (table_in s.old) (frame_at s.old new.0) (frame_at s.old wanted.0)) }
     ensures stand { IfOk result (λ walks. IsWalk s.new walks.0 × IsWalk s.new walks.1) }
 {
     let walk = walk_of(alloc, s, new)?;
@@ -137,7 +139,7 @@ fn pair_compared<'t>(
     requires new { IsMember s.old new.now }
     requires wanted { IsMember s.old wanted.now }
     ensures grows { Grows s.old s.new }
-    ensures value { Gives (λ _. tt) result (pair_is_compared (table_in s.old) (compatible_from (table_in s.old) at.now.left at.now.place at.now.pairs.now) at.now.place (member_of (frames_of s.old) new.now) (member_of (frames_of s.old) wanted.now)) }
+    ensures value { Gives (λ _. tt) result (pair_is_compared (table_in s.old) (compatible_from (table_in s.old) at.now.left at.now.place at.now.pairs.now) at.now.place (member_at s.old new.now) (member_at s.old wanted.now)) }
 {
     let (frame, other) = entered_matching(alloc, s, at.place, new, wanted)?;
     frames_compared(alloc, s, at, frame, other)
@@ -156,7 +158,7 @@ fn is_matched<'t>(
     requires public { members.now ≡ filter is_open members.now }
     requires wanted { IsMember s.old wanted.now }
     ensures grows { Grows s.old s.new }
-    ensures value { Gives (λ _. tt) result (is_one_matched (table_in s.old) (compatible_from (table_in s.old) at.now.left at.now.place at.now.pairs.now) at.now.place (map (member_in (frames_of s.old)) members.now) (member_of (frames_of s.old) wanted.now)) }
+    ensures value { Gives (λ _. tt) result (is_one_matched (table_in s.old) (compatible_from (table_in s.old) at.now.left at.now.place at.now.pairs.now) at.now.place (map (member_in (frames_of s.old)) members.now) (member_at s.old wanted.now)) }
 {
     match named(s, members, wanted.name) {
         Some(new) => pair_compared(alloc, s, at, &new, wanted),
@@ -177,7 +179,7 @@ fn element_matched<'t>(
     requires public { members.now ≡ filter is_open members.now }
     requires wanted { IsMember s.old wanted.now }
     ensures grows { Grows s.old s.new }
-    ensures value { Gives (λ _. tt) result (element_is_matched (table_in s.old) (compatible_from (table_in s.old) at.now.left at.now.place at.now.pairs.now) at.now.place (map (member_in (frames_of s.old)) members.now) (member_of (frames_of s.old) wanted.now)) }
+    ensures value { Gives (λ _. tt) result (element_is_matched (table_in s.old) (compatible_from (table_in s.old) at.now.left at.now.place at.now.pairs.now) at.now.place (map (member_in (frames_of s.old)) members.now) (member_at s.old wanted.now)) }
 {
     if is_open_component(wanted) {
         return is_matched(alloc, s, at, members, wanted);
@@ -264,7 +266,7 @@ fn walks_compared<'t>(
     requires new { IsWalk s.old new.now }
     requires wanted { IsWalk s.old wanted.now }
     ensures grows { Grows s.old s.new }
-    ensures value { Gives (λ _. tt) result (walks_are_compared (table_in s.old) (compatible_from (table_in s.old) at.now.left at.now.place at.now.pairs.now) at.now.place (walk_seen (frames_of s.old) new.now) (walk_seen (frames_of s.old) wanted.now)) }
+    ensures value { Gives (λ _. tt) result (walks_are_compared (table_in s.old) (compatible_from (table_in s.old) at.now.left at.now.place at.now.pairs.now) at.now.place (walk_at s.old new.now) (walk_at s.old wanted.now)) }
 {
     let no_leaves = leaves_compared(s, at.place, new.leaf, wanted.leaf)?;
     if no_leaves {
@@ -310,7 +312,7 @@ pub fn compatible<'t>(
     requires new { IsFrame s.old new.0 }
     requires wanted { IsFrame s.old wanted.0 }
     ensures grows { Grows s.old s.new }
-    ensures value { Gives (λ _. tt) result (is_compatible (table_in s.old) place (frame_at s.old new.0) (frame_at s.old wanted.0)) }
+    ensures value { Gives (λ _. tt) result (compatible_at s.old place new.0 wanted.0) }
 {
     let classes = s.class_count().checked_add(6).ok_or(NoMemory)?;
     let left = classes.checked_mul(classes).ok_or(NoMemory)?;

@@ -5,15 +5,16 @@ ghost use Rattle.std.specs.Prelude.{◌≡◌, ◌<◌, ◌∷◌, [], List as S
 ghost use Rattle.mo_scope.specs.Compatible.{dimensions_of};
 ghost use Rattle.mo_scope.specs.Names.{clauses_of};
 ghost use Rattle.mo_scope.specs.Outcome.{Gives};
-ghost use Rattle.mo_scope.specs.Rows.{component_of as component_declared, form_in, row_at};
+ghost use Rattle.mo_scope.specs.Rows.{component_of as component_declared, form_in};
 ghost use Rattle.mo_scope.specs.Sizes.{count_sizes, declared_sizes, first_base as base_first, type_sizes};
-ghost use Rattle.mo_scope.specs.Frames.{Frame, class_of};
-ghost use Rattle.mo_scope.specs.Sights.{declares_seen, redeclaration_in};
-ghost use Rattle.mo_scope.specs.Worlds.{Grows, IsFrame, frame_at, frames_of, table_in};
+ghost use Rattle.mo_scope.specs.Frames.{Frame};
+ghost use Rattle.mo_scope.specs.Sights.{declares_seen, redeclaration_in, member_at};
+ghost use Rattle.mo_scope.specs.Worlds.{Grows, IsFrame, frame_at, frames_of, table_in, row_of_frame};
 ghost use Rattle.mo_syntax.specs.declared.class.Body.{out-Body};
-ghost use Rattle.mo_names.specs.Children.{IsChild, child_seen};
+ghost use Rattle.mo_names.specs.Children.{IsChild, child_at};
 ghost use Rattle.mo_names.specs.Sights.{IsMember, member_of};
 ghost use Rattle.mo_redeclare.specs.steps.Ways.{count_declared, count_redeclared, step_of, step_of_long, step_of_short, step_seen, way_of_form, way_of_row};
+ghost use Rattle.mo_redeclare.specs.Calls.{dimensions_at};
 
 use mo_bases::{first_base, is_leaf, leaf_base};
 use mo_names::Child;
@@ -133,7 +134,7 @@ fn way_in(body: &Body) -> Way
 /// Where the dimensions of the class of a frame are looked for.
 fn way_of(s: &Scopes, frame: FrameId) -> Way
     requires { IsFrame s.now frame.0 }
-    ensures { result ≡ way_of_row (row_at (table_in s.now) (class_of (frame_at s.now frame.0))) }
+    ensures { result ≡ way_of_row (row_of_frame s.now frame.0) }
 {
     match s.row(s.class_of(frame)) {
         Some(row) => way_in(&row.class.body),
@@ -191,7 +192,7 @@ pub fn dimension_count<'t>(
     requires member { IsMember s.old member.now }
     requires child { IsChild s.old child.now }
     ensures grows { Grows s.old s.new }
-    ensures value { IfOk result (λ count. count ≡ dimensions_of (table_in s.old) (member_of (frames_of s.old) member.now) (child_seen (frames_of s.old) child.now)) }
+    ensures value { IfOk result (λ count. count ≡ dimensions_at s.old member.now child.now) }
 {
     let own = own_count(member, child)?;
     let more = type_count(alloc, s, child.class)?;
@@ -208,7 +209,7 @@ pub(crate) fn same_counts<'t>(
     requires new { IsMember s.old new.0.now × IsChild s.old new.1.now }
     requires wanted { IsMember s.old wanted.0.now × IsChild s.old wanted.1.now }
     ensures grows { Grows s.old s.new }
-    ensures value { IfOk result (λ same. same ≡ nat_eq (dimensions_of (table_in s.old) (member_of (frames_of s.old) new.entry.0.now) (child_seen (frames_of s.old) new.entry.1.now)) (dimensions_of (table_in s.old) (member_of (frames_of s.old) wanted.entry.0.now) (child_seen (frames_of s.old) wanted.entry.1.now))) }
+    ensures value { IfOk result (λ same. same ≡ nat_eq (dimensions_of (table_in s.old) (member_at s.old new.entry.0.now) (child_at s.old new.entry.1.now)) (dimensions_of (table_in s.old) (member_at s.old wanted.entry.0.now) (child_at s.old wanted.entry.1.now))) }
 {
     let count = dimension_count(alloc, s, new.0, new.1)?;
     let other = dimension_count(alloc, s, wanted.0, wanted.1)?;

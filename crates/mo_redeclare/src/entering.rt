@@ -4,9 +4,10 @@
 ghost use Rattle.std.specs.Prelude.{◌≡◌, [], IfOk};
 ghost use Rattle.mo_scope.specs.Names.{component_frame};
 ghost use Rattle.mo_scope.specs.Outcome.{Gives};
-ghost use Rattle.mo_scope.specs.Worlds.{Grows, IsFrame, frame_at, frames_of, table_in};
-ghost use Rattle.mo_names.specs.Children.{IsChild, child_seen};
-ghost use Rattle.mo_names.specs.Sights.{IsMember, member_of};
+ghost use Rattle.mo_scope.specs.Worlds.{Grows, IsFrame, frame_at, table_in};
+ghost use Rattle.mo_scope.specs.Sights.{member_at};
+ghost use Rattle.mo_names.specs.Children.{IsChild, child_at};
+ghost use Rattle.mo_names.specs.Sights.{IsMember};
 ghost use Rattle.mo_redeclare.specs.steps.Comparing.{children_of as both_children, entered_alike as both_alike, entered_if_alike as both_if_alike, entered_matching as both_matching, frames_entered};
 
 use crate::dims::same_counts;
@@ -26,7 +27,7 @@ fn children_of<'t>(
     requires new { IsMember s.old new.now }
     requires wanted { IsMember s.old wanted.now }
     ensures grows { Grows s.old s.new }
-    ensures value { Gives (λ children. (child_seen (frames_of s.new) children.0, child_seen (frames_of s.new) children.1)) result (both_children (table_in s.old) (member_of (frames_of s.old) new.now) (member_of (frames_of s.old) wanted.now)) }
+    ensures value { Gives (λ children. (child_at s.new children.0, child_at s.new children.1)) result (both_children (table_in s.old) (member_at s.old new.now) (member_at s.old wanted.now)) }
     ensures stand { IfOk result (λ children. IsChild s.new children.0 × IsChild s.new children.1) }
 {
     let child = child_of_member(alloc, s, new, &[])?;
@@ -44,8 +45,8 @@ fn enter_both<'t>(
     requires new { IsMember s.old new.0.now × IsChild s.old new.1 }
     requires wanted { IsMember s.old wanted.0.now × IsChild s.old wanted.1 }
     ensures grows { Grows s.old s.new }
-    ensures new { IfOk result (λ frames. frame_at s.new frames.0.0 ≡ component_frame (member_of (frames_of s.old) new.entry.0.now) [] (child_seen (frames_of s.old) new.entry.1)) }
-    ensures wanted { IfOk result (λ frames. frame_at s.new frames.1.0 ≡ component_frame (member_of (frames_of s.old) wanted.entry.0.now) [] (child_seen (frames_of s.old) wanted.entry.1)) }
+    ensures new { IfOk result (λ frames. frame_at s.new frames.0.0 ≡ component_frame (member_at s.old new.entry.0.now) [] (child_at s.old new.entry.1)) }
+    ensures wanted { IfOk result (λ frames. frame_at s.new frames.1.0 ≡ component_frame (member_at s.old wanted.entry.0.now) [] (child_at s.old wanted.entry.1)) }
     ensures stand { IfOk result (λ frames. IsFrame s.new frames.0.0 × IsFrame s.new frames.1.0) }
 {
     let (member, child) = new;
@@ -65,7 +66,7 @@ fn both_entered<'t>(
     requires new { IsMember s.old new.0.now × IsChild s.old new.1 }
     requires wanted { IsMember s.old wanted.0.now × IsChild s.old wanted.1 }
     ensures grows { Grows s.old s.new }
-    ensures value { Gives (λ frames. (frame_at s.new frames.0.0, frame_at s.new frames.1.0)) result (frames_entered (component_frame (member_of (frames_of s.old) new.entry.0.now) [] (child_seen (frames_of s.old) new.entry.1)) (component_frame (member_of (frames_of s.old) wanted.entry.0.now) [] (child_seen (frames_of s.old) wanted.entry.1))) }
+    ensures value { Gives (λ frames. (frame_at s.new frames.0.0, frame_at s.new frames.1.0)) result (frames_entered (component_frame (member_at s.old new.entry.0.now) [] (child_at s.old new.entry.1)) (component_frame (member_at s.old wanted.entry.0.now) [] (child_at s.old wanted.entry.1))) }
     ensures stand { IfOk result (λ frames. IsFrame s.new frames.0.0 × IsFrame s.new frames.1.0) }
 {
     Ok(enter_both(alloc, s, new, wanted)?)
@@ -82,7 +83,7 @@ fn entered_if_alike<'t>(
     requires new { IsMember s.old new.0.now × IsChild s.old new.1 }
     requires wanted { IsMember s.old wanted.0.now × IsChild s.old wanted.1 }
     ensures grows { Grows s.old s.new }
-    ensures value { Gives (λ frames. (frame_at s.new frames.0.0, frame_at s.new frames.1.0)) result (both_if_alike (table_in s.old) place (member_of (frames_of s.old) new.entry.0.now) (child_seen (frames_of s.old) new.entry.1) (member_of (frames_of s.old) wanted.entry.0.now) (child_seen (frames_of s.old) wanted.entry.1)) }
+    ensures value { Gives (λ frames. (frame_at s.new frames.0.0, frame_at s.new frames.1.0)) result (both_if_alike (table_in s.old) place (member_at s.old new.entry.0.now) (child_at s.old new.entry.1) (member_at s.old wanted.entry.0.now) (child_at s.old wanted.entry.1)) }
     ensures stand { IfOk result (λ frames. IsFrame s.new frames.0.0 × IsFrame s.new frames.1.0) }
 {
     let same = same_counts(alloc, s, (new.0, &new.1), (wanted.0, &wanted.1))?;
@@ -103,7 +104,7 @@ fn entered_alike<'t>(
     requires new { IsMember s.old new.now }
     requires wanted { IsMember s.old wanted.now }
     ensures grows { Grows s.old s.new }
-    ensures value { Gives (λ frames. (frame_at s.new frames.0.0, frame_at s.new frames.1.0)) result (both_alike (table_in s.old) place (member_of (frames_of s.old) new.now) (member_of (frames_of s.old) wanted.now)) }
+    ensures value { Gives (λ frames. (frame_at s.new frames.0.0, frame_at s.new frames.1.0)) result (both_alike (table_in s.old) place (member_at s.old new.now) (member_at s.old wanted.now)) }
     ensures stand { IfOk result (λ frames. IsFrame s.new frames.0.0 × IsFrame s.new frames.1.0) }
 {
     let (child, other) = children_of(alloc, s, new, wanted)?;
@@ -121,7 +122,7 @@ pub(crate) fn entered_matching<'t>(
     requires new { IsMember s.old new.now }
     requires wanted { IsMember s.old wanted.now }
     ensures grows { Grows s.old s.new }
-    ensures value { Gives (λ frames. (frame_at s.new frames.0.0, frame_at s.new frames.1.0)) result (both_matching (table_in s.old) place (member_of (frames_of s.old) new.now) (member_of (frames_of s.old) wanted.now)) }
+    ensures value { Gives (λ frames. (frame_at s.new frames.0.0, frame_at s.new frames.1.0)) result (both_matching (table_in s.old) place (member_at s.old new.now) (member_at s.old wanted.now)) }
     ensures stand { IfOk result (λ frames. IsFrame s.new frames.0.0 × IsFrame s.new frames.1.0) }
 {
     let prefix = prefix_of(alloc, s, new)?;

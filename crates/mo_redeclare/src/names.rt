@@ -4,8 +4,8 @@
 ghost use Rattle.std.specs.Prelude.{◌≡◌, IfOk};
 ghost use Rattle.mo_scope.specs.Names.{scope_of_home};
 ghost use Rattle.mo_scope.specs.Outcome.{Gives};
-ghost use Rattle.mo_scope.specs.Sights.{member_seen};
-ghost use Rattle.mo_scope.specs.Worlds.{Grows, IsFrame, frame_at, frames_of, member_in, scope_in, table_in};
+ghost use Rattle.mo_scope.specs.Worlds.{Grows, IsFrame, frame_at, table_in};
+ghost use Rattle.mo_scope.specs.Sights.{scope_at, member_at};
 ghost use Rattle.mo_redeclare.specs.steps.Comparing.{class_at as class_found};
 
 use mo_names::{Found, find_path};
@@ -22,16 +22,17 @@ pub(crate) fn class_at<'t>(
 ) -> Result<FrameId, Stop>
     requires { IsFrame s.old scope.now.frame.0 }
     ensures grows { Grows s.old s.new }
-    ensures value { Gives (λ class. frame_at s.new class.0) result (class_found (table_in s.old) (scope_in (frames_of s.old) scope.now.frame.0 scope.now.iters) name.now) }
+    ensures value { Gives (λ class. frame_at s.new class.0) result (class_found (table_in s.old) (scope_at s.old scope.now) name.now) }
     ensures stand { IfOk result (λ class. IsFrame s.new class.0) }
 {
-    match find_path(alloc, s, scope, name, true)? {
-        Found::Class(frame, _) => Ok(frame),
-        Found::Component(_, _)
-        | Found::Literal(_, _)
-        | Found::Iteration(_)
-        | Found::Function(_)
-        | Found::Time => unreachable!(),
+    match find_path(alloc, s, scope, name, true) {
+        Ok(Found::Class(frame, _)) => Ok(frame),
+        Ok(Found::Component(_, _))
+        | Ok(Found::Literal(_, _))
+        | Ok(Found::Iteration(_))
+        | Ok(Found::Function(_))
+        | Ok(Found::Time) => unreachable!(),
+        Err(stop) => Err(stop),
     }
 }
 
@@ -44,7 +45,7 @@ pub(crate) fn class_at_home<'t>(
 ) -> Result<FrameId, Stop>
     requires { IsFrame s.old member.now.home.0 }
     ensures grows { Grows s.old s.new }
-    ensures value { Gives (λ class. frame_at s.new class.0) result (class_found (table_in s.old) (scope_of_home (member_in (frames_of s.old) (member_seen member.now))) name.now) }
+    ensures value { Gives (λ class. frame_at s.new class.0) result (class_found (table_in s.old) (scope_of_home (member_at s.old member.now)) name.now) }
     ensures stand { IfOk result (λ class. IsFrame s.new class.0) }
 {
     let scope = ScopeAt {

@@ -2,9 +2,9 @@
 ghost use Rattle.std.specs.Prelude.{◌≡◌, IfOk};
 ghost use Rattle.mo_scope.specs.Compatible.{bool_eq, causal_eq, no_prefix as without_prefix, prefix_in as declared_prefix, prefix_of as prefix_of_member, same_prefixes as are_same_prefixes};
 ghost use Rattle.mo_scope.specs.Rows.{component_of as component_declared};
-ghost use Rattle.mo_scope.specs.Sights.{declares_seen, member_seen};
+ghost use Rattle.mo_scope.specs.Sights.{declares_seen, member_at};
 ghost use Rattle.mo_scope.specs.Sizes.{or_causal as causality_over, or_vary as variability_over, prefix_over as prefix_put_over};
-ghost use Rattle.mo_scope.specs.Worlds.{IsFrame, frames_of, member_in, table_in};
+ghost use Rattle.mo_scope.specs.Worlds.{IsFrame, table_in};
 
 use mo_scope::{Declares, Member, Scopes, component_of};
 use mo_syntax::{Causal, NoMemory, Prefix, Vary};
@@ -67,7 +67,7 @@ fn prefix_over(new: Prefix, original: Prefix) -> Prefix
 /// The declared prefixes of a component, with those of the redeclaration that wins.
 pub fn prefix_of<'t>(alloc: Global, s: &Scopes<'t>, member: &Member<'t>) -> Result<Prefix, NoMemory>
     requires { IsFrame s.now member.now.home.0 }
-    ensures { IfOk result (λ prefix. prefix ≡ prefix_of_member (table_in s.now) (member_in (frames_of s.now) (member_seen member.now))) }
+    ensures { IfOk result (λ prefix. prefix ≡ prefix_of_member (table_in s.now) (member_at s.now member.now)) }
 {
     let original = prefix_in(&member.declares);
     match s.redeclared(alloc, member.home, member.name, &[])? {

@@ -3,8 +3,8 @@ ghost use Rattle.std.specs.Prelude.{◌≡◌, ◌&&◌, ◌||◌, not, List as 
 ghost use Rattle.mo_scope.specs.Frames.{Frame};
 ghost use Rattle.mo_scope.specs.Redeclarations.{is_replaceable_for as replaceable_for};
 ghost use Rattle.mo_scope.specs.Rows.{place_eq};
-ghost use Rattle.mo_scope.specs.Sights.{member_seen, redeclaration_in};
-ghost use Rattle.mo_scope.specs.Worlds.{IsFrame, frames_of, member_in, table_in};
+ghost use Rattle.mo_scope.specs.Sights.{redeclaration_in, redeclaration_at, member_at};
+ghost use Rattle.mo_scope.specs.Worlds.{IsFrame, table_in};
 ghost use Rattle.mo_redeclare.specs.steps.Comparing.{kept_behind};
 
 use mo_scope::{Member, Redeclaration, Scopes};
@@ -54,7 +54,7 @@ pub(crate) fn is_replaceable_for<'t>(
     redeclaration: &Redeclaration<'t>,
 ) -> Result<bool, NoMemory>
     requires { IsFrame s.now member.now.home.0 }
-    ensures { IfOk result (λ is. is ≡ replaceable_for (table_in s.now) (member_in (frames_of s.now) (member_seen member.now)) (redeclaration_in (frames_of s.now) redeclaration.now)) }
+    ensures { IfOk result (λ is. is ≡ replaceable_for (table_in s.now) (member_at s.now member.now) (redeclaration_at s.now redeclaration.now)) }
 {
     if !member.declares.flags.replaceable {
         return Ok(false);

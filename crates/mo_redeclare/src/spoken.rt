@@ -5,7 +5,7 @@ ghost use Rattle.mo_scope.specs.Frames.{Argued, Frame, sources_of};
 ghost use Rattle.mo_scope.specs.Parts.{behind_name, declared_in, pending_behind as pending_indices, redeclarations_in, said_behind};
 ghost use Rattle.mo_scope.specs.Places.{Every};
 ghost use Rattle.mo_scope.specs.Rows.{replacing_in};
-ghost use Rattle.mo_scope.specs.Sights.{given_seen, source_seen};
+ghost use Rattle.mo_scope.specs.Sights.{given_seen, source_seen, source_at};
 ghost use Rattle.mo_scope.specs.Spoken.{spoken_argument as argument_spoken, spoken_element as element_spoken, spoken_in, spoken_of, spoken_rest as rest_spoken};
 ghost use Rattle.mo_scope.specs.Worlds.{IsFrame, frame_at, frames_of, source_in, table_in};
 ghost use Rattle.mo_redeclare.specs.steps.Sights.{IsNamed, named_seen};
@@ -106,7 +106,7 @@ fn argument_behind<'t>(
     passing: &Passing<'t>,
 ) -> Result<Option<Named<'t>>, NoMemory>
     requires { IsFrame s.now source.now.scope.frame.0 }
-    ensures are { IfOk result (λ found. map (named_seen (frames_of s.now)) (option_to_list found) ≡ map (λ redeclaration. (passing.now.name.now, redeclaration)) (redeclarations_in (said_behind (table_in s.now) argument.now passed (behind_name (source_in (frames_of s.now) (source_seen source.now)) passing.now.name.now (pending_indices passing.now.each source.now.pending []) passing.now.last (Argued argument.now passed)) ∷ []))) }
+    ensures are { IfOk result (λ found. map (named_seen (frames_of s.now)) (option_to_list found) ≡ map (λ redeclaration. (passing.now.name.now, redeclaration)) (redeclarations_in (said_behind (table_in s.now) argument.now passed (behind_name (source_at s.now source.now) passing.now.name.now (pending_indices passing.now.each source.now.pending []) passing.now.last (Argued argument.now passed)) ∷ []))) }
     ensures exist { IfOk result (λ found. Every (IsNamed s.now) (option_to_list found)) }
 {
     if passed < argument.name.0.len() {
@@ -138,7 +138,7 @@ fn spoken_argument<'t>(
     argument: &'t Argument,
 ) -> Result<Option<Named<'t>>, NoMemory>
     requires { IsFrame s.now source.now.scope.frame.0 }
-    ensures are { IfOk result (λ found. map (named_seen (frames_of s.now)) (option_to_list found) ≡ redeclares_in (argument_spoken (table_in s.now) (source_in (frames_of s.now) (source_seen source.now)) argument.now)) }
+    ensures are { IfOk result (λ found. map (named_seen (frames_of s.now)) (option_to_list found) ≡ redeclares_in (argument_spoken (table_in s.now) (source_at s.now source.now) argument.now)) }
     ensures exist { IfOk result (λ found. Every (IsNamed s.now) (option_to_list found)) }
 {
     match argument.name.0.get(0) {
@@ -163,7 +163,7 @@ fn spoken_rest<'t>(
     passed: usize,
 ) -> Result<Option<Named<'t>>, NoMemory>
     requires { IsFrame s.now source.now.scope.frame.0 }
-    ensures are { IfOk result (λ found. map (named_seen (frames_of s.now)) (option_to_list found) ≡ redeclares_in (rest_spoken (table_in s.now) (source_in (frames_of s.now) (source_seen source.now)) argument.now passed)) }
+    ensures are { IfOk result (λ found. map (named_seen (frames_of s.now)) (option_to_list found) ≡ redeclares_in (rest_spoken (table_in s.now) (source_at s.now source.now) argument.now passed)) }
     ensures exist { IfOk result (λ found. Every (IsNamed s.now) (option_to_list found)) }
 {
     let names = argument.name.0.as_slice();
@@ -186,7 +186,7 @@ fn spoken_element<'t>(
     element: &'t Element,
 ) -> Result<Named<'t>, NoMemory>
     requires { IsFrame s.now source.now.scope.frame.0 }
-    ensures is { IfOk result (λ made. named_seen (frames_of s.now) made ∷ [] ≡ redeclares_in (element_spoken (table_in s.now) (source_in (frames_of s.now) (source_seen source.now)) (declared_in (table_in s.now) element.now))) }
+    ensures is { IfOk result (λ made. named_seen (frames_of s.now) made ∷ [] ≡ redeclares_in (element_spoken (table_in s.now) (source_at s.now source.now) (declared_in (table_in s.now) element.now))) }
     ensures exists { IfOk result (IsNamed s.now) }
 {
     let declares = s.declared(element);
@@ -215,7 +215,7 @@ fn spoken_item<'t>(
     item: &'t Item,
 ) -> Result<Option<Named<'t>>, NoMemory>
     requires { IsFrame s.now source.now.scope.frame.0 }
-    ensures are { IfOk result (λ found. map (named_seen (frames_of s.now)) (option_to_list found) ≡ flat_map (λ element. redeclares_in (element_spoken (table_in s.now) (source_in (frames_of s.now) (source_seen source.now)) (declared_in (table_in s.now) element))) (replacing_in item.now)) }
+    ensures are { IfOk result (λ found. map (named_seen (frames_of s.now)) (option_to_list found) ≡ flat_map (λ element. redeclares_in (element_spoken (table_in s.now) (source_at s.now source.now) (declared_in (table_in s.now) element))) (replacing_in item.now)) }
     ensures exist { IfOk result (λ found. Every (IsNamed s.now) (option_to_list found)) }
 {
     match replacing(item) {
@@ -234,7 +234,7 @@ fn add_list<'t>(
 ) -> Result<(), NoMemory>
     requires scope { IsFrame s.now source.now.scope.frame.0 }
     requires made { Every (IsNamed s.now) made.old }
-    ensures are { OnOk result (map (named_seen (frames_of s.now)) made.new ≡ map (named_seen (frames_of s.now)) made.old ++ flat_map (λ argument. redeclares_in (argument_spoken (table_in s.now) (source_in (frames_of s.now) (source_seen source.now)) argument)) list.now) }
+    ensures are { OnOk result (map (named_seen (frames_of s.now)) made.new ≡ map (named_seen (frames_of s.now)) made.old ++ flat_map (λ argument. redeclares_in (argument_spoken (table_in s.now) (source_at s.now source.now) argument)) list.now) }
     ensures exist { OnOk result (Every (IsNamed s.now) made.new) }
 {
     for argument in list {
@@ -254,7 +254,7 @@ fn add_items<'t>(
 ) -> Result<(), NoMemory>
     requires scope { IsFrame s.now source.now.scope.frame.0 }
     requires made { Every (IsNamed s.now) made.old }
-    ensures are { OnOk result (map (named_seen (frames_of s.now)) made.new ≡ map (named_seen (frames_of s.now)) made.old ++ flat_map (λ element. redeclares_in (element_spoken (table_in s.now) (source_in (frames_of s.now) (source_seen source.now)) (declared_in (table_in s.now) element))) (flat_map replacing_in items.now)) }
+    ensures are { OnOk result (map (named_seen (frames_of s.now)) made.new ≡ map (named_seen (frames_of s.now)) made.old ++ flat_map (λ element. redeclares_in (element_spoken (table_in s.now) (source_at s.now source.now) (declared_in (table_in s.now) element))) (flat_map replacing_in items.now)) }
     ensures exist { OnOk result (Every (IsNamed s.now) made.new) }
 {
     for item in items {
@@ -273,7 +273,7 @@ fn add_source<'t>(
 ) -> Result<(), NoMemory>
     requires scope { IsFrame s.now source.now.scope.frame.0 }
     requires made { Every (IsNamed s.now) made.old }
-    ensures are { OnOk result (map (named_seen (frames_of s.now)) made.new ≡ map (named_seen (frames_of s.now)) made.old ++ redeclares_in (spoken_of (table_in s.now) (source_in (frames_of s.now) (source_seen source.now)))) }
+    ensures are { OnOk result (map (named_seen (frames_of s.now)) made.new ≡ map (named_seen (frames_of s.now)) made.old ++ redeclares_in (spoken_of (table_in s.now) (source_at s.now source.now))) }
     ensures exist { OnOk result (Every (IsNamed s.now) made.new) }
 {
     match source.given {

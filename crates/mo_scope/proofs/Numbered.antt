@@ -177,8 +177,8 @@ pub listed_gathered : (xs : List Source) → listed (gathered xs) ≡ xs
 listed_gathered [] = refl
 listed_gathered (x ∷ xs) = ap (λ ys. x ∷ ys) (listed_gathered xs)
 
-pub sources_at : (w : World) (n : ℕ) (e : FrameEntry) → frame_at w n ≡ frame_of_entry (frames_of w) e → sources_in (frames_of w) e.sources ≡ sources_of (frame_at w n)
-sources_at w n e is = sym (ap sources_of is ∙ listed_gathered (sources_in (frames_of w) e.sources))
+pub sources_of_entry : (w : World) (n : ℕ) (e : FrameEntry) → frame_at w n ≡ frame_of_entry (frames_of w) e → sources_in (frames_of w) e.sources ≡ sources_of (frame_at w n)
+sources_of_entry w n e is = sym (ap sources_of is ∙ listed_gathered (sources_in (frames_of w) e.sources))
 
 no_top : (F : List Frame) (xs : List FrameEntry) (k : ℕ) → k < length xs → is_top (frame_in (frames_from F xs) (length F + k)) ≡ false
 no_top F [] k below = absurd (search arith)

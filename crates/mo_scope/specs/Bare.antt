@@ -1,5 +1,5 @@
 -- Frames with no sources, no path and no owner.
-use Rattle.std.specs.Prelude.{◌≡◌, ℕ, ◌&&◌, Bool, true, false, List, [], ◌∷◌, Option, Some, None, IsSome, nat_eq, slice_get}
+use Rattle.std.specs.Prelude.{◌≡◌, ℕ, ◌&&◌, Bool, true, false, List, [], ◌∷◌, Option, Some, None, IsSome, nat_eq, slice_get, if◌then◌else◌}
 use Rattle.std.specs.Option.{option_eq}
 use Rattle.std.specs.HashMap.{get}
 use Rattle.mo_scope.specs.declared.entered.Around.{Around}
@@ -35,6 +35,11 @@ around_eq a b = is_around a.class a.outer b.class b.outer
 -- the frame that is held for a class and the frame around it
 abbrev pub entered_held : Entered → ℕ → Option ℕ → Option ℕ
 entered_held entered class outer = get around_eq entered.frames (record { class = class; outer = outer })
+
+-- what was held is held, and where it is bare that frame for that class and the frame around it
+abbrev pub HoldsAlso : (old new : Entered) → (bare : Bool) → (class : ℕ) → (outer : Option ℕ) → (frame : ℕ) → Type 0
+HoldsAlso old new bare class outer frame =
+    (c : ℕ) (o : Option ℕ) → entered_held new c o ≡ (if bare && is_around class outer c o then Some frame else entered_held old c o)
 
 -- For a class and the frame around it such an entry is held, where there is one.
 pub record AreEntered (entries : List FrameEntry) (held : ℕ → Option ℕ → Option ℕ) : Type 0 where

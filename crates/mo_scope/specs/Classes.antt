@@ -1,11 +1,10 @@
 -- What is held of the classes of the files.
-use Rattle.std.specs.Prelude.{◌≡◌, ℕ, List, map, find, option_map}
-use Rattle.std.specs.Str.{bytes_eq}
+use Rattle.std.specs.Prelude.{◌≡◌, ℕ, List, map}
 use Rattle.mo_syntax.specs.declared.class.FileTree.{FileTree}
 use Rattle.mo_syntax.specs.declared.place.Place.{Place}
 use Rattle.mo_scope.specs.declared.classes.Classes.{Classes}
 use Rattle.mo_scope.specs.Held.{number_held, top_held}
-use Rattle.mo_scope.specs.Rows.{table_of, number_at, top_classes}
+use Rattle.mo_scope.specs.Rows.{table_of, number_at, top_number}
 use Rattle.mo_scope.specs.Sights.{row_seen}
 
 pub record AreClasses (files : List FileTree) (classes : Classes) : Type 0 where
@@ -14,4 +13,4 @@ pub record AreClasses (files : List FileTree) (classes : Classes) : Type 0 where
   -- a class is found where its name stands
   pub places : (place : Place) → number_held classes.places place ≡ number_at (table_of files) place
   -- a class at the top is found by its name
-  pub tops : (name : List ℕ) → top_held classes.tops name ≡ option_map (λ row. row.number) (find (λ row. bytes_eq row.class.name name) (top_classes (table_of files)))
+  pub tops : (name : List ℕ) → top_held classes.tops name ≡ top_number (table_of files) name

@@ -1,6 +1,7 @@
 pub mod Arguments
 pub mod Bare
 pub mod ByName
+pub mod Calls
 pub mod Classes
 pub mod Compatible
 pub mod Entries

@@ -2,7 +2,8 @@
 --
 -- The definitions of names read these rows alone: a class with the home of its name, its own elements with those that files place
 -- under it, its extends clauses, its imports, and its elements with the word `redeclare`.
-use Rattle.std.specs.Prelude.{ℕ, ◌+◌, Bool, true, false, ◌&&◌, ◌||◌, List, [], ◌∷◌, ◌++◌, length, map, find, filter, flat_map, Option, Some, None, if◌then◌else◌, nat_eq}
+use Rattle.std.specs.Prelude.{ℕ, ◌+◌, Bool, true, false, ◌&&◌, ◌||◌, List, [], ◌∷◌, ◌++◌, length, map, find, filter, flat_map, Option, Some, None, option_map, if◌then◌else◌, nat_eq}
+use Rattle.std.specs.Str.{bytes_eq}
 use Rattle.mo_syntax.specs.declared.expr.Expr.{Expr}
 use Rattle.mo_syntax.specs.declared.expr.ReferenceOf.{ReferenceOf}
 use Rattle.mo_syntax.specs.declared.class.ArgumentOf.{ArgumentOf}
@@ -315,6 +316,10 @@ is_top_class row = row.outermost && is_top_home row.home
 -- the classes at the top
 abbrev pub top_classes : Table → List Row
 top_classes table = filter is_top_class table
+
+-- the number of the class at the top with that name
+abbrev pub top_number : Table → List ℕ → Option ℕ
+top_number table name = option_map (λ row. row.number) (find (λ row. bytes_eq row.class.name name) (top_classes table))
 
 abbrev pub elements_in : List Part → List Declares
 elements_in parts = flat_map element_in parts

@@ -1,6 +1,7 @@
 -- What the values of the code are as data.
-use Rattle.std.specs.Prelude.{List, map, flat_map, option_map, option_copied}
+use Rattle.std.specs.Prelude.{List, Option, map, flat_map, option_map, option_copied}
 use Rattle.mo_syntax.specs.declared.class.Body.{out-Body}
+use Rattle.mo_syntax.specs.declared.meaning.FrameId.{FrameId}
 use Rattle.mo_syntax.specs.Classes as classes
 use Rattle.mo_scope.specs.declared.source.Given.{Given as GivenAt}
 use Rattle.mo_scope.specs.declared.source.Given.TheVariants.{Listed as listed_at, Argued as argued_at, Replacing as replacing_at}
@@ -9,6 +10,7 @@ use Rattle.mo_scope.specs.declared.source.Modifiers.{Modifiers as ModifiersAt}
 use Rattle.mo_scope.specs.declared.source.Origin.{Origin as OriginAt}
 use Rattle.mo_scope.specs.declared.source.Origin.TheVariants.{Elsewhere as elsewhere_at, OwnOf, ConstraintOf}
 use Rattle.mo_scope.specs.declared.source.Picked.{Picked as PickedAt}
+use Rattle.mo_scope.specs.declared.source.ScopeAt.{ScopeAt}
 use Rattle.mo_scope.specs.declared.source.Source.{Source as SourceAt}
 use Rattle.mo_scope.specs.declared.row.Clause.{Clause as ClauseAt}
 use Rattle.mo_scope.specs.declared.row.Constraint.{Constraint as ConstraintAt}
@@ -25,9 +27,9 @@ use Rattle.mo_scope.specs.declared.saying.Redeclaration.{Redeclaration as Redecl
 use Rattle.mo_scope.specs.declared.saying.Saying.{Saying as SayingAt}
 use Rattle.mo_scope.specs.declared.saying.Saying.TheVariants.{Modifies as modifies_at, Redeclares as redeclares_at}
 use Rattle.mo_scope.specs.Rows.{Modifiers, Constraint, Declares, Sort, A_class, A_component, Clause, Part, Element_of, Base_of, Row, replacing_in, form_in}
-use Rattle.mo_scope.specs.Frames.{Frame, Given, Listed, Argued, Replacing, Listing, Origin, Elsewhere, Own_of, Constraint_of}
+use Rattle.mo_scope.specs.Frames.{Frame, Scope, Source, Member, Given, Listed, Argued, Replacing, Listing, Origin, Elsewhere, Own_of, Constraint_of}
 use Rattle.mo_scope.specs.Parts.{Picked, Redeclaration, Saying, Modifies, Redeclares}
-use Rattle.mo_scope.specs.Worlds.{SourceEntry, MemberEntry, scope_in, source_in}
+use Rattle.mo_scope.specs.Worlds.{World, SourceEntry, MemberEntry, frame_or_top, frames_of, member_in, scope_in, source_in, sources_in}
 
 -- ---- rows
 
@@ -135,3 +137,24 @@ member_seen member = record {
   hidden = member.hidden;
   declares = declares_seen member.declares;
 }
+
+-- ---- what they are in a world, whose frames have the numbers
+
+-- the frame with that number, Top where there is none
+abbrev pub frame_at_or_top : World → Option FrameId → Frame
+frame_at_or_top world frame = frame_or_top (frames_of world) (option_map (λ id. id.0) frame)
+
+abbrev pub scope_at : World → ScopeAt → Scope
+scope_at world scope = scope_in (frames_of world) scope.frame.0 scope.iters
+
+abbrev pub source_at : World → SourceAt → Source
+source_at world source = source_in (frames_of world) (source_seen source)
+
+abbrev pub sources_at : World → List SourceAt → List Source
+sources_at world sources = sources_in (frames_of world) (map source_seen sources)
+
+abbrev pub redeclaration_at : World → RedeclarationAt → Redeclaration
+redeclaration_at world = redeclaration_in (frames_of world)
+
+abbrev pub member_at : World → MemberAt → Member
+member_at world member = member_in (frames_of world) (member_seen member)

@@ -2,8 +2,8 @@
 use Rattle.std.specs.Prelude.{◌≡◌, ℕ, ◌<◌, Bool, List, [], ◌∷◌, ◌++◌, length, map, Option, Some, None, Ok, get_or, slice_get}
 use Rattle.mo_syntax.specs.declared.class.FileTree.{FileTree}
 use Rattle.mo_syntax.specs.SoundTree.{IsSoundTree}
-use Rattle.mo_scope.specs.Rows.{Declares, Part, Element_of, class_number, Table, table_of, number_of_classes}
-use Rattle.mo_scope.specs.Frames.{Piece, Frame, Top, In, Indexed, Iterations, Scope, Source, Member, gathered}
+use Rattle.mo_scope.specs.Rows.{Declares, Part, Element_of, Row, class_number, row_at, Table, table_of, number_of_classes}
+use Rattle.mo_scope.specs.Frames.{Piece, Frame, Top, In, Indexed, Iterations, Scope, Source, Member, class_of, gathered}
 use Rattle.mo_scope.specs.Names.{elements_of}
 
 -- A source whose scope has a numbered frame.
@@ -80,6 +80,10 @@ frame_at world n = frame_in (frames_of world) n
 abbrev pub table_in : World → Table
 table_in world = table_of world.files
 
+-- the row of the class of the frame with that number, None for a predefined type
+abbrev pub row_of_frame : World → ℕ → Option Row
+row_of_frame world n = row_at (table_in world) (class_of (frame_at world n))
+
 -- ---- what is well formed
 
 -- the frame has that number
@@ -122,9 +126,13 @@ pub record Grows (old new : World) : Type 0 where
 abbrev pub kept_table : World → ℕ → Option (List MemberEntry)
 kept_table world n = get_or world.tables n None
 
+-- these are the elements of the frame with that number, in their order
+abbrev pub AreElements : World → ℕ → List MemberEntry → Type 0
+AreElements world n members = elements_of (table_in world) (frame_at world n) ≡ Ok (map (member_in (frames_of world)) members)
+
 -- the table is the list of the elements of its frame, and the frames that declare them exist
 pub record IsTable (world : World) (n : ℕ) (members : List MemberEntry) : Type 0 where
-  pub elements : elements_of (table_in world) (frame_at world n) ≡ Ok (map (member_in (frames_of world)) members)
+  pub elements : AreElements world n members
   pub homes : AreHomes world members
 
 pub record IsSound (world : World) : Type 0 where

@@ -1,6 +1,6 @@
 //! Frames that were entered with no sources.
-ghost use Rattle.std.specs.Prelude.{◌≡◌, ◌&&◌, None, Some, Option as Maybe, ℕ, option_map, OnOk, OnErr, if◌then◌else◌};
-ghost use Rattle.mo_scope.specs.Bare.{entered_held, is_around};
+ghost use Rattle.std.specs.Prelude.{◌≡◌, None, Option as Maybe, ℕ, option_map, OnOk, OnErr};
+ghost use Rattle.mo_scope.specs.Bare.{HoldsAlso, entered_held};
 ghost use Rattle.mo_scope.specs.Entries.{number_of};
 
 use mo_syntax::{ClassId, FrameId, InstancePath, List, NoMemory, Text};
@@ -129,7 +129,7 @@ impl Entered {
         outer: Option<FrameId>,
         frame: u32,
     ) -> Result<(), NoMemory>
-        ensures ok { OnOk result ((c : ℕ) (o : Maybe ℕ) → entered_held self.new c o ≡ (if bare && is_around class.0 (option_map number_of outer) c o then Some frame else entered_held self.old c o)) }
+        ensures ok { OnOk result (HoldsAlso self.old self.new bare class.0 (option_map number_of outer) frame) }
         ensures err { OnErr result ((c : ℕ) (o : Maybe ℕ) → entered_held self.new c o ≡ entered_held self.old c o) }
     {
         self.note(standing, frame)?;

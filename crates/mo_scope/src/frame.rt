@@ -1,7 +1,7 @@
 //! A numbered frame.
-ghost use Rattle.std.specs.Prelude.{◌≡◌, true, [], option_map};
+ghost use Rattle.std.specs.Prelude.{◌≡◌, true, option_map};
 ghost use Rattle.mo_scope.specs.Bare.{is_bare};
-ghost use Rattle.mo_scope.specs.Entries.{entry_seen, number_of};
+ghost use Rattle.mo_scope.specs.Entries.{entry_seen, number_of, IsSourceless};
 
 use crate::entered::{Standing, standing_of};
 use crate::frame_sources::FrameSources;
@@ -55,7 +55,7 @@ impl<'t> FrameData<'t> {
         at: Option<&InstancePath>,
         owner: Option<FrameId>,
     ) -> bool
-        ensures { result ≡ true → entry_seen self.now ≡ record { class = class.0; sources = []; outer = option_map number_of outer; at = option_map (λ path. path.now.0) at.entry; owner = option_map number_of owner } }
+        ensures { result ≡ true → IsSourceless self.now class.0 outer (option_map (λ path. path.now.0) at.entry) owner }
     {
         let no_sources = self.sources.is_empty();
         let class_same = is_one_class(self.class, class);

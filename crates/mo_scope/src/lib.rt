@@ -1,8 +1,8 @@
 //! Frames, scopes and sources, and the definitions of what names mean (Modelica Language Specification 3.5, sections 5.3,
 //! 5.4, 5.6, 7.1 to 7.3 and 13.2).
 //!
-//! Begin with `src/scopes.rt`; the definitions to read first are `specs/Frames.antt`, `specs/Lookup.antt` and `specs/Names.antt`. What
-//! this crate may not know ends its paragraph in docs/ARCHITECTURE.md.
+//! Begin with `src/scopes.rt`; the definitions to read first are `specs/Frames.antt`, `specs/Lookup.antt` and `specs/Names.antt`, and
+//! `specs/Calls.antt` for what the calls answer. What this crate may not know ends its paragraph in docs/ARCHITECTURE.md.
 //!
 //! - `Scopes`: the classes of the files and frames by number. `row`, `top_class`, `number_at` and `declared` read the
 //!   classes; `enter` makes a frame, or finds it where it has no sources and was made before, and `entered` finds one that only

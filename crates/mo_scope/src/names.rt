@@ -1,8 +1,6 @@
 //! The first place of each name in a list.
-ghost use Rattle.std.specs.Prelude.{◌≡◌, None, Some, List as Seq, ℕ, OnOk, OnErr, if◌then◌else◌};
-ghost use Rattle.std.specs.Str.{bytes_eq};
-ghost use Rattle.mo_syntax.specs.ClassTable.{otherwise};
-ghost use Rattle.mo_scope.specs.ByName.{place_held};
+ghost use Rattle.std.specs.Prelude.{◌≡◌, None, List as Seq, ℕ, OnOk, OnErr};
+ghost use Rattle.mo_scope.specs.ByName.{PlacesAlso, place_held};
 
 use mo_syntax::{NoMemory, Text};
 use std::alloc::Global;
@@ -26,7 +24,7 @@ impl<'t> Names<'t> {
 
     /// Gives a name its place, if it has none.
     pub fn put(&mut self, name: &'t Text, at: usize) -> Result<(), NoMemory>
-        ensures ok { OnOk result ((other : Seq ℕ) → place_held self.new other ≡ otherwise (place_held self.old other) (if bytes_eq name.now other then Some at else None)) }
+        ensures ok { OnOk result (PlacesAlso self.old self.new name.now at) }
         ensures err { OnErr result ((other : Seq ℕ) → place_held self.new other ≡ place_held self.old other) }
     {
         if self.places.contains_key(name.as_str()) {

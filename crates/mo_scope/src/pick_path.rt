@@ -1,11 +1,11 @@
 //! The value that sources give for a path. It takes no memory: what is passed on the way is read in place.
 ghost use Rattle.std.specs.Prelude.{◌≡◌, ◌+◌, ◌<◌, ◌≤◌, ◌++◌, ◌∷◌, [], List as Seq, drop, flat_map, length, map, option_map, take, true};
 ghost use Rattle.mo_scope.specs.Frames.{Argued, Frame, Source as SourceOf};
-ghost use Rattle.mo_scope.specs.Parts.{Redeclaration as RedeclarationOf, Redeclares, Saying, declared_in, pending_behind, picked, picked_here, said, said_behind, said_by_argument, said_by_element, said_by_elements, said_further, said_in_list};
+ghost use Rattle.mo_scope.specs.Parts.{Redeclaration as RedeclarationOf, Redeclares, Saying, declared_in, pending_behind, picked_here, said, said_behind, said_by_argument, said_by_element, said_by_elements, said_further, said_in_list};
 ghost use Rattle.mo_scope.specs.steps.Picks.{name_at, or_else, picked_said, picked_with, view_in, view_of};
 ghost use Rattle.mo_scope.specs.Rows.{Table, replacing_in};
-ghost use Rattle.mo_scope.specs.Sights.{picked_in, source_seen};
-ghost use Rattle.mo_scope.specs.Worlds.{sources_in};
+ghost use Rattle.mo_scope.specs.Sights.{picked_in};
+ghost use Rattle.mo_scope.specs.Calls.{IsPicked};
 
 use crate::declaring::declared_by;
 use crate::saying::{named, nested_list, replacing};
@@ -319,7 +319,7 @@ pub fn pick<'a, 't: 'a>(
     work: &mut [bool],
 ) -> Option<Picked<'a>>
     requires { length work.old ≡ length path.now }
-    ensures { (frames : Seq Frame) → (table : Table) → option_map (picked_in frames) result ≡ picked table (sources_in frames (map source_seen sources.now)) path.now }
+    ensures { IsPicked sources.now path.now result }
 {
     win_all(work);
     for source in sources {

@@ -6,7 +6,7 @@ ghost use Rattle.mo_scope.specs.Frames.{Frame, Argued};
 ghost use Rattle.mo_scope.specs.Mentions.{mention_seen, mentioned_seen, said_at, said_by};
 ghost use Rattle.mo_scope.specs.Parts.{Redeclares, begins_with, behind_name, declared_in, held, pending_behind, said_behind, said_by_all, said_by_argument, said_by_element, said_further};
 ghost use Rattle.mo_scope.specs.Rows.{replacing_in};
-ghost use Rattle.mo_scope.specs.Sights.{given_seen, saying_in, source_seen};
+ghost use Rattle.mo_scope.specs.Sights.{given_seen, saying_in, source_seen, source_at};
 ghost use Rattle.mo_scope.specs.Worlds.{frames_of, source_in, sources_in, table_in};
 
 use crate::copies::{copied, copied_scope, copied_with, extend};
@@ -171,7 +171,7 @@ impl<'t> Scopes<'t> {
         keeps: bool,
         source: Source<'t>,
     ) -> Saying<'t>
-        ensures { saying_in (frames_of self.now) result ≡ Redeclares (record { declares = declared_in (table_in self.now) element.now; place = argument.now.place; keeps = keeps; source = source_in (frames_of self.now) (source_seen source.entry) }) }
+        ensures { saying_in (frames_of self.now) result ≡ Redeclares (record { declares = declared_in (table_in self.now) element.now; place = argument.now.place; keeps = keeps; source = source_at self.now source.entry }) }
     {
         Saying::Redeclares(Redeclaration {
             declares: self.declared(element),
@@ -183,7 +183,7 @@ impl<'t> Scopes<'t> {
 
     /// What an argument says where so many of its names are passed: it redeclares, or its source is what is left of it.
     fn said_behind(&self, argument: &'t Argument, passed: usize, source: Source<'t>) -> Saying<'t>
-        ensures { saying_in (frames_of self.now) result ≡ said_behind (table_in self.now) argument.now passed (source_in (frames_of self.now) (source_seen source.entry)) }
+        ensures { saying_in (frames_of self.now) result ≡ said_behind (table_in self.now) argument.now passed (source_at self.now source.entry) }
     {
         if passed < argument.name.0.len() {
             return Saying::Modifies(source);
@@ -207,7 +207,7 @@ impl<'t> Scopes<'t> {
         name: &'t Text,
         entering: Entering<'_>,
     ) -> Result<Saying<'t>, NoMemory>
-        ensures { IfOk result (λ saying. saying_in (frames_of self.now) saying ≡ said_behind (table_in self.now) argument.now passed (behind_name (source_in (frames_of self.now) (source_seen source.now)) name.now (pending_behind entering.entry.each source.now.pending entering.entry.index.now) entering.entry.last (Argued argument.now passed))) }
+        ensures { IfOk result (λ saying. saying_in (frames_of self.now) saying ≡ said_behind (table_in self.now) argument.now passed (behind_name (source_at self.now source.now) name.now (pending_behind entering.entry.each source.now.pending entering.entry.index.now) entering.entry.last (Argued argument.now passed))) }
     {
         let given = Given::Argued { argument, passed };
         let behind = source_behind(alloc, source, name, entering, given)?;
@@ -223,7 +223,7 @@ impl<'t> Scopes<'t> {
         asked: &Asked<'_>,
         made: &mut List<Saying<'t>>,
     ) -> Result<(), NoMemory>
-        ensures { OnOk result (map (saying_in (frames_of self.now)) made.new ≡ map (saying_in (frames_of self.now)) made.old ++ said_by_argument (table_in self.now) (source_in (frames_of self.now) (source_seen source.now)) asked.now.name.now asked.now.index.now argument.now) }
+        ensures { OnOk result (map (saying_in (frames_of self.now)) made.new ≡ map (saying_in (frames_of self.now)) made.old ++ said_by_argument (table_in self.now) (source_at self.now source.now) asked.now.name.now asked.now.index.now argument.now) }
     {
         match named(argument.name.0.as_slice(), 0, asked.name) {
             Some(first) => {
@@ -249,7 +249,7 @@ impl<'t> Scopes<'t> {
         asked: &Asked<'_>,
         made: &mut List<Saying<'t>>,
     ) -> Result<(), NoMemory>
-        ensures { OnOk result (map (saying_in (frames_of self.now)) made.new ≡ map (saying_in (frames_of self.now)) made.old ++ said_further (table_in self.now) (source_in (frames_of self.now) (source_seen source.now)) asked.now.name.now asked.now.index.now argument.now passed) }
+        ensures { OnOk result (map (saying_in (frames_of self.now)) made.new ≡ map (saying_in (frames_of self.now)) made.old ++ said_further (table_in self.now) (source_at self.now source.now) asked.now.name.now asked.now.index.now argument.now passed) }
     {
         match named(argument.name.0.as_slice(), passed, asked.name) {
             Some(first) => {
@@ -274,7 +274,7 @@ impl<'t> Scopes<'t> {
         asked: &Asked<'_>,
         made: &mut List<Saying<'t>>,
     ) -> Result<(), NoMemory>
-        ensures { OnOk result (map (saying_in (frames_of self.now)) made.new ≡ map (saying_in (frames_of self.now)) made.old ++ said_by_element (table_in self.now) (source_in (frames_of self.now) (source_seen source.now)) asked.now.name.now asked.now.index.now (declared_in (table_in self.now) element.now)) }
+        ensures { OnOk result (map (saying_in (frames_of self.now)) made.new ≡ map (saying_in (frames_of self.now)) made.old ++ said_by_element (table_in self.now) (source_at self.now source.now) asked.now.name.now asked.now.index.now (declared_in (table_in self.now) element.now)) }
     {
         let declares = self.declared(element);
         if !is_named(declares.name, asked.name) {
@@ -304,7 +304,7 @@ impl<'t> Scopes<'t> {
         asked: &Asked<'_>,
         made: &mut List<Saying<'t>>,
     ) -> Result<(), NoMemory>
-        ensures { OnOk result (map (saying_in (frames_of self.now)) made.new ≡ map (saying_in (frames_of self.now)) made.old ++ said_by (table_in self.now) asked.now.name.now asked.now.index.now (source_in (frames_of self.now) (source_seen source.now)) (mentioned_seen by.entry)) }
+        ensures { OnOk result (map (saying_in (frames_of self.now)) made.new ≡ map (saying_in (frames_of self.now)) made.old ++ said_by (table_in self.now) asked.now.name.now asked.now.index.now (source_at self.now source.now) (mentioned_seen by.entry)) }
     {
         match by {
             MentionedBy::Argument(argument) => {

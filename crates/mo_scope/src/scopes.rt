@@ -1,15 +1,13 @@
 //! Frames by number, and the tables of their elements.
-ghost use Rattle.std.specs.Prelude.{◌≡◌, ◌⊎◌, List as Seq, ◌+◌, ◌<◌, [], ◌∷◌, ◌++◌, length, map, Some, None, option_map, slice_get, IfOk, IfSome, IsSome, ℕ, OnErr, IsTrue, IsNone, ◌↔◌, set, option_copied, find};
-ghost use Rattle.std.specs.Str.{bytes_eq};
+ghost use Rattle.std.specs.Prelude.{◌≡◌, List as Seq, ◌+◌, ◌<◌, [], ◌∷◌, ◌++◌, length, map, Some, None, option_map, slice_get, IfOk, IfSome, IsSome, ℕ, OnErr, IsTrue, IsNone, ◌↔◌, set, option_copied};
 ghost use Rattle.mo_syntax.specs.SoundTree.{IsSoundTree};
-ghost use Rattle.mo_scope.specs.Bare.{bare_entry};
-ghost use Rattle.mo_scope.specs.Frames.{class_of, sources_of, outer_of, at_of, owner_of, is_top, In, gathered, looked_up};
-ghost use Rattle.mo_scope.specs.Rows.{number_of_classes, row_at, number_at, number_of_element, class_number, top_classes};
+ghost use Rattle.mo_scope.specs.Frames.{class_of, sources_of, outer_of, at_of, owner_of, is_top, In, gathered};
+ghost use Rattle.mo_scope.specs.Rows.{number_of_classes, row_at, number_at, number_of_element, class_number, top_number};
 ghost use Rattle.mo_scope.specs.Parts.{declared_in};
-ghost use Rattle.mo_scope.specs.Names.{elements_of};
-ghost use Rattle.mo_scope.specs.Sights.{source_seen, row_seen, part_seen, declares_seen};
-ghost use Rattle.mo_scope.specs.Entries.{entry_seen, table_seen, number_of, names_of};
-ghost use Rattle.mo_scope.specs.Worlds.{MemberEntry, IsTable, AreFrames, AreHomes, kept_table, member_in, IsFrameOrNone, IsFrame, IsEntry, PartsExist, Grows, frame_at, frame_of_entry, frames_of, frame_or_top, sources_in, table_in};
+ghost use Rattle.mo_scope.specs.Sights.{source_seen, row_seen, declares_seen, frame_at_or_top, sources_at};
+ghost use Rattle.mo_scope.specs.Entries.{entry_seen, table_seen, number_of};
+ghost use Rattle.mo_scope.specs.Worlds.{MemberEntry, IsTable, AreFrames, AreHomes, kept_table, IsFrameOrNone, IsFrame, IsEntry, Grows, frame_at, frame_of_entry, frames_of, sources_in, table_in, AreElements};
+ghost use Rattle.mo_scope.specs.Calls.{RowExists, bare_frame, IsBareEntry, IsEnteredFrame, IsOldOrNext};
 
 use crate::classes::Classes;
 use crate::declaring::declared_by;
@@ -109,7 +107,7 @@ impl<'t> Scopes<'t> {
     /// The row of a class, None of a predefined type.
     pub fn row(&self, class: ClassId) -> Option<&Row<'t>>
         ensures is { option_map row_seen (option_copied result) ≡ row_at (table_in self.now) class.0 }
-        ensures exist { IfSome result (λ row. PartsExist (number_of_classes (table_in self.now)) (map part_seen row.now.parts)) }
+        ensures exist { IfSome result (λ row. RowExists self.now row.now) }
     {
         if class.0 < 6 {
             return None;
@@ -126,7 +124,7 @@ impl<'t> Scopes<'t> {
 
     /// The class at the top with that name, None where no class there has it.
     pub fn top_class(&self, name: &Text) -> Option<ClassId>
-        ensures is { option_map (λ class. class.0) result ≡ option_map (λ row. row.number) (find (λ row. bytes_eq row.class.name name.now) (top_classes (table_in self.now))) }
+        ensures is { option_map (λ class. class.0) result ≡ top_number (table_in self.now) name.now }
         ensures exists { IfSome result (λ class. class.0 < number_of_classes (table_in self.now)) }
     {
         self.classes.tops.class(name)
@@ -161,9 +159,9 @@ impl<'t> Scopes<'t> {
     /// The frame of a class that was entered with no sources, no path and no owner in that enclosing frame, None where
     /// there is none.
     pub fn entered(&self, class: ClassId, outer: Option<FrameId>) -> Option<FrameId>
-        ensures is { IfSome result (λ frame. frame_at self.now frame.0 ≡ looked_up class.0 [] (frame_or_top (frames_of self.now) (option_map number_of outer))) }
+        ensures is { IfSome result (λ frame. frame_at self.now frame.0 ≡ bare_frame self.now class.0 outer) }
         ensures exists { IfSome result (λ frame. IsFrame self.now frame.0) }
-        ensures whole { (n : ℕ) → slice_get self.now.entries n ≡ Some (bare_entry class.0 (option_map number_of outer)) → IsSome result }
+        ensures whole { (n : ℕ) → IsBareEntry self.now n class.0 outer → IsSome result }
     {
         self.entered.frame(class, outer)
     }
@@ -178,7 +176,7 @@ impl<'t> Scopes<'t> {
         owner: Option<FrameId>,
     ) -> Option<FrameId>
         ensures exists { IfSome result (λ frame. IsFrame self.now frame.0) }
-        ensures is { IfSome result (λ frame. frame_at self.now frame.0 ≡ In class.0 (gathered []) (frame_or_top (frames_of self.now) (option_map number_of outer)) (option_map (λ path. path.now.0) at.entry) (frame_or_top (frames_of self.now) (option_map number_of owner))) }
+        ensures is { IfSome result (λ frame. frame_at self.now frame.0 ≡ In class.0 (gathered []) (frame_at_or_top self.now outer) (option_map (λ path. path.now.0) at.entry) (frame_at_or_top self.now owner)) }
     {
         if frame.0 as usize >= self.frames.len() {
             return None;
@@ -201,7 +199,7 @@ impl<'t> Scopes<'t> {
     ) -> Option<FrameId>
         ensures none { IfSome result (λ _. sources.now ≡ []) }
         ensures exists { IfSome result (λ frame. IsFrame self.now frame.0) }
-        ensures is { IfSome result (λ frame. frame_at self.now frame.0 ≡ In class.0 (gathered []) (frame_or_top (frames_of self.now) (option_map number_of outer)) (option_map (λ path. path.now.0) at.entry) (frame_or_top (frames_of self.now) (option_map number_of owner))) }
+        ensures is { IfSome result (λ frame. frame_at self.now frame.0 ≡ In class.0 (gathered []) (frame_at_or_top self.now outer) (option_map (λ path. path.now.0) at.entry) (frame_at_or_top self.now owner)) }
     {
         if !sources.is_empty() {
             return None;
@@ -229,9 +227,9 @@ impl<'t> Scopes<'t> {
         requires outer { IsFrameOrNone self.old (option_map number_of outer) }
         requires owner { IsFrameOrNone self.old (option_map number_of owner) }
         ensures grows { Grows self.old self.new }
-        ensures number { IfOk result (λ frame. (self.new ≡ self.old) ⊎ ((frame.0 ≡ length self.old.entries) × (self.new.tables ≡ self.old.tables ++ None ∷ []))) }
+        ensures number { IfOk result (IsOldOrNext self.old self.new) }
         ensures exists { IfOk result (λ frame. IsFrame self.new frame.0) }
-        ensures is { IfOk result (λ frame. frame_at self.new frame.0 ≡ In class.0 (gathered (sources_in (frames_of self.old) (map source_seen sources.entry))) (frame_or_top (frames_of self.old) (option_map number_of outer)) (option_map names_of at) (frame_or_top (frames_of self.old) (option_map number_of owner))) }
+        ensures is { IfOk result (IsEnteredFrame self.old self.new class.0 sources.entry outer at owner) }
         ensures err { OnErr result (self.new ≡ self.old) }
     {
         match self.entered_before(&sources, class, outer, at.as_ref(), owner) {
@@ -258,7 +256,7 @@ impl<'t> Scopes<'t> {
         ensures tables { IfOk result (λ _. self.new.tables ≡ self.old.tables ++ None ∷ []) }
         ensures number { IfOk result (λ frame. frame.0 ≡ length self.old.entries) }
         ensures exists { IfOk result (λ frame. IsFrame self.new frame.0) }
-        ensures is { IfOk result (λ frame. frame_at self.new frame.0 ≡ In class.0 (gathered (sources_in (frames_of self.old) (map source_seen sources.entry))) (frame_or_top (frames_of self.old) (option_map number_of outer)) (option_map names_of at) (frame_or_top (frames_of self.old) (option_map number_of owner))) }
+        ensures is { IfOk result (IsEnteredFrame self.old self.new class.0 sources.entry outer at owner) }
         ensures err { OnErr result (self.new ≡ self.old) }
     {
         let number = self.frames.len();
@@ -313,7 +311,7 @@ impl<'t> Scopes<'t> {
     /// The sources of a frame, outermost first.
     pub fn sources(&self, frame: FrameId) -> &List<Source<'t>>
         requires { IsFrame self.now frame.0 }
-        ensures is { sources_in (frames_of self.now) (map source_seen result.now) ≡ sources_of (frame_at self.now frame.0) }
+        ensures is { sources_at self.now result.now ≡ sources_of (frame_at self.now frame.0) }
         ensures exist { AreFrames self.now (map source_seen result.now) }
     {
         self.sources_by_name(frame).list()
@@ -331,7 +329,7 @@ impl<'t> Scopes<'t> {
     /// The frame around a frame, None where this is the top.
     pub fn outer(&self, frame: FrameId) -> Option<FrameId>
         requires { IsFrame self.now frame.0 }
-        ensures is { frame_or_top (frames_of self.now) (option_map number_of result) ≡ outer_of (frame_at self.now frame.0) }
+        ensures is { frame_at_or_top self.now result ≡ outer_of (frame_at self.now frame.0) }
         ensures exists { IfSome result (λ outer. IsFrame self.now outer.0) }
         ensures top { IsNone result ↔ IsTrue (is_top (outer_of (frame_at self.now frame.0))) }
     {
@@ -349,7 +347,7 @@ impl<'t> Scopes<'t> {
     /// The owner of a frame, None where it has none.
     pub fn owner(&self, frame: FrameId) -> Option<FrameId>
         requires { IsFrame self.now frame.0 }
-        ensures is { frame_or_top (frames_of self.now) (option_map number_of result) ≡ owner_of (frame_at self.now frame.0) }
+        ensures is { frame_at_or_top self.now result ≡ owner_of (frame_at self.now frame.0) }
         ensures exists { IfSome result (λ owner. IsFrame self.now owner.0) }
         ensures top { IsNone result ↔ IsTrue (is_top (owner_of (frame_at self.now frame.0))) }
     {
@@ -360,7 +358,7 @@ impl<'t> Scopes<'t> {
     pub fn table(&self, frame: FrameId) -> Option<&MemberTable<'t>>
         requires { IsFrame self.now frame.0 }
         ensures is { option_copied result ≡ kept_table self.now frame.0 }
-        ensures elements { IfSome result (λ table. elements_of (table_in self.now) (frame_at self.now frame.0) ≡ Ok (map (member_in (frames_of self.now)) table.now)) }
+        ensures elements { IfSome result (λ table. AreElements self.now frame.0 table.now) }
         ensures homes { IfSome result (λ table. AreHomes self.now table.now) }
     {
         self.entry(frame).table.as_ref()
@@ -374,7 +372,7 @@ impl<'t> Scopes<'t> {
         table: MemberTable<'t>,
     ) -> Result<(), NoMemory>
         requires frame { IsFrame self.old frame.0 }
-        requires elements { elements_of (table_in self.old) (frame_at self.old frame.0) ≡ Ok (map (member_in (frames_of self.old)) table) }
+        requires elements { AreElements self.old frame.0 table }
         requires homes { AreHomes self.old table }
         ensures { self.new ≡ record self.old { tables = set self.old.tables frame.0 (Some table.entry) } }
     {

@@ -2,11 +2,12 @@
 //! and 7.3).
 ghost use Rattle.std.specs.Prelude.{◌≡◌, ◌++◌, ◌∷◌, [], List as Seq, Option, true, if◌then◌else◌, is_some, flat_map, map, option_map, IfOk, IfSome, OnOk};
 ghost use Rattle.std.specs.Option.{option_to_list};
-ghost use Rattle.mo_scope.specs.Frames.{Frame, sources_of};
-ghost use Rattle.mo_scope.specs.Parts.{Redeclaration as RedeclarationOf, Saying as SayingOf, base_sources, class_sources, clause_source as source_of_clause, component_sources, constraint_source, declared_sources, element_sources, first_of, own_source, parts, redeclarations, redeclarations_in, redeclared, replacing_source as source_replacing, sources_said, through_component as passed_through_component, without_value as source_without_value};
+ghost use Rattle.mo_scope.specs.Frames.{Frame};
+ghost use Rattle.mo_scope.specs.Parts.{Redeclaration as RedeclarationOf, Saying as SayingOf, clause_source as source_of_clause, constraint_source, declared_sources, first_of, own_source, redeclarations_in, replacing_source as source_replacing, sources_said, through_component as passed_through_component, without_value as source_without_value};
 ghost use Rattle.mo_scope.specs.Rows.{is_class as declares_class};
 ghost use Rattle.mo_scope.specs.Sights.{clause_seen, constraint_seen, declares_seen, member_seen, redeclaration_in, row_seen, saying_in, source_seen};
-ghost use Rattle.mo_scope.specs.Worlds.{AreFrames, IsFrame, frame_at, frame_in, frames_of, member_in, source_in, sources_in, table_in};
+ghost use Rattle.mo_scope.specs.Worlds.{AreFrames, IsFrame, frame_in, member_in, source_in, sources_in};
+ghost use Rattle.mo_scope.specs.Calls.{HasScope, HaveScopes, IsWinningRedeclaration, AreRedeclarations, ArePartsFor, AreElementSources, AreClassSources, AreComponentSources, AreBaseSources};
 
 use crate::copies::extend_sources;
 use crate::row::{Clause, Declares, Member, Row};
@@ -223,8 +224,8 @@ impl<'t> Scopes<'t> {
         index: &[u32],
     ) -> Result<Option<Redeclaration<'t>>, NoMemory>
         requires { IsFrame self.now frame.0 }
-        ensures is { IfOk result (λ found. option_map (redeclaration_in (frames_of self.now)) found ≡ redeclared (table_in self.now) (sources_of (frame_at self.now frame.0)) name.now index.now) }
-        ensures exists { IfOk result (λ found. IfSome found (λ redeclaration. IsFrame self.now redeclaration.source.scope.frame.0)) }
+        ensures is { IfOk result (IsWinningRedeclaration self.now frame.0 name.now index.now) }
+        ensures exists { IfOk result (λ found. IfSome found (HasScope self.now)) }
     {
         let found = self.redeclarations(alloc, frame, name, index)?;
         Ok(first(found))
@@ -239,8 +240,8 @@ impl<'t> Scopes<'t> {
         index: &[u32],
     ) -> Result<List<Redeclaration<'t>>, NoMemory>
         requires { IsFrame self.now frame.0 }
-        ensures are { IfOk result (λ found. map (redeclaration_in (frames_of self.now)) found ≡ redeclarations (table_in self.now) (sources_of (frame_at self.now frame.0)) name.now index.now) }
-        ensures exist { IfOk result (λ found. AreFrames self.now (map (λ redeclaration. source_seen redeclaration.source) found)) }
+        ensures are { IfOk result (AreRedeclarations self.now frame.0 name.now index.now) }
+        ensures exist { IfOk result (HaveScopes self.now) }
     {
         let asked = Asked { name, index };
         let sayings = self.sayings(alloc, self.sources_by_name(frame), &asked)?;
@@ -256,7 +257,7 @@ impl<'t> Scopes<'t> {
         index: &[u32],
     ) -> Result<List<Source<'t>>, NoMemory>
         requires { IsFrame self.now frame.0 }
-        ensures are { IfOk result (λ made. sources_in (frames_of self.now) (map source_seen made) ≡ parts (table_in self.now) (sources_of (frame_at self.now frame.0)) name.now index.now) }
+        ensures are { IfOk result (ArePartsFor self.now frame.0 name.now index.now) }
         ensures exist { IfOk result (λ made. AreFrames self.now (map source_seen made)) }
     {
         let asked = Asked { name, index };
@@ -272,7 +273,7 @@ impl<'t> Scopes<'t> {
         index: &[u32],
     ) -> Result<List<Source<'t>>, NoMemory>
         requires { IsFrame self.now member.now.home.0 }
-        ensures are { IfOk result (λ made. sources_in (frames_of self.now) (map source_seen made) ≡ element_sources (table_in self.now) (member_in (frames_of self.now) (member_seen member.now)) index.now) }
+        ensures are { IfOk result (AreElementSources self.now member.now index.now) }
         ensures exist { IfOk result (λ made. AreFrames self.now (map source_seen made)) }
     {
         let asked = Asked {
@@ -293,7 +294,7 @@ impl<'t> Scopes<'t> {
         member: &Member<'t>,
     ) -> Result<List<Source<'t>>, NoMemory>
         requires { IsFrame self.now member.now.home.0 }
-        ensures are { IfOk result (λ made. sources_in (frames_of self.now) (map source_seen made) ≡ class_sources (table_in self.now) (member_in (frames_of self.now) (member_seen member.now))) }
+        ensures are { IfOk result (AreClassSources self.now member.now) }
         ensures exist { IfOk result (λ made. AreFrames self.now (map source_seen made)) }
     {
         let made = self.element_sources(alloc, member, &[])?;
@@ -311,7 +312,7 @@ impl<'t> Scopes<'t> {
     ) -> Result<List<Source<'t>>, NoMemory>
         requires home { IsFrame self.now member.now.home.0 }
         requires class { IsFrame self.now class.0 }
-        ensures are { IfOk result (λ made. sources_in (frames_of self.now) (map source_seen made) ≡ component_sources (table_in self.now) (member_in (frames_of self.now) (member_seen member.now)) index.now (frame_at self.now class.0)) }
+        ensures are { IfOk result (AreComponentSources self.now member.now index.now class.0) }
         ensures exist { IfOk result (λ made. AreFrames self.now (map source_seen made)) }
     {
         let made = self.element_sources(alloc, member, index)?;
@@ -332,7 +333,7 @@ impl<'t> Scopes<'t> {
     ) -> Result<List<Source<'t>>, NoMemory>
         requires frame { IsFrame self.now frame.0 }
         requires base { IsFrame self.now base.0 }
-        ensures are { IfOk result (λ made. sources_in (frames_of self.now) (map source_seen made) ≡ base_sources (frame_at self.now frame.0) (row_seen row.now) (clause_seen clause.now) (frame_at self.now base.0)) }
+        ensures are { IfOk result (AreBaseSources self.now frame.0 row.now clause.now base.0) }
         ensures exist { IfOk result (λ made. AreFrames self.now (map source_seen made)) }
     {
         let mut made = List::new(alloc);

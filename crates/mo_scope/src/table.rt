@@ -1,6 +1,6 @@
 //! Tables of the elements of frames, in their order.
-ghost use Rattle.std.specs.Prelude.{◌≡◌, [], ◌∷◌, ◌++◌, find, map, option_map, option_copied, OnOk, OnErr};
-ghost use Rattle.std.specs.Str.{bytes_eq};
+ghost use Rattle.std.specs.Prelude.{◌≡◌, [], ◌∷◌, ◌++◌, map, option_map, option_copied, OnOk, OnErr};
+ghost use Rattle.mo_scope.specs.ByName.{member_named};
 ghost use Rattle.mo_scope.specs.Open.{are_open};
 ghost use Rattle.mo_scope.specs.Sights.{member_seen};
 
@@ -74,7 +74,7 @@ impl<'t> MemberTable<'t> {
 
     /// The first element with that name, found by its key.
     pub fn find(&self, name: &Text) -> Option<&Member<'t>>
-        ensures { option_map member_seen (option_copied result) ≡ find (λ member. bytes_eq member.name name.now) self.now }
+        ensures { option_map member_seen (option_copied result) ≡ member_named name.now self.now }
     {
         match self.names.place(name) {
             Some(at) => self.members.get(at),

@@ -1,9 +1,8 @@
 //! The values that sources give.
-ghost use Rattle.std.specs.Prelude.{◌≡◌, List as Seq, option_copied, option_map, map};
-ghost use Rattle.mo_scope.specs.Frames.{Frame};
-ghost use Rattle.mo_scope.specs.Parts.{held, nested, picked_here};
-ghost use Rattle.mo_scope.specs.Sights.{given_seen, source_seen, picked_in};
-ghost use Rattle.mo_scope.specs.Worlds.{sources_in};
+ghost use Rattle.std.specs.Prelude.{◌≡◌, option_copied};
+ghost use Rattle.mo_scope.specs.Parts.{held, nested};
+ghost use Rattle.mo_scope.specs.Sights.{given_seen};
+ghost use Rattle.mo_scope.specs.Calls.{IsPickedHere};
 
 use crate::source::{Given, Picked, Source};
 use mo_syntax::{Expr, Give};
@@ -38,7 +37,7 @@ pub(crate) fn held_value<'t>(given: &Given<'t>) -> Option<&'t Expr>
 /// What sources give for the class that they modify: the value of the first one that has a value, with the scope where it
 /// was written and the indices at which it is still to be taken. A redeclaration without a binding gives none.
 pub fn pick_here<'a, 't: 'a>(sources: &'a [Source<'t>]) -> Option<Picked<'a>>
-    ensures { (frames : Seq Frame) → option_map (picked_in frames) result ≡ picked_here (sources_in frames (map source_seen sources.now)) }
+    ensures { IsPickedHere sources.now result }
 {
     for source in sources {
         if let Some(value) = held_value(&source.given) {

@@ -10,14 +10,14 @@ use Rattle.mo_names.proofs.Walking.{part_read, part_told}
 use Rattle.mo_names.specs.steps.Bases.{first_of_parts, part_walked, parts_walked}
 use Rattle.mo_names.specs.steps.Parts.{imports_of, parts_of}
 use Rattle.mo_names.specs.Past.{Goes_on}
-use Rattle.mo_names.specs.Sights.{asking_at, walk_seen, asks, found_in, met_seen, classed_seen}
+use Rattle.mo_names.specs.Sights.{asking_at, asks, met_seen, classed_seen, found_at, walk_at}
 use Rattle.mo_names.specs.steps.Lookup.{before_dot, import_step, package_behind, package_step, package_at_top, also_found, found_by, found_by_all, imports_met, met_or, class_step, next_item, started}
 use Rattle.mo_scope.proofs.Numbered.{is_no_top}
 use Rattle.mo_scope.specs.Frames.{Frame, class_of, Scope}
 use Rattle.mo_scope.specs.Lookup.{and_also, contains, walked_class, Found, import_behind, through_star, Asking, found_element, Classed, class_behind, Walked, leaf_checked}
 use Rattle.mo_scope.specs.Rows.{row_at, Part, Row}
-use Rattle.mo_scope.specs.Sights.{part_seen}
-use Rattle.mo_scope.specs.Worlds.{frame_at, frames_of, table_in, scope_in}
+use Rattle.mo_scope.specs.Sights.{part_seen, scope_at}
+use Rattle.mo_scope.specs.Worlds.{frame_at, frames_of, table_in}
 use Rattle.mo_syntax.specs.Outcome.{and_then}
 use Rattle.mo_syntax.specs.declared.class.Import.{Import}
 use Rattle.mo_syntax.specs.declared.meaning.FrameId.{FrameId}
@@ -42,7 +42,7 @@ circle::walked-returns-clause-value t c =
     let F : Frame = frame_at c.args.s.now c.args.frame.0 in
     let same : c.as_slice.result.now ≡ c.args.ask.now.busy.now ++ class_of F ∷ [] = c.as_slice.ensures ∙ c.in_ok-busy.ensures ∙ ap (λ (n : ℕ). c.args.ask.now.busy.now ++ n ∷ []) c.class_of-class.ensures.is in
     let some : 0 < c.args.ask.now.left = omega arith in
-    gives_same (walk_seen (frames_of c.walked_class.new.s)) c.walked_class.result _ _
+    gives_same (walk_at c.walked_class.new.s) c.walked_class.result _ _
     (ap (λ (b : List ℕ). walked_class (table_in c.args.s.now) (asking_at (table_in c.args.s.now) (c.args.ask.now.left - 1) b) F (row_at (table_in c.args.s.now) (class_of F))) same
     ∙ walked_further (table_in c.args.s.now) c.args.ask.now.left c.args.ask.now.busy.now c.args.ask.now.place F some
     (ap (contains c.args.ask.now.busy.now) (sym c.class_of-class.ensures.is) ∙ sym c.is_busy.ensures ∙ c.if-is_busy.false))
@@ -75,35 +75,34 @@ circle::behind_class-returns-clause-value t c =
     (behind_told c.args.s.now c.reached-any.new.s c.counted_given-counts.new.s c.args.ask.now c.args.place c.args.component c.args.frame.0 c.args.name.now c.reached-any.ensures.grows c.counted_given-counts.ensures.grows c.requires)
     (c.behind_given.ensures.value _ (c.counted_given-counts.ensures.value _ c.reached-any.ensures.value))
 
-pub circle::import_behind-returns-in_err-found-clause-value : goal.circle::import_behind-returns-in_err-found-clause-value
-circle::import_behind-returns-in_err-found-clause-value t c =
-    let p = err_from_is_err_and c.from_residual.result c.from_residual.ensures.1 in
-    let F : Found = found_in (frames_of c.loop-at.s) c.loop-at.found in
+pub circle::import_behind-returns-in-Err-clause-value : goal.circle::import_behind-returns-in-Err-clause-value
+circle::import_behind-returns-in-Err-clause-value t c =
+    let F : Found = found_at c.loop-at.s c.loop-at.found in
     let rest : List (List ℕ) = map (λ (name : Bor Text). name.now) (drop (c.loop-at.at + 1) c.args.names.now) in
     let before : c.before_dot-before.result ≡ before_dot c.args.place rest = c.before_dot-before.ensures ∙ ap (before_dot c.args.place) (drop_map (λ (name : Bor Text). name.now) c.args.names.now (c.loop-at.at + 1)) in
-    rw (p.1, p.2) (loop_err (found_in (frames_of c.import_step.new.s)) (found_in (frames_of c.import_step.new.s)) c.in_err-found.field-0.0 c.args.s.now c.loop-at.s
+    loop_err (found_at c.import_step.new.s) (found_at c.import_step.new.s) c.in-Err.stop c.args.s.now c.loop-at.s
     (λ t. import_step t (asks t c.args.ask.now) c.args.ask.now.place c.args.place c.before_dot-before.result F c.index-names-at.result.now)
     (λ next. import_behind (table_in c.args.s.now) (asks (table_in c.args.s.now) c.args.ask.now) c.args.ask.now.place c.args.place next rest) _
-    c.loop-at.invariant.grows c.in_err-found.ensures.value
+    c.loop-at.invariant.grows c.in-Err.ensures.value
     (rw before (names_step (table_in c.args.s.now) (asks (table_in c.args.s.now) c.args.ask.now) c.args.ask.now.place c.args.place F c.index-names-at.result.now rest
-    ∙ left_from (λ xs. import_behind (table_in c.args.s.now) (asks (table_in c.args.s.now) c.args.ask.now) c.args.ask.now.place c.args.place F (map (λ (name : Bor Text). name.now) xs)) c.args.names.now c.loop-at.at c.index-names-at.result _ c.loop-at-test.true c.index-names-at.is c.loop-at.invariant.left)))
+    ∙ left_from (λ xs. import_behind (table_in c.args.s.now) (asks (table_in c.args.s.now) c.args.ask.now) c.args.ask.now.place c.args.place F (map (λ (name : Bor Text). name.now) xs)) c.args.names.now c.loop-at.at c.index-names-at.result _ c.loop-at-test.true c.index-names-at.is c.loop-at.invariant.left))
 
 pub circle::import_behind-loop-at-preserved : goal.circle::import_behind-loop-at-preserved
 circle::import_behind-loop-at-preserved t c =
-    let F : Found = found_in (frames_of c.loop-at.s) c.loop-at.found in
+    let F : Found = found_at c.loop-at.s c.loop-at.found in
     let rest : List (List ℕ) = map (λ (name : Bor Text). name.now) (drop (c.loop-at.at + 1) c.args.names.now) in
     let before : c.before_dot-before.result ≡ before_dot c.args.place rest = c.before_dot-before.ensures ∙ ap (before_dot c.args.place) (drop_map (λ (name : Bor Text). name.now) c.args.names.now (c.loop-at.at + 1)) in
     record {
-      grows = grows_trans c.args.s.now c.loop-at.s c.import_step.new.s c.loop-at.invariant.grows c.in_ok-found.ensures.grows;
-      stand = c.in_ok-found.ensures.stand;
+      grows = grows_trans c.args.s.now c.loop-at.s c.import_step.new.s c.loop-at.invariant.grows c.in-Ok.ensures.grows;
+      stand = c.in-Ok.ensures.stand;
       left =
           then_ok (import_step (table_in c.args.s.now) (asks (table_in c.args.s.now) c.args.ask.now) c.args.ask.now.place c.args.place (before_dot c.args.place rest) F c.index-names-at.result.now)
           (λ next. import_behind (table_in c.args.s.now) (asks (table_in c.args.s.now) c.args.ask.now) c.args.ask.now.place c.args.place next rest)
-          (found_in (frames_of c.import_step.new.s) c.in_ok-found.found) _
+          (found_at c.import_step.new.s c.in-Ok.next) _
           (names_step (table_in c.args.s.now) (asks (table_in c.args.s.now) c.args.ask.now) c.args.ask.now.place c.args.place F c.index-names-at.result.now rest
           ∙ left_from (λ xs. import_behind (table_in c.args.s.now) (asks (table_in c.args.s.now) c.args.ask.now) c.args.ask.now.place c.args.place F (map (λ (name : Bor Text). name.now) xs)) c.args.names.now c.loop-at.at c.index-names-at.result _ c.loop-at-test.true c.index-names-at.is c.loop-at.invariant.left)
           (ap (λ (b : Option Place). import_step (table_in c.args.s.now) (asks (table_in c.args.s.now) c.args.ask.now) c.args.ask.now.place c.args.place b F c.index-names-at.result.now) (sym before)
-          ∙ told_of (λ t. import_step t (asks t c.args.ask.now) c.args.ask.now.place c.args.place c.before_dot-before.result F c.index-names-at.result.now) c.args.s.now c.loop-at.s _ c.loop-at.invariant.grows c.in_ok-found.ensures.value);
+          ∙ told_of (λ t. import_step t (asks t c.args.ask.now) c.args.ask.now.place c.args.place c.before_dot-before.result F c.index-names-at.result.now) c.args.s.now c.loop-at.s _ c.loop-at.invariant.grows c.in-Ok.ensures.value);
     }
 
 pub circle::package_step-returns-clause-value : goal.circle::package_step-returns-clause-value
@@ -162,7 +161,7 @@ circle::through_star-returns-clause-value t c =
 
 pub circle::found_by_star-returns-in_ok-frame-in-All-clause-value : goal.circle::found_by_star-returns-in_ok-frame-in-All-clause-value
 circle::found_by_star-returns-in_ok-frame-in-All-clause-value t c =
-    later_gives (option_map (found_in (frames_of c.through_star.new.s))) c.through_star.result c.args.s.now c.imported_package.new.s
+    later_gives (option_map (found_at c.through_star.new.s)) c.through_star.result c.args.s.now c.imported_package.new.s
     (λ t. through_star t (asks t c.args.ask.now) c.args.ask.now.place c.in-All.place (frame_at c.imported_package.new.s c.in_ok-frame-in-All.frame.0) c.args.name.now) _
     c.in_ok-frame-in-All.ensures.grows c.through_star.ensures.value
     (star_is (table_in c.args.s.now) (asks (table_in c.args.s.now) c.args.ask.now) c.args.ask.now.place c.in-All.place c.in-All.path c.as_slice.result.now c.args.name.now c.args.clause.now
@@ -175,33 +174,32 @@ circle::also_by-returns-clause-value t c =
     (option_later c.args.s.now c.found_by-found.new.s c.args.so_far c.found_by-found.ensures.grows c.requires))
     (c.also_given.ensures.value _ c.found_by-found.ensures.value)
 
-pub circle::found_by_each-returns-in_err-found-clause-value : goal.circle::found_by_each-returns-in_err-found-clause-value
-circle::found_by_each-returns-in_err-found-clause-value t c =
-    let p = err_from_is_err_and c.from_residual.result c.from_residual.ensures.1 in
-    let F : Option Found = option_map (found_in (frames_of c.loop-at.s)) c.loop-at.found in
+pub circle::found_by_each-returns-in-Err-clause-value : goal.circle::found_by_each-returns-in-Err-clause-value
+circle::found_by_each-returns-in-Err-clause-value t c =
+    let F : Option Found = option_map (found_at c.loop-at.s) c.loop-at.found in
     let all : List Import = imports_of (row_at (table_in c.args.s.now) c.class_of-class.result.0) in
     let read : slice_get all c.loop-at.at ≡ Some c.import_at-clause.result.now = subst (λ t. slice_get (imports_of (row_at t c.class_of-class.result.0)) c.loop-at.at ≡ Some c.import_at-clause.result.now) (table_later c.args.s.now c.loop-at.s c.loop-at.invariant.grows) c.import_at-clause.ensures in
-    exit_err (option_map (found_in (frames_of c.also_by.new.s))) _ c.from_residual.result c.in_err-found.field-0.0 c.args.s.now c.loop-at.s
+    loop_err (option_map (found_at c.also_by.new.s)) (option_map (found_at c.also_by.new.s)) c.in-Err.stop c.args.s.now c.loop-at.s
     (λ t. also_found t (asks t c.args.ask.now) c.args.ask.now.place c.args.star c.args.name.now F c.import_at-clause.result.now)
-    (λ next. found_by_all (table_in c.args.s.now) (asks (table_in c.args.s.now) c.args.ask.now) c.args.ask.now.place c.args.star c.args.name.now next (drop (c.loop-at.at + 1) all)) _ (p.1 ∙ ap Err p.2)
-    c.loop-at.invariant.grows c.in_err-found.ensures.value
+    (λ next. found_by_all (table_in c.args.s.now) (asks (table_in c.args.s.now) c.args.ask.now) c.args.ask.now.place c.args.star c.args.name.now next (drop (c.loop-at.at + 1) all)) _
+    c.loop-at.invariant.grows c.in-Err.ensures.value
     (left_read (found_by_all (table_in c.args.s.now) (asks (table_in c.args.s.now) c.args.ask.now) c.args.ask.now.place c.args.star c.args.name.now F) all c.loop-at.at c.import_at-clause.result.now _ read c.loop-at.invariant.left
     ∙ ap (λ (n : ℕ). found_by_all (table_in c.args.s.now) (asks (table_in c.args.s.now) c.args.ask.now) c.args.ask.now.place c.args.star c.args.name.now None (imports_of (row_at (table_in c.args.s.now) n))) c.class_of-class.ensures.is)
 
 pub circle::found_by_each-loop-at-preserved : goal.circle::found_by_each-loop-at-preserved
 circle::found_by_each-loop-at-preserved t c =
-    let F : Option Found = option_map (found_in (frames_of c.loop-at.s)) c.loop-at.found in
+    let F : Option Found = option_map (found_at c.loop-at.s) c.loop-at.found in
     let all : List Import = imports_of (row_at (table_in c.args.s.now) c.class_of-class.result.0) in
     let read : slice_get all c.loop-at.at ≡ Some c.import_at-clause.result.now = subst (λ t. slice_get (imports_of (row_at t c.class_of-class.result.0)) c.loop-at.at ≡ Some c.import_at-clause.result.now) (table_later c.args.s.now c.loop-at.s c.loop-at.invariant.grows) c.import_at-clause.ensures in
     record {
-      grows = grows_trans c.args.s.now c.loop-at.s c.also_by.new.s c.loop-at.invariant.grows c.in_ok-found.ensures.grows;
-      stand = c.in_ok-found.ensures.stand;
+      grows = grows_trans c.args.s.now c.loop-at.s c.also_by.new.s c.loop-at.invariant.grows c.in-Ok.ensures.grows;
+      stand = c.in-Ok.ensures.stand;
       left =
           then_ok (also_found (table_in c.args.s.now) (asks (table_in c.args.s.now) c.args.ask.now) c.args.ask.now.place c.args.star c.args.name.now F c.import_at-clause.result.now)
           (λ next. found_by_all (table_in c.args.s.now) (asks (table_in c.args.s.now) c.args.ask.now) c.args.ask.now.place c.args.star c.args.name.now next (drop (c.loop-at.at + 1) all))
-          (option_map (found_in (frames_of c.also_by.new.s)) c.in_ok-found.found) _
+          (option_map (found_at c.also_by.new.s) c.in-Ok.next) _
           (left_read (found_by_all (table_in c.args.s.now) (asks (table_in c.args.s.now) c.args.ask.now) c.args.ask.now.place c.args.star c.args.name.now F) all c.loop-at.at c.import_at-clause.result.now _ read c.loop-at.invariant.left)
-          (told_of (λ t. also_found t (asks t c.args.ask.now) c.args.ask.now.place c.args.star c.args.name.now F c.import_at-clause.result.now) c.args.s.now c.loop-at.s _ c.loop-at.invariant.grows c.in_ok-found.ensures.value);
+          (told_of (λ t. also_found t (asks t c.args.ask.now) c.args.ask.now.place c.args.star c.args.name.now F c.import_at-clause.result.now) c.args.s.now c.loop-at.s _ c.loop-at.invariant.grows c.in-Ok.ensures.value);
     }
 
 pub circle::found_element-returns-clause-value : goal.circle::found_element-returns-clause-value
@@ -218,7 +216,7 @@ pub circle::found_in-returns-in-Err-clause-value : goal.circle::found_in-returns
 circle::found_in-returns-in-Err-clause-value t c =
     let A : Asking = asks (table_in c.args.s.now) c.args.ask.now in
     let F : Frame = frame_at c.args.s.now c.args.frame.0 in
-    err_on (option_map (found_in (frames_of c.found_element.new.s))) (option_map (met_seen (frames_of c.found_element.new.s))) c.in-Err.stop (found_element (table_in c.args.s.now) A c.args.bare F c.args.ask.now.place c.args.name.now)
+    err_on (option_map (found_at c.found_element.new.s)) (option_map (met_seen (frames_of c.found_element.new.s))) c.in-Err.stop (found_element (table_in c.args.s.now) A c.args.bare F c.args.ask.now.place c.args.name.now)
     (λ found. met_or c.args.near found (imports_met (table_in c.args.s.now) A c.args.ask.now.place c.args.name.now (imports_of (row_at (table_in c.args.s.now) (class_of F))))) _
     c.in-Err.ensures.value
     (in_frame_is (table_in c.args.s.now) A c.args.bare c.args.near F c.args.ask.now.place c.args.name.now)
@@ -229,9 +227,9 @@ circle::found_in-returns-in-Ok-Some-clause-value t c =
     let F : Frame = frame_at c.args.s.now c.args.frame.0 in
     sym (then_ok (found_element (table_in c.args.s.now) A c.args.bare F c.args.ask.now.place c.args.name.now)
     (λ found. met_or c.args.near found (imports_met (table_in c.args.s.now) A c.args.ask.now.place c.args.name.now (imports_of (row_at (table_in c.args.s.now) (class_of F)))))
-    (Some (found_in (frames_of c.found_element.new.s) c.in-Ok-Some.found)) _
+    (Some (found_at c.found_element.new.s c.in-Ok-Some.found)) _
     (in_frame_is (table_in c.args.s.now) A c.args.bare c.args.near F c.args.ask.now.place c.args.name.now)
-    (c.in-Ok-Some.ensures.value ∙ ap (λ o. Ok (option_map (found_in (frames_of c.found_element.new.s)) o)) c.in-Ok-Some.field-0-is))
+    (c.in-Ok-Some.ensures.value ∙ ap (λ o. Ok (option_map (found_at c.found_element.new.s) o)) c.in-Ok-Some.field-0-is))
 
 pub circle::found_in-returns-in-Ok-None-clause-value : goal.circle::found_in-returns-in-Ok-None-clause-value
 circle::found_in-returns-in-Ok-None-clause-value t c =
@@ -243,7 +241,7 @@ circle::found_in-returns-in-Ok-None-clause-value t c =
     (λ found. met_or c.args.near found (imports_met (table_in c.args.s.now) A c.args.ask.now.place c.args.name.now (imports_of (row_at (table_in c.args.s.now) (class_of F)))))
     None _
     (in_frame_is (table_in c.args.s.now) A c.args.bare c.args.near F c.args.ask.now.place c.args.name.now)
-    (c.in-Ok-None.ensures.value ∙ ap (λ o. Ok (option_map (found_in (frames_of c.found_element.new.s)) o)) c.in-Ok-None.field-0-is))
+    (c.in-Ok-None.ensures.value ∙ ap (λ o. Ok (option_map (found_at c.found_element.new.s) o)) c.in-Ok-None.field-0-is))
     c.met_by_imports.ensures.value
 
 pub bases::found_from-returns-in-Ends-clause-value : goal.bases::found_from-returns-in-Ends-clause-value
@@ -308,7 +306,7 @@ pub bases::class_named-returns-in_err-first-clause-value : goal.bases::class_nam
 bases::class_named-returns-in_err-first-clause-value t c =
     let p = err_from_is_err_and c.from_residual.result c.from_residual.ensures.1 in
     let A : Asking = asks (table_in c.args.s.now) c.args.ask.now in
-    let S : Scope = scope_in (frames_of c.args.s.now) c.args.scope.now.frame.0 c.args.scope.now.iters in
+    let S : Scope = scope_at c.args.s.now c.args.scope.now in
     exit_err (classed_seen (frames_of c.class_first.new.s)) _ c.from_residual.result c.in_err-first.field-0.0 c.args.s.now c.args.s.now
     (λ t. first_of_parts t (asks t c.args.ask.now) c.args.bare c.args.reference.now.top S c.args.reference.now.parts)
     (λ class. class_behind (table_in c.args.s.now) A class (drop 1 c.args.reference.now.parts)) _ (p.1 ∙ ap Err p.2)
@@ -318,7 +316,7 @@ bases::class_named-returns-in_err-first-clause-value t c =
 pub bases::class_named-returns-clause-value : goal.bases::class_named-returns-clause-value
 bases::class_named-returns-clause-value t c =
     let A : Asking = asks (table_in c.args.s.now) c.args.ask.now in
-    let S : Scope = scope_in (frames_of c.args.s.now) c.args.scope.now.frame.0 c.args.scope.now.iters in
+    let S : Scope = scope_at c.args.s.now c.args.scope.now in
     let C : Classed = classed_seen (frames_of c.class_first.new.s) c.in_ok-first.first in
     later_gives _ c.class_behind.result c.args.s.now c.class_first.new.s
     (λ t. class_behind t (asks t c.args.ask.now) C c.behind_first-parts.result.now) _
@@ -338,10 +336,10 @@ bases::walked_parts-returns-in_err-item-clause-value t c =
     let F : Frame = frame_at c.args.s.now c.args.frame.0 in
     let A : Asking = asks (table_in c.args.s.now) c.args.ask.now in
     let row : Option Row = row_at (table_in c.args.s.now) (class_of F) in
-    let W : Walked = walk_seen (frames_of c.loop-at.s) c.loop-at.so_far in
+    let W : Walked = walk_at c.loop-at.s c.loop-at.so_far in
     let part : Part = part_seen c.part_at-part.result in
     let read : slice_get (parts_of row) c.loop-at.at ≡ Some part = part_read c.args.s.now c.loop-at.s c.class_of-class.result.0 F c.loop-at.at part c.loop-at.invariant.grows c.class_of-class.ensures.is c.part_at-part.ensures.is in
-    exit_same {T = ℕ} (λ _. walk_seen (frames_of c.part_walked.new.s) c.part_walked.new.so_far) _ c.from_residual.result c.in_err-item.field-0.0 _ (part_walked (table_in c.args.s.now) A F row c.loop-at.item part W)
+    exit_same {T = ℕ} (λ _. walk_at c.part_walked.new.s c.part_walked.new.so_far) _ c.from_residual.result c.in_err-item.field-0.0 _ (part_walked (table_in c.args.s.now) A F row c.loop-at.item part W)
     (λ w. parts_walked (table_in c.args.s.now) A F row (next_item part c.loop-at.item) (drop (c.loop-at.at + 1) (parts_of row)) w) _
     (p.1 ∙ ap Err p.2) (part_told c.args.s.now c.loop-at.s c.args.ask.now c.args.frame.0 c.loop-at.item part W c.loop-at.invariant.grows c.requires.frame) c.in_err-item.ensures.value
     (left_read (λ ps. parts_walked (table_in c.args.s.now) A F row c.loop-at.item ps W) (parts_of row) c.loop-at.at part _ read c.loop-at.invariant.left)
@@ -371,17 +369,17 @@ bases::walked_parts-loop-at-preserved t c =
     let F : Frame = frame_at c.args.s.now c.args.frame.0 in
     let A : Asking = asks (table_in c.args.s.now) c.args.ask.now in
     let row : Option Row = row_at (table_in c.args.s.now) (class_of F) in
-    let W : Walked = walk_seen (frames_of c.loop-at.s) c.loop-at.so_far in
+    let W : Walked = walk_at c.loop-at.s c.loop-at.so_far in
     let part : Part = part_seen c.part_at-part.result in
     let read : slice_get (parts_of row) c.loop-at.at ≡ Some part = part_read c.args.s.now c.loop-at.s c.class_of-class.result.0 F c.loop-at.at part c.loop-at.invariant.grows c.class_of-class.ensures.is c.part_at-part.ensures.is in
     record {
       grows = grows_trans c.args.s.now c.loop-at.s c.part_walked.new.s c.loop-at.invariant.grows c.in_ok-item.ensures.grows;
       stand = c.in_ok-item.ensures.stand;
       left =
-          ap (λ n. parts_walked (table_in c.args.s.now) A F row n (drop (c.loop-at.at + 1) (parts_of row)) (walk_seen (frames_of c.part_walked.new.s) c.part_walked.new.so_far)) c.in_ok-item.ensures.item
+          ap (λ n. parts_walked (table_in c.args.s.now) A F row n (drop (c.loop-at.at + 1) (parts_of row)) (walk_at c.part_walked.new.s c.part_walked.new.so_far)) c.in_ok-item.ensures.item
           ∙ then_same_ok _ (part_walked (table_in c.args.s.now) A F row c.loop-at.item part W)
           (λ w. parts_walked (table_in c.args.s.now) A F row (next_item part c.loop-at.item) (drop (c.loop-at.at + 1) (parts_of row)) w)
-          (walk_seen (frames_of c.part_walked.new.s) c.part_walked.new.so_far) _
+          (walk_at c.part_walked.new.s c.part_walked.new.so_far) _
           (part_told c.args.s.now c.loop-at.s c.args.ask.now c.args.frame.0 c.loop-at.item part W c.loop-at.invariant.grows c.requires.frame)
           (left_read (λ ps. parts_walked (table_in c.args.s.now) A F row c.loop-at.item ps W) (parts_of row) c.loop-at.at part _ read c.loop-at.invariant.left)
           c.in_ok-item.ensures.value;
@@ -394,7 +392,7 @@ bases::walked_class-returns-in_err-walk-clause-value t c =
     let A : Asking = asks (table_in c.args.s.now) c.args.ask.now in
     let F : Frame = frame_at c.args.s.now c.args.frame.0 in
     let row : Option Row = row_at (table_in c.args.s.now) (class_of F) in
-    exit_same (walk_seen (frames_of c.args.s.now)) _ c.from_residual.result c.in_err-walk.field-0.0 (started F row) (started F row)
+    exit_same (walk_at c.args.s.now) _ c.from_residual.result c.in_err-walk.field-0.0 (started F row) (started F row)
     (λ w. and_then (parts_walked (table_in c.args.s.now) A F row 0 (parts_of row) w) leaf_checked) _ (p.1 ∙ ap Err p.2) refl c.in_err-walk.ensures.value
     (class_is (table_in c.args.s.now) A F row)
 
@@ -403,7 +401,7 @@ bases::walked_class-returns-clause-value t c =
     let A : Asking = asks (table_in c.args.s.now) c.args.ask.now in
     let F : Frame = frame_at c.args.s.now c.args.frame.0 in
     let row : Option Row = row_at (table_in c.args.s.now) (class_of F) in
-    let W : Walked = walk_seen (frames_of c.args.s.now) c.in_ok-walk.walk in
+    let W : Walked = walk_at c.args.s.now c.in_ok-walk.walk in
     gives_same _ c.walk_checked.result _ _
     (then_ok (started F row) (λ w. and_then (parts_walked (table_in c.args.s.now) A F row 0 (parts_of row) w) leaf_checked) W _ (class_is (table_in c.args.s.now) A F row) c.in_ok-walk.ensures.value)
     (c.walk_checked.ensures.value _ c.walked_parts-done.ensures.value)

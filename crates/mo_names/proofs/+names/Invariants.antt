@@ -3,12 +3,11 @@ use Rattle.mo_names.proofs.Circling.{depth}
 use Rattle.mo_names.proofs.OwnElements.{elements_before}
 use Rattle.mo_names.specs.steps.Bases.{parts_walked}
 use Rattle.mo_names.specs.steps.Parts.{imports_of, parts_of}
-use Rattle.mo_names.specs.Sights.{IsFound, asks, found_in, classed_seen, IsWalk, walk_seen}
+use Rattle.mo_names.specs.Sights.{IsFound, asks, found_in, classed_seen, IsWalk, found_at, walk_at}
 use Rattle.mo_names.specs.steps.Lookup.{package_behind, found_by_all}
-use Rattle.mo_scope.specs.Frames.{class_of}
 use Rattle.mo_scope.specs.Lookup.{import_behind, found_from, class_behind}
 use Rattle.mo_scope.specs.Rows.{row_at}
-use Rattle.mo_scope.specs.Worlds.{Grows, frames_of, table_in, IsFrame, frame_at}
+use Rattle.mo_scope.specs.Worlds.{Grows, frames_of, table_in, IsFrame, frame_at, row_of_frame}
 use Rattle.std.proofs.Common.{◌≡◌, drop, map, None, ◌+◌, ◌*◌}
 use Rattle.std.specs.Prelude.{option_map, IfSome}
 use Rattle.mo_names.proofs.+names.Given as goal
@@ -17,8 +16,8 @@ abbrev pub invariant-circle::import_behind-loop-at : goal.invariant-circle::impo
 invariant-circle::import_behind-loop-at l = record {
   grows : Grows l.initial.s l.s;
   stand : IsFound l.s l.found;
-  left : import_behind (table_in l.initial.s) (asks (table_in l.initial.s) l.ask) l.ask.place l.place (found_in (frames_of l.s) l.found) (map (λ name. name.now) (drop l.at l.names))
-      ≡ import_behind (table_in l.initial.s) (asks (table_in l.initial.s) l.ask) l.ask.place l.place (found_in (frames_of l.initial.s) l.initial.found) (map (λ name. name.now) l.names);
+  left : import_behind (table_in l.initial.s) (asks (table_in l.initial.s) l.ask) l.ask.place l.place (found_at l.s l.found) (map (λ name. name.now) (drop l.at l.names))
+      ≡ import_behind (table_in l.initial.s) (asks (table_in l.initial.s) l.ask) l.ask.place l.place (found_at l.initial.s l.initial.found) (map (λ name. name.now) l.names);
 }
 
 abbrev pub invariant-circle::package_behind-loop-name : goal.invariant-circle::package_behind-loop-name
@@ -33,7 +32,7 @@ abbrev pub invariant-circle::found_by_each-loop-at : goal.invariant-circle::foun
 invariant-circle::found_by_each-loop-at l = record {
   grows : Grows l.initial.s l.s;
   stand : IfSome l.found (IsFound l.s);
-  left : found_by_all (table_in l.initial.s) (asks (table_in l.initial.s) l.ask) l.ask.place l.star l.name (option_map (found_in (frames_of l.s)) l.found) (drop l.at (imports_of (row_at (table_in l.initial.s) l.class.0)))
+  left : found_by_all (table_in l.initial.s) (asks (table_in l.initial.s) l.ask) l.ask.place l.star l.name (option_map (found_at l.s) l.found) (drop l.at (imports_of (row_at (table_in l.initial.s) l.class.0)))
       ≡ found_by_all (table_in l.initial.s) (asks (table_in l.initial.s) l.ask) l.ask.place l.star l.name None (imports_of (row_at (table_in l.initial.s) l.class.0));
 }
 
@@ -60,9 +59,9 @@ abbrev pub invariant-bases::walked_parts-loop-at : goal.invariant-bases::walked_
 invariant-bases::walked_parts-loop-at l = record {
   grows : Grows l.initial.s l.s;
   stand : IsWalk l.s l.so_far;
-  left : parts_walked (table_in l.initial.s) (asks (table_in l.initial.s) l.ask) (frame_at l.initial.s l.frame.0) (row_at (table_in l.initial.s) (class_of (frame_at l.initial.s l.frame.0))) l.item (drop l.at (parts_of (row_at (table_in l.initial.s) (class_of (frame_at l.initial.s l.frame.0))))) (walk_seen (frames_of l.s) l.so_far)
-      ≡ parts_walked (table_in l.initial.s) (asks (table_in l.initial.s) l.ask) (frame_at l.initial.s l.frame.0) (row_at (table_in l.initial.s) (class_of (frame_at l.initial.s l.frame.0))) 0 (parts_of (row_at (table_in l.initial.s) (class_of (frame_at l.initial.s l.frame.0)))) (walk_seen (frames_of l.initial.s) l.initial.so_far);
-  counted : l.item ≡ elements_before l.at (parts_of (row_at (table_in l.initial.s) (class_of (frame_at l.initial.s l.frame.0))));
+  left : parts_walked (table_in l.initial.s) (asks (table_in l.initial.s) l.ask) (frame_at l.initial.s l.frame.0) (row_of_frame l.initial.s l.frame.0) l.item (drop l.at (parts_of (row_of_frame l.initial.s l.frame.0))) (walk_at l.s l.so_far)
+      ≡ parts_walked (table_in l.initial.s) (asks (table_in l.initial.s) l.ask) (frame_at l.initial.s l.frame.0) (row_of_frame l.initial.s l.frame.0) 0 (parts_of (row_of_frame l.initial.s l.frame.0)) (walk_at l.initial.s l.initial.so_far);
+  counted : l.item ≡ elements_before l.at (parts_of (row_of_frame l.initial.s l.frame.0));
 }
 
 abbrev pub decreases-circle::walked : goal.decreases-circle::walked

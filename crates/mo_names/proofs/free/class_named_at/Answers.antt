@@ -2,7 +2,8 @@
 use Rattle.std.proofs.Common.{ap, false}
 use Rattle.mo_scope.specs.Frames.{Frame}
 use Rattle.mo_scope.specs.Lookup.{asking_of, class_named}
-use Rattle.mo_scope.specs.Worlds.{frames_of, scope_in, table_in}
+use Rattle.mo_scope.specs.Worlds.{frames_of, table_in}
+use Rattle.mo_scope.specs.Sights.{scope_at}
 use Rattle.mo_names.specs.Sights.{classed_seen}
 use Rattle.mo_names.proofs.Circling.{later_gives}
 use Rattle.mo_names.proofs.Later.{frame_later}
@@ -13,6 +14,6 @@ returns-clause-value c =
     let u = c.args.s.now in
     let v = c.keep_for_class.new.s in
     later_gives (classed_seen (frames_of c.class_by_lookup.new.s)) c.class_by_lookup.result u v
-    (λ t. class_named t (asking_of t) false (scope_in (frames_of v) c.args.at.now.frame.0 c.args.at.now.iters) c.args.reference.now) _ c.in_ok-keep_for_class.ensures c.class_by_lookup.ensures.value
+    (λ t. class_named t (asking_of t) false (scope_at v c.args.at.now) c.args.reference.now) _ c.in_ok-keep_for_class.ensures c.class_by_lookup.ensures.value
     (ap (λ (f : Frame). class_named (table_in u) (asking_of (table_in u)) false (record { frame = f; iterations = c.args.at.now.iters }) c.args.reference.now)
     (frame_later u v c.args.at.now.frame.0 c.in_ok-keep_for_class.ensures c.requires))

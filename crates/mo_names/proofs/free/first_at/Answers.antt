@@ -2,7 +2,8 @@
 use Rattle.std.proofs.Common.{ap, false}
 use Rattle.mo_scope.specs.Frames.{Frame}
 use Rattle.mo_scope.specs.Lookup.{asking_of}
-use Rattle.mo_scope.specs.Worlds.{frames_of, scope_in, table_in}
+use Rattle.mo_scope.specs.Worlds.{frames_of, table_in}
+use Rattle.mo_scope.specs.Sights.{scope_at}
 use Rattle.mo_names.specs.Past.{first_met}
 use Rattle.mo_names.specs.Sights.{met_seen}
 use Rattle.mo_names.proofs.Circling.{later_gives}
@@ -14,6 +15,6 @@ returns-clause-value c =
     let u = c.args.s.now in
     let v = c.keep_for_name.new.s in
     later_gives (met_seen (frames_of c.first_by_lookup.new.s)) c.first_by_lookup.result u v
-    (λ t. first_met t (asking_of t) false c.args.top (scope_in (frames_of v) c.args.at.now.frame.0 c.args.at.now.iters) c.args.place c.args.name.now) _ c.in_ok-keep_for_name.ensures c.first_by_lookup.ensures.value
+    (λ t. first_met t (asking_of t) false c.args.top (scope_at v c.args.at.now) c.args.place c.args.name.now) _ c.in_ok-keep_for_name.ensures c.first_by_lookup.ensures.value
     (ap (λ (f : Frame). first_met (table_in u) (asking_of (table_in u)) false c.args.top (record { frame = f; iterations = c.args.at.now.iters }) c.args.place c.args.name.now)
     (frame_later u v c.args.at.now.frame.0 c.in_ok-keep_for_name.ensures c.requires))

@@ -2,8 +2,8 @@
 use Rattle.std.proofs.Common.{◌≡◌}
 use Rattle.mo_scope.specs.Frames.{owners}
 use Rattle.mo_scope.specs.Names.{inner_among}
-use Rattle.mo_scope.specs.Worlds.{Grows, IsFrame, frame_at, frames_of, table_in}
-use Rattle.mo_names.specs.Sights.{member_of}
+use Rattle.mo_scope.specs.Worlds.{Grows, IsFrame, frame_at, table_in}
+use Rattle.mo_scope.specs.Sights.{member_at}
 use Rattle.mo_names.proofs.Owners.{owner_count}
 use Rattle.mo_names.proofs.outer.inner_of.Given as goal
 
@@ -11,8 +11,8 @@ abbrev pub invariant-loop-owner : goal.invariant-loop-owner
 invariant-loop-owner l = record {
   grows : Grows l.initial.s l.s;
   stand : IsFrame l.s l.frame.0;
-  left : inner_among (table_in l.initial.s) l.place (member_of (frames_of l.initial.s) l.outer) (owners (frame_at l.s l.frame.0))
-      ≡ inner_among (table_in l.initial.s) l.place (member_of (frames_of l.initial.s) l.outer) (owners (frame_at l.initial.s l.initial.frame.0));
+  left : inner_among (table_in l.initial.s) l.place (member_at l.initial.s l.outer) (owners (frame_at l.s l.frame.0))
+      ≡ inner_among (table_in l.initial.s) l.place (member_at l.initial.s l.outer) (owners (frame_at l.initial.s l.initial.frame.0));
 }
 
 abbrev pub decreases-loop-owner : goal.decreases-loop-owner

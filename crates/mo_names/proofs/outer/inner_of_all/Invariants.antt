@@ -2,13 +2,13 @@
 use Rattle.std.proofs.Common.{◌≡◌, drop, find, map}
 use Rattle.mo_scope.specs.Names.{is_inner_for}
 use Rattle.mo_scope.specs.Places.{Every}
-use Rattle.mo_scope.specs.Worlds.{frames_of}
-use Rattle.mo_names.specs.Sights.{IsMember, member_of}
+use Rattle.mo_scope.specs.Sights.{member_at}
+use Rattle.mo_names.specs.Sights.{IsMember}
 use Rattle.mo_names.proofs.outer.inner_of_all.Given as goal
 
 abbrev pub invariant-loop-member : goal.invariant-loop-member
 invariant-loop-member l = record {
-  left : find (is_inner_for (member_of (frames_of l.s) l.outer)) (map (member_of (frames_of l.s)) (drop l.member-index l.members))
-      ≡ find (is_inner_for (member_of (frames_of l.s) l.outer)) (map (member_of (frames_of l.s)) l.members);
+  left : find (is_inner_for (member_at l.s l.outer)) (map (member_at l.s) (drop l.member-index l.members))
+      ≡ find (is_inner_for (member_at l.s l.outer)) (map (member_at l.s) l.members);
   exist : Every (IsMember l.s) (drop l.member-index l.members);
 }

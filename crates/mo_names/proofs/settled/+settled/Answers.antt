@@ -6,11 +6,11 @@ use Rattle.mo_scope.specs.declared.row.Part.{Part as PartAt}
 use Rattle.mo_scope.specs.Lookup.{Walked}
 use Rattle.mo_scope.specs.Rows.{Part, Row, Table, row_at}
 use Rattle.mo_scope.specs.Sights.{clause_seen, declares_seen, part_seen}
-use Rattle.mo_scope.specs.Worlds.{frame_at, frames_of, table_in}
+use Rattle.mo_scope.specs.Worlds.{frame_at, table_in}
 use Rattle.mo_names.specs.steps.Bases.{part_walked, parts_walked}
 use Rattle.mo_names.specs.steps.Settled.{ToldOwned}
 use Rattle.mo_names.specs.steps.Parts.{parts_of}
-use Rattle.mo_names.specs.Sights.{asking_at, walk_seen}
+use Rattle.mo_names.specs.Sights.{asking_at, walk_at}
 use Rattle.mo_names.specs.steps.Twins.{owned_walk}
 use Rattle.mo_names.proofs.Later.{grows_refl, grows_trans, is_frame_later, is_walk_later}
 use Rattle.mo_names.proofs.OwnElements.{counted_next, own_part, own_part_later}
@@ -53,8 +53,8 @@ part_settled-returns-in_ok-own_settled-in-Element-clause-owned t c =
     let T : Table = table_in c.args.s.now in
     let F : Frame = frame_at c.args.s.now c.args.frame.0 in
     let row : Option Row = row_at T (class_of F) in
-    let W : Walked = walk_seen (frames_of c.args.s.now) c.args.so_far.now.walk in
-    let V : Walked = walk_seen (frames_of c.args.s.now) c.own_settled.new.so_far.walk in
+    let W : Walked = walk_at c.args.s.now c.args.so_far.now.walk in
+    let V : Walked = walk_at c.args.s.now c.own_settled.new.so_far.walk in
     let after = c.own_settled.new.so_far in
     λ alike. subst (λ (p : PartAt). ToldOwned T after.classes after.deep F (λ asking owned x. part_walked T asking owned row c.args.so_far.now.item (part_seen p) x) W V) (sym c.in-Element.is)
     (own_told_owned T F row c.args.so_far.now.item (declares_seen c.in-Element.declares) W V after.classes after.deep c.in_ok-own_settled-in-Element.ensures.joined)
@@ -67,8 +67,8 @@ parts_settled-loop-at-init t c =
       grows = grows_refl c.args.s.now;
       known = c.requires.known;
       stand = c.requires.so_far;
-      left = λ left busy free. ap (λ n. parts_walked (table_in c.args.s.now) (asking_at (table_in c.args.s.now) left busy) F row n (parts_of row) (walk_seen (frames_of c.args.s.now) c.args.so_far.now.walk)) c.requires.none;
-      owned = λ alike owned twin left busy free. ap (λ n. parts_walked (table_in c.args.s.now) (asking_at (table_in c.args.s.now) left busy) owned row n (parts_of row) (owned_walk owned (walk_seen (frames_of c.args.s.now) c.args.so_far.now.walk))) c.requires.none;
+      left = λ left busy free. ap (λ n. parts_walked (table_in c.args.s.now) (asking_at (table_in c.args.s.now) left busy) F row n (parts_of row) (walk_at c.args.s.now c.args.so_far.now.walk)) c.requires.none;
+      owned = λ alike owned twin left busy free. ap (λ n. parts_walked (table_in c.args.s.now) (asking_at (table_in c.args.s.now) left busy) owned row n (parts_of row) (owned_walk owned (walk_at c.args.s.now c.args.so_far.now.walk))) c.requires.none;
       alike = λ alike. alike;
       counted = c.requires.none;
     }
@@ -108,18 +108,18 @@ parts_settled-loop-at-preserved t c =
       stand = c.in_ok-part_settled.ensures.stand;
       left =
           part_on (table_in c.args.s.now) F row c.loop-at.so_far c.part_settled.new.so_far c.loop-at.at part
-          (walk_seen (frames_of c.loop-at.s) c.loop-at.so_far.walk) (walk_seen (frames_of c.part_settled.new.s) c.part_settled.new.so_far.walk)
-          (λ left busy. parts_walked (table_in c.args.s.now) (asking_at (table_in c.args.s.now) left busy) F row 0 (parts_of row) (walk_seen (frames_of c.args.s.now) c.args.so_far.now.walk))
+          (walk_at c.loop-at.s c.loop-at.so_far.walk) (walk_at c.part_settled.new.s c.part_settled.new.so_far.walk)
+          (λ left busy. parts_walked (table_in c.args.s.now) (asking_at (table_in c.args.s.now) left busy) F row 0 (parts_of row) (walk_at c.args.s.now c.args.so_far.now.walk))
           read c.in_ok-part_settled.ensures.further c.in_ok-part_settled.ensures.item
-          (part_told_free c.args.s.now c.loop-at.s c.args.frame.0 c.loop-at.so_far.item part (walk_seen (frames_of c.loop-at.s) c.loop-at.so_far.walk) (walk_seen (frames_of c.part_settled.new.s) c.part_settled.new.so_far.walk)
+          (part_told_free c.args.s.now c.loop-at.s c.args.frame.0 c.loop-at.so_far.item part (walk_at c.loop-at.s c.loop-at.so_far.walk) (walk_at c.part_settled.new.s c.part_settled.new.so_far.walk)
           c.part_settled.new.so_far.classes c.part_settled.new.so_far.deep c.loop-at.invariant.grows c.requires.frame c.in_ok-part_settled.ensures.told)
           c.loop-at.invariant.left;
       owned = λ alike owned twin.
           part_on (table_in c.args.s.now) owned row c.loop-at.so_far c.part_settled.new.so_far c.loop-at.at part
-          (owned_walk owned (walk_seen (frames_of c.loop-at.s) c.loop-at.so_far.walk)) (owned_walk owned (walk_seen (frames_of c.part_settled.new.s) c.part_settled.new.so_far.walk))
-          (λ left busy. parts_walked (table_in c.args.s.now) (asking_at (table_in c.args.s.now) left busy) owned row 0 (parts_of row) (owned_walk owned (walk_seen (frames_of c.args.s.now) c.args.so_far.now.walk)))
+          (owned_walk owned (walk_at c.loop-at.s c.loop-at.so_far.walk)) (owned_walk owned (walk_at c.part_settled.new.s c.part_settled.new.so_far.walk))
+          (λ left busy. parts_walked (table_in c.args.s.now) (asking_at (table_in c.args.s.now) left busy) owned row 0 (parts_of row) (owned_walk owned (walk_at c.args.s.now c.args.so_far.now.walk)))
           read c.in_ok-part_settled.ensures.further c.in_ok-part_settled.ensures.item
-          (part_told_owned c.args.s.now c.loop-at.s c.args.frame.0 c.loop-at.so_far.item part (walk_seen (frames_of c.loop-at.s) c.loop-at.so_far.walk) (walk_seen (frames_of c.part_settled.new.s) c.part_settled.new.so_far.walk)
+          (part_told_owned c.args.s.now c.loop-at.s c.args.frame.0 c.loop-at.so_far.item part (walk_at c.loop-at.s c.loop-at.so_far.walk) (walk_at c.part_settled.new.s c.part_settled.new.so_far.walk)
           c.part_settled.new.so_far.classes c.part_settled.new.so_far.deep c.loop-at.invariant.grows c.requires.frame (c.in_ok-part_settled.ensures.owned alike) owned twin)
           (c.loop-at.invariant.owned (c.in_ok-part_settled.ensures.further.alike alike) owned twin);
       alike = λ alike. c.loop-at.invariant.alike (c.in_ok-part_settled.ensures.further.alike alike);
@@ -129,21 +129,21 @@ parts_settled-loop-at-preserved t c =
 pub class_settled-returns-clause-told : goal.class_settled-returns-clause-told
 class_settled-returns-clause-told t c =
     let F : Frame = frame_at c.args.s.now c.args.frame.0 in
-    class_told (table_in c.args.s.now) F (walk_seen (frames_of c.args.s.now) c.in_ok-made.made.walk) (walk_seen (frames_of c.parts_settled.new.s) c.parts_settled.new.so_far.walk)
+    class_told (table_in c.args.s.now) F (walk_at c.args.s.now c.in_ok-made.made.walk) (walk_at c.parts_settled.new.s c.parts_settled.new.so_far.walk)
     c.parts_settled.new.so_far.classes c.parts_settled.new.so_far.deep c.in_ok-made.ensures.value c.in_ok-parts_settled.ensures.told c.in_ok-leaf_checked.ensures
 
 pub settle-put_settled-requires-clause-told : goal.settle-put_settled-requires-clause-told
 settle-put_settled-requires-clause-told t c =
-    class_told_later c.args.s.now c.class_settled.new.s c.args.frame.0 (walk_seen (frames_of c.class_settled.new.s) c.in_ok-made.made.walk) c.in_ok-made.made.classes c.in_ok-made.made.deep
+    class_told_later c.args.s.now c.class_settled.new.s c.args.frame.0 (walk_at c.class_settled.new.s c.in_ok-made.made.walk) c.in_ok-made.made.classes c.in_ok-made.made.deep
     c.in_ok-made.ensures.grows c.requires.frame c.in_ok-made.ensures.told
 
 pub class_settled-returns-clause-owned : goal.class_settled-returns-clause-owned
 class_settled-returns-clause-owned t c =
     let F : Frame = frame_at c.args.s.now c.args.frame.0 in
-    λ alike. class_told_owned (table_in c.args.s.now) F (walk_seen (frames_of c.args.s.now) c.in_ok-made.made.walk) (walk_seen (frames_of c.parts_settled.new.s) c.parts_settled.new.so_far.walk)
+    λ alike. class_told_owned (table_in c.args.s.now) F (walk_at c.args.s.now c.in_ok-made.made.walk) (walk_at c.parts_settled.new.s c.parts_settled.new.so_far.walk)
     c.parts_settled.new.so_far.classes c.parts_settled.new.so_far.deep c.in_ok-made.ensures.value (c.in_ok-made.ensures.leaf (c.in_ok-parts_settled.ensures.alike alike)) (c.in_ok-parts_settled.ensures.owned alike)
 
 pub settle-put_settled-requires-clause-owned : goal.settle-put_settled-requires-clause-owned
 settle-put_settled-requires-clause-owned t c =
-    λ alike. class_owned_later c.args.s.now c.class_settled.new.s c.args.frame.0 (walk_seen (frames_of c.class_settled.new.s) c.in_ok-made.made.walk) c.in_ok-made.made.classes c.in_ok-made.made.deep
+    λ alike. class_owned_later c.args.s.now c.class_settled.new.s c.args.frame.0 (walk_at c.class_settled.new.s c.in_ok-made.made.walk) c.in_ok-made.made.classes c.in_ok-made.made.deep
     c.in_ok-made.ensures.grows c.requires.frame (c.in_ok-made.ensures.owned alike)

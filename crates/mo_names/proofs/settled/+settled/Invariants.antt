@@ -1,12 +1,11 @@
 -- What is left of the parts of a class, and how deep each function goes.
 use Rattle.std.proofs.Common.{◌≡◌, ℕ, List, true, drop, ◌+◌, ◌*◌}
-use Rattle.mo_scope.specs.Frames.{Frame, class_of}
-use Rattle.mo_scope.specs.Rows.{row_at}
-use Rattle.mo_scope.specs.Worlds.{Grows, frames_of, table_in, frame_at}
+use Rattle.mo_scope.specs.Frames.{Frame}
+use Rattle.mo_scope.specs.Worlds.{Grows, table_in, frame_at, row_of_frame}
 use Rattle.mo_names.specs.steps.Bases.{parts_walked}
 use Rattle.mo_names.specs.steps.Parts.{parts_of}
 use Rattle.mo_names.specs.steps.Settled.{AreFree, AreSettled}
-use Rattle.mo_names.specs.Sights.{IsWalk, asking_at, walk_seen}
+use Rattle.mo_names.specs.Sights.{IsWalk, asking_at, walk_at}
 use Rattle.mo_names.specs.steps.Twins.{owned_walk, unowned}
 use Rattle.mo_names.proofs.OwnElements.{elements_before}
 use Rattle.mo_names.proofs.settled.+settled.Given as goal
@@ -17,13 +16,13 @@ invariant-parts_settled-loop-at l = record {
   known : AreSettled l.s l.known;
   stand : IsWalk l.s l.so_far.walk;
   left : (left : ℕ) (busy : List ℕ) → AreFree l.so_far.classes l.so_far.deep left busy →
-      parts_walked (table_in l.initial.s) (asking_at (table_in l.initial.s) left busy) (frame_at l.initial.s l.frame.0) (row_at (table_in l.initial.s) (class_of (frame_at l.initial.s l.frame.0))) l.so_far.item (drop l.at (parts_of (row_at (table_in l.initial.s) (class_of (frame_at l.initial.s l.frame.0))))) (walk_seen (frames_of l.s) l.so_far.walk)
-      ≡ parts_walked (table_in l.initial.s) (asking_at (table_in l.initial.s) left busy) (frame_at l.initial.s l.frame.0) (row_at (table_in l.initial.s) (class_of (frame_at l.initial.s l.frame.0))) 0 (parts_of (row_at (table_in l.initial.s) (class_of (frame_at l.initial.s l.frame.0)))) (walk_seen (frames_of l.initial.s) l.initial.so_far.walk);
+      parts_walked (table_in l.initial.s) (asking_at (table_in l.initial.s) left busy) (frame_at l.initial.s l.frame.0) (row_of_frame l.initial.s l.frame.0) l.so_far.item (drop l.at (parts_of (row_of_frame l.initial.s l.frame.0))) (walk_at l.s l.so_far.walk)
+      ≡ parts_walked (table_in l.initial.s) (asking_at (table_in l.initial.s) left busy) (frame_at l.initial.s l.frame.0) (row_of_frame l.initial.s l.frame.0) 0 (parts_of (row_of_frame l.initial.s l.frame.0)) (walk_at l.initial.s l.initial.so_far.walk);
   owned : l.so_far.alike ≡ true → (owned : Frame) → unowned owned ≡ frame_at l.initial.s l.frame.0 → (left : ℕ) (busy : List ℕ) → AreFree l.so_far.classes l.so_far.deep left busy →
-      parts_walked (table_in l.initial.s) (asking_at (table_in l.initial.s) left busy) owned (row_at (table_in l.initial.s) (class_of (frame_at l.initial.s l.frame.0))) l.so_far.item (drop l.at (parts_of (row_at (table_in l.initial.s) (class_of (frame_at l.initial.s l.frame.0))))) (owned_walk owned (walk_seen (frames_of l.s) l.so_far.walk))
-      ≡ parts_walked (table_in l.initial.s) (asking_at (table_in l.initial.s) left busy) owned (row_at (table_in l.initial.s) (class_of (frame_at l.initial.s l.frame.0))) 0 (parts_of (row_at (table_in l.initial.s) (class_of (frame_at l.initial.s l.frame.0)))) (owned_walk owned (walk_seen (frames_of l.initial.s) l.initial.so_far.walk));
+      parts_walked (table_in l.initial.s) (asking_at (table_in l.initial.s) left busy) owned (row_of_frame l.initial.s l.frame.0) l.so_far.item (drop l.at (parts_of (row_of_frame l.initial.s l.frame.0))) (owned_walk owned (walk_at l.s l.so_far.walk))
+      ≡ parts_walked (table_in l.initial.s) (asking_at (table_in l.initial.s) left busy) owned (row_of_frame l.initial.s l.frame.0) 0 (parts_of (row_of_frame l.initial.s l.frame.0)) (owned_walk owned (walk_at l.initial.s l.initial.so_far.walk));
   alike : l.so_far.alike ≡ true → l.initial.so_far.alike ≡ true;
-  counted : l.so_far.item ≡ elements_before l.at (parts_of (row_at (table_in l.initial.s) (class_of (frame_at l.initial.s l.frame.0))));
+  counted : l.so_far.item ≡ elements_before l.at (parts_of (row_of_frame l.initial.s l.frame.0));
 }
 
 abbrev pub decreases-settle : goal.decreases-settle

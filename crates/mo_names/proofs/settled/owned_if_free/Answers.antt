@@ -1,15 +1,15 @@
 -- Where no class is having its bases found, none of these is.
 use Rattle.std.proofs.Common.{◌≡◌, Ok, true, ap, rules, sym, ◌∙◌}
 use Rattle.mo_scope.specs.Frames.{Frame}
-use Rattle.mo_scope.specs.Worlds.{frame_at, frames_of, table_in}
-use Rattle.mo_names.specs.Sights.{walk_seen}
+use Rattle.mo_scope.specs.Worlds.{frame_at, table_in}
 use Rattle.mo_names.specs.steps.Twins.{owned_walk}
 use Rattle.mo_names.proofs.Settling.{elements_freely}
+use Rattle.mo_names.specs.Sights.{walk_at}
 use Rattle.mo_names.proofs.settled.owned_if_free.Goals as goal
 
 pub returns-in-Ok-clause-is : goal.returns-in-Ok-clause-is
 returns-in-Ok-clause-is c =
     let F : Frame = frame_at c.args.s.now c.args.frame.0 in
     let so : c.is_so_freely.result ≡ true = search rules in
-    λ place. elements_freely (table_in c.args.s.now) F (owned_walk F (walk_seen (frames_of c.args.s.now) c.args.made.walk)) c.args.made.classes c.args.made.deep place
+    λ place. elements_freely (table_in c.args.s.now) F (owned_walk F (walk_at c.args.s.now c.args.made.walk)) c.args.made.classes c.args.made.deep place
     (c.is_so_freely.ensures.other so) (c.is_so_freely.ensures.less so) (c.requires.told (c.is_so_freely.ensures.alike so)) ∙ ap Ok (sym c.in-Ok.ensures.is)

@@ -1,23 +1,22 @@
 -- By the frame that differs from it in path and owner alone.
 use Rattle.std.proofs.Common.{◌≡◌, [], rules}
-use Rattle.std.specs.Prelude.{option_map}
-use Rattle.mo_scope.specs.Entries.{number_of}
 use Rattle.mo_scope.specs.Frames.{sources_of}
-use Rattle.mo_scope.specs.Worlds.{frame_at, frame_or_top, frames_of}
-use Rattle.mo_names.specs.Sights.{walk_seen}
+use Rattle.mo_scope.specs.Worlds.{frame_at}
+use Rattle.mo_scope.specs.Sights.{frame_at_or_top}
 use Rattle.mo_names.proofs.Later.{grows_trans}
 use Rattle.mo_names.proofs.Settling.{ok_earlier, twin_told}
+use Rattle.mo_names.specs.Sights.{walk_at}
 use Rattle.mo_names.proofs.settled.owned_settled.Goals as goal
 
 pub owned_if_free-requires-clause-told : goal.owned_if_free-requires-clause-told
 owned_if_free-requires-clause-told c =
     let u = c.args.s.now in
     let none : sources_of (frame_at u c.args.frame.0) ≡ [] = search rules in
-    λ alike. twin_told u c.looked_up_class.new.s c.class_settled.new.s c.args.frame.0 c.in_ok-twin.twin.0 c.class_of-class.result.0 (frame_or_top (frames_of u) (option_map number_of c.outer-outer.result))
-    (walk_seen (frames_of c.class_settled.new.s) c.in-Ok.made.walk) c.in-Ok.made.classes c.in-Ok.made.deep c.in_ok-twin.ensures.grows c.in-Ok.ensures.grows c.requires c.in_ok-twin.ensures.exists none
+    λ alike. twin_told u c.looked_up_class.new.s c.class_settled.new.s c.args.frame.0 c.in_ok-twin.twin.0 c.class_of-class.result.0 (frame_at_or_top u c.outer-outer.result)
+    (walk_at c.class_settled.new.s c.in-Ok.made.walk) c.in-Ok.made.classes c.in-Ok.made.deep c.in_ok-twin.ensures.grows c.in-Ok.ensures.grows c.requires c.in_ok-twin.ensures.exists none
     c.class_of-class.ensures.is c.outer-outer.ensures.is c.in_ok-twin.ensures.is (c.in-Ok.ensures.owned alike)
 
 pub returns-in-Ok-clause-is : goal.returns-in-Ok-clause-is
 returns-in-Ok-clause-is c =
-    ok_earlier c.args.s.now c.class_settled.new.s c.args.frame.0 (walk_seen (frames_of c.owned_if_free.new.s)) c.owned_if_free.result
+    ok_earlier c.args.s.now c.class_settled.new.s c.args.frame.0 (walk_at c.owned_if_free.new.s) c.owned_if_free.result
     (grows_trans c.args.s.now c.looked_up_class.new.s c.class_settled.new.s c.in_ok-twin.ensures.grows c.in-Ok.ensures.grows) c.requires c.owned_if_free.ensures.is

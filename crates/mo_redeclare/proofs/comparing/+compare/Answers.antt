@@ -1,6 +1,6 @@
 -- One step further.
 use Rattle.mo_names.proofs.Later.{grows_trans, is_member_later}
-use Rattle.mo_names.specs.Sights.{member_of, IsInherited, inherited_seen, walk_seen}
+use Rattle.mo_names.specs.Sights.{member_of, IsInherited, inherited_seen, walk_at}
 use Rattle.mo_names.specs.declared.walk.Inherited.{Inherited}
 use Rattle.mo_redeclare.proofs.Later.{are_kept_later, matched_before}
 use Rattle.mo_redeclare.proofs.Matching.{nothing_matches, one_matches, leaves_first, compared_further, none_left, pair_left}
@@ -14,6 +14,7 @@ use Rattle.mo_scope.specs.Lookup.{Walked, members_in}
 use Rattle.mo_scope.specs.Outcome.{Gives}
 use Rattle.mo_scope.specs.Places.{Every}
 use Rattle.mo_scope.specs.Worlds.{frames_of, table_in, member_in, MemberEntry, frame_at}
+use Rattle.mo_scope.specs.Sights.{member_at}
 use Rattle.std.proofs.Common.{◌≡◌, sym, subst, ◌+◌, List, Err, drop, map, ap, ◌∙◌, Bool, true, false, Ok, ◌-◌, arith}
 use Rattle.std.proofs.lemmas.List.{drop_all}
 use Rattle.std.proofs.lemmas.Result.{err_from_is_err_and}
@@ -63,7 +64,7 @@ are_matched-returns-in_err-element_matched-clause-value t c =
     let M : List Member = map (member_in (frames_of c.args.s.now)) c.args.members.now in
     let G = λ (xs : List Inherited). are_matched T C c.args.at.now.place M (map (λ inherited. inherited.member) (map (inherited_seen (frames_of c.args.s.now)) xs)) in
     let is = every_at (IsInherited c.args.s.now) c.args.wanted.now c.loop-inherited.inherited-index c.inherited-item.result c.requires.wanted c.loop-inherited-test.true c.inherited-item.is in
-    let m : Member = member_of (frames_of c.args.s.now) c.inherited-item.result.member in
+    let m : Member = member_at c.args.s.now c.inherited-item.result.member in
     rw (p.1, p.2) (err_on {T = Unit {0}} {U = Unit {0}} (λ _. tt) (λ _. tt) c.in_err-element_matched.field-0.0 (element_matched T C c.args.at.now.place M m)
     (λ _. G (drop (c.loop-inherited.inherited-index + 1) c.args.wanted.now)) _
     (subst (Gives {T = Unit {0}} (λ _. tt) (Err c.in_err-element_matched.field-0.0))
@@ -86,7 +87,7 @@ are_matched-loop-inherited-preserved t c =
     let M : List Member = map (member_in (frames_of c.args.s.now)) c.args.members.now in
     let G = λ (xs : List Inherited). are_matched T C c.args.at.now.place M (map (λ inherited. inherited.member) (map (inherited_seen (frames_of c.args.s.now)) xs)) in
     let is = every_at (IsInherited c.args.s.now) c.args.wanted.now c.loop-inherited.inherited-index c.inherited-item.result c.requires.wanted c.loop-inherited-test.true c.inherited-item.is in
-    let m : Member = member_of (frames_of c.args.s.now) c.inherited-item.result.member in
+    let m : Member = member_at c.args.s.now c.inherited-item.result.member in
     record {
       grows = grows_trans c.args.s.now c.loop-inherited.s c.element_matched.new.s c.loop-inherited.invariant.grows c.in_ok-element_matched.ensures.grows;
       left =
@@ -130,8 +131,8 @@ walks_compared-returns-in_err-no_leaves-clause-value t c =
     let p = err_from_is_err_and c.from_residual.result c.from_residual.ensures.1 in
     let T = table_in c.args.s.now in
     let C = compatible_from T c.args.at.now.left c.args.at.now.place c.args.at.now.pairs.now in
-    let a : Walked = walk_seen (frames_of c.args.s.now) c.args.new.now in
-    let b : Walked = walk_seen (frames_of c.args.s.now) c.args.wanted.now in
+    let a : Walked = walk_at c.args.s.now c.args.new.now in
+    let b : Walked = walk_at c.args.s.now c.args.wanted.now in
     rw (p.1, p.2) (err_on {T = Bool} {U = Unit {0}} (λ none. none) (λ _. tt) c.in_err-no_leaves.field-0.0 (leaves_compared c.args.at.now.place a.leaf b.leaf)
     (λ (none : Bool). if none then are_matched T C c.args.at.now.place (members_in a) (members_in b) else Ok tt) _ c.in_err-no_leaves.ensures
     (leaves_first T C c.args.at.now.place a b))
@@ -141,8 +142,8 @@ walks_compared-returns-then-no_leaves-clause-value t c =
     let F = frames_of c.args.s.now in
     let T = table_in c.args.s.now in
     let C = compatible_from T c.args.at.now.left c.args.at.now.place c.args.at.now.pairs.now in
-    let a : Walked = walk_seen (frames_of c.args.s.now) c.args.new.now in
-    let b : Walked = walk_seen (frames_of c.args.s.now) c.args.wanted.now in
+    let a : Walked = walk_at c.args.s.now c.args.new.now in
+    let b : Walked = walk_at c.args.s.now c.args.wanted.now in
     subst (Gives {T = Unit {0}} (λ _. tt) c.members_compared.result)
     (ap (λ (xs : List Inherited). are_matched T C c.args.at.now.place (map (λ inherited. inherited.member) (map (inherited_seen F) xs)) (map (λ inherited. inherited.member) (map (inherited_seen F) c.as_slice-then-no_leaves.result.now))) c.as_slice.ensures
     ∙ ap (λ (xs : List Inherited). are_matched T C c.args.at.now.place (members_in a) (map (λ inherited. inherited.member) (map (inherited_seen F) xs))) c.as_slice-then-no_leaves.ensures
@@ -154,7 +155,7 @@ pub walks_compared-returns-clause-value : goal.walks_compared-returns-clause-val
 walks_compared-returns-clause-value t c =
     let T = table_in c.args.s.now in
     let C = compatible_from T c.args.at.now.left c.args.at.now.place c.args.at.now.pairs.now in
-    let a : Walked = walk_seen (frames_of c.args.s.now) c.args.new.now in
-    let b : Walked = walk_seen (frames_of c.args.s.now) c.args.wanted.now in
+    let a : Walked = walk_at c.args.s.now c.args.new.now in
+    let b : Walked = walk_at c.args.s.now c.args.wanted.now in
     sym (then_ok (leaves_compared c.args.at.now.place a.leaf b.leaf) (λ (none : Bool). if none then are_matched T C c.args.at.now.place (members_in a) (members_in b) else Ok tt) false _
     (leaves_first T C c.args.at.now.place a b) (c.in_ok-no_leaves.ensures ∙ ap (λ (x : Bool). Ok x) c.if-no_leaves.false))

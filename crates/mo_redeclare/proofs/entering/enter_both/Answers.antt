@@ -2,10 +2,9 @@
 use Rattle.std.proofs.Common.{[], ap, ◌∙◌}
 use Rattle.mo_scope.specs.Frames.{Member}
 use Rattle.mo_scope.specs.Names.{component_frame}
-use Rattle.mo_scope.specs.Worlds.{frames_of}
-use Rattle.mo_names.specs.Children.{child_seen}
-use Rattle.mo_names.specs.Sights.{member_of}
+use Rattle.mo_scope.specs.Sights.{member_at}
 use Rattle.mo_names.proofs.Later.{member_later}
+use Rattle.mo_names.specs.Children.{child_at}
 use Rattle.mo_redeclare.proofs.Later.{child_later, is_child_later}
 use Rattle.mo_redeclare.proofs.entering.enter_both.Goals as goal
 
@@ -15,5 +14,5 @@ enter_child-requires-2-clause-child c = is_child_later c.args.s.now c.enter_chil
 pub returns-clause-wanted : goal.returns-clause-wanted
 returns-clause-wanted c =
     c.in_ok-other_frame.ensures.is
-    ∙ ap (λ (m : Member). component_frame m [] (child_seen (frames_of c.enter_child.new.s) c.args.wanted.1)) (member_later c.args.s.now c.enter_child.new.s c.args.wanted.0.now c.in_ok-frame.ensures.grows c.requires.wanted.0)
-    ∙ ap (component_frame (member_of (frames_of c.args.s.now) c.args.wanted.0.now) []) (child_later c.args.s.now c.enter_child.new.s c.args.wanted.1 c.in_ok-frame.ensures.grows c.requires.wanted.1)
+    ∙ ap (λ (m : Member). component_frame m [] (child_at c.enter_child.new.s c.args.wanted.1)) (member_later c.args.s.now c.enter_child.new.s c.args.wanted.0.now c.in_ok-frame.ensures.grows c.requires.wanted.0)
+    ∙ ap (component_frame (member_at c.args.s.now c.args.wanted.0.now) []) (child_later c.args.s.now c.enter_child.new.s c.args.wanted.1 c.in_ok-frame.ensures.grows c.requires.wanted.1)
