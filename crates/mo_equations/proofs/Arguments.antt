@@ -1,7 +1,7 @@
 -- The arguments of asserts.
-use Rattle.std.proofs.Common.{◌≡◌, ℕ, ℤ, zero, suc, ◌+◌, ◌<◌, ◌≤◌, List, [], ◌∷◌, ◌++◌, drop, get_or, length, map, Option, Some, None, Result, Ok, Err, refl, ap, sym, ◌∙◌, arith}
+use Rattle.std.proofs.Common.{◌≡◌, ℕ, ℤ, zero, suc, ◌+◌, ◌<◌, ◌≤◌, List, [], ◌∷◌, ◌++◌, drop, get_or, length, map, Option, Some, None, Result, Ok, Err, refl, ap, subst, sym, ◌∙◌, inl, inr, arith}
 use Rattle.std.specs.Borrow.{Bor}
-use Rattle.std.specs.Prelude.{option_map}
+use Rattle.std.specs.Prelude.{◌⊎◌, IfErr, IfOk, IsOk, option_map}
 use Rattle.std.proofs.lemmas.List.{append-nil, append_assoc, drop_more}
 use Rattle.mo_syntax.specs.declared.expr.Arg.{Arg}
 use Rattle.mo_syntax.specs.declared.expr.Arg.TheVariants.{Value, Partial, outs-Value, outs-Partial}
@@ -9,6 +9,8 @@ use Rattle.mo_syntax.specs.declared.expr.Expr.{Expr}
 use Rattle.mo_syntax.specs.declared.expr.ReferenceOf.{ReferenceOf}
 use Rattle.mo_syntax.specs.declared.meaning.Kind.{Kind}
 use Rattle.mo_syntax.specs.declared.meaning.Kind.TheVariants.{Truth, Str}
+use Rattle.mo_syntax.specs.Outcome.{Outcome, and_then}
+use Rattle.mo_syntax.specs.declared.place.NoMemory.{NoMemory}
 use Rattle.mo_syntax.specs.declared.place.Stop.{Stop}
 use Rattle.mo_syntax.specs.declared.place.Stop.TheVariants.{Broken as broken_by, NoMemory as no_memory}
 use Rattle.mo_flat.specs.declared.expr.FlatExpr.{FlatExpr}
@@ -21,7 +23,7 @@ use Rattle.mo_equations.specs.declared.made.Made.{Made as MadeAt}
 use Rattle.mo_equations.specs.Asserts.{assertion_level, flat_argument, value_of_argument, values_of, with_value}
 use Rattle.mo_equations.specs.Gathering.{made_assert}
 use Rattle.mo_equations.specs.Leaves.{Tree}
-use Rattle.mo_equations.specs.steps.Asserts.{GivesAssert, assert_with_level, level_of, values_seen}
+use Rattle.mo_equations.specs.steps.Asserts.{GivesAssert, IsRest, assert_with_level, level_of, made_with, rest_of, values_seen}
 use Rattle.mo_equations.specs.steps.Desks.{Goes, IsDesk, tree_in}
 use Rattle.mo_equations.specs.steps.Flats.{Answers, IsFlat}
 use Rattle.mo_equations.specs.steps.Makings.{IsFlatOption, IsMade}
@@ -98,26 +100,55 @@ level_later u v before after frame iters e is goes stands =
     ap (λ (tree : Tree). level_of tree (scope_in (frames_of v) frame iters) e) (same_tree u v before after is goes)
     ∙ ap (λ (scope : Scope). level_of (tree_in u before.leaves) scope e) (scope_later u v frame iters goes.grows stands)
 
+pub rest_later : (u v : World) (before after : Desk) (frame : ℕ) (iters : List (List ℕ × ℤ)) (message : Expr) (level : Option Expr) → IsDesk u before → Goes u v before after → IsFrame u frame →
+    rest_of (tree_in v after.leaves) (scope_in (frames_of v) frame iters) message level ≡ rest_of (tree_in u before.leaves) (scope_in (frames_of u) frame iters) message level
+rest_later u v before after frame iters message level is goes stands =
+    ap (λ (tree : Tree). rest_of tree (scope_in (frames_of v) frame iters) message level) (same_tree u v before after is goes)
+    ∙ ap (λ (scope : Scope). rest_of (tree_in u before.leaves) scope message level) (scope_later u v frame iters goes.grows stands)
+
 -- ---- asserts
 
-module _ (tree : Tree) (scope : Scope) (condition message : Expr) (level : Option Expr) where
-  pub assert_is : (c m : FlatExpr) (l : Option FlatExpr) (held : MadeAt) → flat_argument tree scope Truth condition ≡ Ok c → flat_argument tree scope Str message ≡ Ok m → level_of tree scope level ≡ Ok l →
-      IsMade held (made_assert (record { condition = c; message = m; level = l })) → GivesAssert (Ok held) (assert_with_level tree scope condition message level)
-  assert_is c m l held p q r is = (made_assert (record { condition = c; message = m; level = l }), rw (p, q, r) refl, is)
+pub stop_condition : (tree : Tree) (scope : Scope) (condition message : Expr) (level : Option Expr) (stop : Stop) → Answers {T = Flat} IsFlat (Err stop) (flat_argument tree scope Truth condition) →
+    GivesAssert (Err stop) (assert_with_level tree scope condition message level)
+stop_condition tree scope condition message level (broken_by broken) h = rw h refl
+stop_condition tree scope condition message level no_memory h = tt
 
-  pub stop_condition : (stop : Stop) → Answers {T = Flat} IsFlat (Err stop) (flat_argument tree scope Truth condition) → GivesAssert (Err stop) (assert_with_level tree scope condition message level)
-  stop_condition (broken_by broken) h = rw h refl
-  stop_condition no_memory h = tt
+-- behind a condition that is known
+pub assert_by : (tree : Tree) (scope : Scope) (condition message : Expr) (level : Option Expr) (c : FlatExpr) → flat_argument tree scope Truth condition ≡ Ok c →
+    and_then (rest_of tree scope message level) (made_with c) ≡ and_then (assert_with_level tree scope condition message level) (λ assert. Ok (made_assert assert))
+assert_by tree scope condition message level c p = rw p (go (flat_argument tree scope Str message) (level_of tree scope level))
+  where
+    go : (m : Outcome FlatExpr) (l : Outcome (Option FlatExpr)) →
+        and_then (and_then m (λ m. and_then l (λ l. Ok (m, l)))) (made_with c)
+        ≡ and_then (and_then m (λ m. and_then l (λ l. Ok (record { condition = c; message = m; level = l })))) (λ assert. Ok (made_assert assert))
+    go (Ok m) (Ok l) = refl
+    go (Ok m) (Err broken) = refl
+    go (Err broken) l = refl
 
-  pub stop_message : (c : FlatExpr) (stop : Stop) → flat_argument tree scope Truth condition ≡ Ok c → Answers {T = Flat} IsFlat (Err stop) (flat_argument tree scope Str message) →
-      GivesAssert (Err stop) (assert_with_level tree scope condition message level)
-  stop_message c (broken_by broken) p h = rw (p, h) refl
-  stop_message c no_memory p h = tt
+-- ---- what stands behind the condition
 
-  pub stop_level : (c m : FlatExpr) (stop : Stop) → flat_argument tree scope Truth condition ≡ Ok c → flat_argument tree scope Str message ≡ Ok m →
-      Answers {T = Option Flat} IsFlatOption (Err stop) (level_of tree scope level) → GivesAssert (Err stop) (assert_with_level tree scope condition message level)
-  stop_level c m (broken_by broken) p q h = rw (p, q, h) refl
-  stop_level c m no_memory p q h = tt
+pub rest_halts : {T U A B : Type 0} (P : T → A → Type 0) (Q : U → B → Type 0) (stop : Stop) (told : Outcome A) (f : A → Outcome B) → Answers P (Err stop) told → Answers Q (Err stop) (and_then told f)
+rest_halts P Q (broken_by broken) told f h = ap (λ o. and_then o f) h
+rest_halts P Q no_memory told f h = tt
+
+pub rest_both : (message : Flat) (level : Result (Option Flat) Stop) (result : Result (Flat × Option Flat) Stop) (m : FlatExpr) (told : Outcome (Option FlatExpr)) →
+    IfOk result (λ pair. (◌≡◌ {A = Result Flat Stop} (Ok message) (Ok pair.0)) × (level ≡ Ok pair.1)) → IfErr result (λ error. (◌≡◌ {A = Result Flat Stop} (Ok message) (Err error)) ⊎ (IsOk {T = Flat} {E = Stop} (Ok message) × (level ≡ Err error))) →
+    IsFlat message m → Answers IsFlatOption level told → Answers IsRest result (and_then told (λ l. Ok (m, l)))
+rest_both message level (Ok pair) m told values error is gives =
+    let of = subst (λ (r : Result (Option Flat) Stop). Answers IsFlatOption r told) values.1 gives in
+    ((m, of.0), ap (λ o. and_then o (λ l. Ok (m, l))) of.1, (subst (λ (r : Result Flat Stop). IfOk r (λ x. IsFlat x m)) values.0 is, of.2))
+rest_both message level (Err stop) m told values (inl clash) is gives = absurd (let no : ◌≡◌ {A = Result Flat Stop} (Ok message) (Err stop) = clash in cc)
+rest_both message level (Err stop) m told values (inr e) is gives = rest_halts IsFlatOption IsRest stop told (λ l. Ok (m, l)) (subst (λ (r : Result (Option Flat) Stop). Answers IsFlatOption r told) e.1 gives)
+
+pub rest_made : (result : Result MadeAt Stop) (made : Result MadeAt NoMemory) (c : FlatExpr) (rest : FlatExpr × Option FlatExpr) (told : Outcome (FlatExpr × Option FlatExpr)) →
+    IfOk result (λ value. made ≡ Ok value) → IfErr result (λ stop. stop ≡ no_memory) → told ≡ Ok rest →
+    IfOk made (λ held. IsMade held (made_assert (record { condition = c; message = rest.0; level = rest.1 }))) → Answers IsMade result (and_then told (made_with c))
+rest_made (Ok value) made c rest told same error is held = (
+  made_assert (record { condition = c; message = rest.0; level = rest.1 }),
+  ap (λ o. and_then o (made_with c)) is,
+  subst (λ r. IfOk r (λ held. IsMade held (made_assert (record { condition = c; message = rest.0; level = rest.1 })))) same held,
+)
+rest_made (Err stop) made c rest told same error is held = rw error tt
 
 pub level_stop : (tree : Tree) (scope : Scope) (e : Expr) (stop : Stop) → Answers {T = Flat} IsFlat (Err stop) (flat_argument tree scope assertion_level e) →
     Answers {T = Option Flat} IsFlatOption (Err stop) (level_of tree scope (Some e))

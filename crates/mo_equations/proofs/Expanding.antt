@@ -1,7 +1,9 @@
 -- What instances give, by their variables, the frames of their classes, and what comes of the sections of these.
-use Rattle.std.proofs.Common.{◌≡◌, ℕ, List, [], ◌∷◌, ◌++◌, flat_map, map, Result, Ok, Err, refl, ap, sym, ◌∙◌, append_assoc}
+use Rattle.std.proofs.Common.{◌≡◌, ℕ, List, [], ◌∷◌, ◌++◌, flat_map, map, Result, Ok, Err, refl, ap, subst, sym, ◌∙◌, append_assoc}
+use Rattle.std.specs.Prelude.{IfErr, IfOk}
 use Rattle.mo_syntax.specs.Outcome.{IfBroken, Outcome, and_then}
 use Rattle.mo_syntax.specs.declared.place.Broken.{Broken}
+use Rattle.mo_syntax.specs.declared.place.NoMemory.{NoMemory}
 use Rattle.mo_syntax.specs.declared.place.Stop.{Stop}
 use Rattle.mo_syntax.specs.declared.place.Stop.TheVariants.{Broken as broken_by, NoMemory as no_memory}
 use Rattle.mo_flat.specs.declared.connect.Expanded.{Expanded}
@@ -16,7 +18,8 @@ use Rattle.mo_equations.specs.declared.desk.Desk.{Desk}
 use Rattle.mo_equations.specs.declared.leaves.Leaves.{Leaves}
 use Rattle.mo_equations.specs.declared.sections.Parts.{Parts as PartsAt}
 use Rattle.mo_equations.specs.declared.variables.Declared.{Declared as DeclaredAt}
-use Rattle.mo_equations.specs.Counted.{GivesExpansion}
+use Rattle.mo_equations.specs.declared.whole.Expansion.{Expansion as ExpansionAt}
+use Rattle.mo_equations.specs.Counted.{GivesExpansion, IsExpansion}
 use Rattle.mo_equations.specs.Expansion.{Parts, Placed, all_sections, expansion_of, made_placed, sections_at, sections_of_instance}
 use Rattle.mo_equations.specs.Gathering.{Turning, turn_each}
 use Rattle.mo_equations.specs.Leaves.{Tree}
@@ -134,3 +137,10 @@ tree_with world instances = record { classes = table_in world; instances = insta
 
 pub tree_is : (world : World) (leaves : Leaves) (instances : List InstanceAt) → leaves.instances.now ≡ instances → tree_in world leaves ≡ tree_with world instances
 tree_is world leaves instances e = ap (tree_with world) e
+
+-- ---- as the answer of a whole
+
+pub gives_whole : (result : Result ExpansionAt Stop) (made : Result ExpansionAt NoMemory) (tree : Tree) (e : Expanded) → IfOk result (λ value. made ≡ Ok value) → IfErr result (λ stop. stop ≡ no_memory) →
+    IfOk made (λ m. IsExpansion m e) → expansion_of tree ≡ Ok e → GivesExpansion result tree
+gives_whole (Ok value) made tree e same error is whole = (e, whole, subst (λ m. IfOk m (λ m. IsExpansion m e)) same is)
+gives_whole (Err stop) made tree e same error is whole = rw error tt

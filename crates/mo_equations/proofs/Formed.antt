@@ -194,7 +194,7 @@ inner_site frames site at name n f i = rw (f, i) refl
 
 -- one turn too many
 pub turn_stops : (T : Type 0) (asked : Place) (turn : Turning Made) (turns : ℕ) (desk : Desk) (from : Place) (stop : Stop) → from ≡ asked →
-    IfBroken {T = T} (Err stop) (λ broken. (most_turns ≤ turns) × (broken ≡ breach 41 from)) → GivesMade (Err stop) desk (one_turn asked turn turns)
+    IfBroken {T = T} (Err stop) (λ broken. (most_turns ≤ turns) × (broken ≡ breach FLAT_MODEL_TOO_LARGE from)) → GivesMade (Err stop) desk (one_turn asked turn turns)
 turn_stops T asked turn turns desk from (broken_by broken) same h = turn_refused asked turn turns h.0 ∙ rw (h.1, same) refl
 turn_stops T asked turn turns desk from no_memory same h = tt
 

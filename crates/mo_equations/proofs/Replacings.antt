@@ -1,10 +1,11 @@
 -- What stands for the elements that an expression names, step by step.
 use Rattle.std.proofs.Common.{◌≡◌, ℕ, zero, suc, ◌+◌, ◌-◌, ◌<◌, ◌≤◌, Bool, true, false, List, [], ◌∷◌, length, map, take, get_or, Option, Some, None, Result, Ok, Err, refl, ap, sym, ◌∙◌, subst, arith}
-use Rattle.std.specs.Prelude.{slice_get, option_map}
+use Rattle.std.specs.Prelude.{IfErr, IfOk, option_map, slice_get}
 use Rattle.mo_syntax.specs.Outcome.{IfBroken, Outcome, and_then, breaks}
 use Rattle.mo_syntax.specs.declared.expr.Expr.{Expr}
 use Rattle.mo_syntax.specs.declared.meaning.Kind.{Kind}
 use Rattle.mo_syntax.specs.declared.place.Broken.{Broken}
+use Rattle.mo_syntax.specs.declared.place.NoMemory.{NoMemory}
 use Rattle.mo_syntax.specs.declared.place.Place.{Place}
 use Rattle.mo_syntax.specs.declared.place.Stop.{Stop}
 use Rattle.mo_syntax.specs.declared.place.Stop.TheVariants.{Broken as broken_by, NoMemory as no_memory}
@@ -51,6 +52,11 @@ use Rattle.mo_equations.proofs.Staying.{same_replacing, stays_grown}
 
 pub answers_as : {T A : Type 0} (Is : T → A → Type 0) (result : Result T Stop) (o o' : Outcome A) → o ≡ o' → Answers Is result o → Answers Is result o'
 answers_as Is result o o' e h = subst (λ x. Answers Is result x) e h
+
+pub flat_is : (result : Result Flat Stop) (made : Result Flat NoMemory) (o : Outcome FlatExpr) → IfOk result (λ value. made ≡ Ok value) → IfErr result (λ stop. stop ≡ no_memory) →
+    IfOk made (λ flat. (e : FlatExpr) × (o ≡ Ok e) × IsFlat flat e) → Answers IsFlat result o
+flat_is (Ok value) made o same error is = subst (λ r. IfOk r (λ flat. (e : FlatExpr) × (o ≡ Ok e) × IsFlat flat e)) same is
+flat_is (Err stop) made o same error is = rw error tt
 
 pub refused_answers : {T A : Type 0} (U : Type 0) (Is : T → A → Type 0) (o : Outcome A) (stop : Stop) → IfBroken {T = U} (Err stop) (λ broken. o ≡ Err broken) → Answers {T = T} Is (Err stop) o
 refused_answers U Is o (broken_by broken) h = h

@@ -1,23 +1,27 @@
 //! Asserts, which are kept as they are.
 #![tactic(auto, using(crate::proofs::Staying::staying))]
 
-ghost use Rattle.std.specs.Prelude.{◌≡◌, option_copied, option_map, IfOk};
-ghost use Rattle.mo_scope.specs.Worlds.{IsFrame, frames_of, scope_in};
+ghost use Rattle.std.specs.Prelude.{◌≡◌, Option, option_copied, option_map, IfOk};
+ghost use Rattle.mo_syntax.specs.Outcome.{Outcome, and_then};
+ghost use Rattle.mo_flat.specs.declared.expr.FlatExpr.{FlatExpr as Expression};
+ghost use Rattle.mo_scope.specs.Sights.{scope_at};
+ghost use Rattle.mo_scope.specs.Worlds.{IsFrame};
 ghost use Rattle.mo_equations.specs.Asserts.{assert_of as assert_by, flat_argument as argument_of, is_assert as is_assert_named, plain_values, values_of as values_of_arguments};
-ghost use Rattle.mo_equations.specs.steps.Asserts.{GivesAssert, assert_with_level, level_of, values_seen};
+ghost use Rattle.mo_equations.specs.steps.Asserts.{GivesAssert, IsRest, assert_with_level, level_of, made_with, rest_of, values_seen};
 ghost use Rattle.mo_equations.specs.steps.Desks.{IsDesk, Stays, tree_in};
 ghost use Rattle.mo_equations.specs.steps.Flats.{Answers, IsFlat};
-ghost use Rattle.mo_equations.specs.steps.Makings.{IsFlatOption};
+ghost use Rattle.mo_equations.specs.steps.Makings.{IsFlatOption, IsMade};
 
 use crate::desk::Desk;
 use crate::flat::Flat;
 use crate::layers::{Fit, Layers, Want};
-use crate::made::Made;
+use crate::made::{Made, one_assert};
 use crate::standing::{Asked, flat_at};
+use crate::stops::or_stop;
 use mo_eval::MOST_REFERENCES;
 use mo_scope::{ScopeAt, Scopes};
 use mo_syntax::{
-    Arg, Args, ClassId, Expr, Kind, List, NoMemory, Place, Reference, Stop, rules, stop,
+    Arg, Args, ClassId, Expr, Kind, List, NoMemory, Place, Reference, Stop, both, rules, stop,
 };
 use std::alloc::Global;
 
@@ -74,7 +78,7 @@ fn flat_argument<'x, 'i, 't>(
     requires frame { IsFrame s.old at.now.frame.0 }
     requires desk { IsDesk s.old desk.old }
     ensures stays { Stays s.old s.new desk.old desk.new }
-    ensures exact { Answers IsFlat result (argument_of (tree_in s.old desk.old.leaves) (scope_in (frames_of s.old) at.now.frame.0 at.now.iters) kind e.now) }
+    ensures exact { Answers IsFlat result (argument_of (tree_in s.old desk.old.leaves) (scope_at s.old at.now) kind e.now) }
 {
     let asked = Asked {
         left: MOST_REFERENCES,
@@ -83,7 +87,7 @@ fn flat_argument<'x, 'i, 't>(
         index: &[],
         layers: Layers {
             want: Want::Accepted(kind),
-            fit: Fit::Scalar(33),
+            fit: Fit::Scalar(rules::WRONG_TYPE),
             place: e.place,
         },
     };
@@ -101,7 +105,7 @@ fn flat_level<'i, 't>(
     requires frame { IsFrame s.old at.now.frame.0 }
     requires desk { IsDesk s.old desk.old }
     ensures stays { Stays s.old s.new desk.old desk.new }
-    ensures exact { Answers IsFlatOption result (level_of (tree_in s.old desk.old.leaves) (scope_in (frames_of s.old) at.now.frame.0 at.now.iters) (option_copied level.entry)) }
+    ensures exact { Answers IsFlatOption result (level_of (tree_in s.old desk.old.leaves) (scope_at s.old at.now) (option_copied level.entry)) }
 {
     match level {
         Some(e) => {
@@ -110,6 +114,39 @@ fn flat_level<'i, 't>(
             Ok(Some(flat))
         }
         None => Ok(None),
+    }
+}
+
+/// The message of an assert, then its level.
+fn message_and_level<'i, 't>(
+    alloc: Global,
+    s: &mut Scopes<'t>,
+    desk: &mut Desk<'i, 't>,
+    at: &ScopeAt,
+    message: &Expr,
+    level: Option<&Expr>,
+) -> Result<(Flat, Option<Flat>), Stop>
+    requires frame { IsFrame s.old at.now.frame.0 }
+    requires desk { IsDesk s.old desk.old }
+    ensures stays { Stays s.old s.new desk.old desk.new }
+    ensures exact { Answers IsRest result (rest_of (tree_in s.old desk.old.leaves) (scope_at s.old at.now) message.now (option_copied level.entry)) }
+{
+    let message = flat_argument(alloc, s, desk, at, Kind::Str, message)?;
+    let level = flat_level(alloc, s, desk, at, level);
+    both(Ok(message), level)
+}
+
+/// The assert of a condition and what stands behind it.
+fn with_rest(
+    alloc: Global,
+    condition: Flat,
+    rest: Result<(Flat, Option<Flat>), Stop>,
+) -> Result<Made, Stop>
+    ensures { (c : Expression) (told : Outcome (Expression × Option Expression)) → IsFlat condition c → Answers IsRest rest told → Answers IsMade result (and_then told (made_with c)) }
+{
+    match rest {
+        Ok(rest) => or_stop(one_assert(alloc, condition, rest.0, rest.1)),
+        Err(stop) => Err(stop),
     }
 }
 
@@ -126,14 +163,11 @@ fn assert_with<'i, 't>(
     requires frame { IsFrame s.old at.now.frame.0 }
     requires desk { IsDesk s.old desk.old }
     ensures stays { Stays s.old s.new desk.old desk.new }
-    ensures exact { GivesAssert result (assert_with_level (tree_in s.old desk.old.leaves) (scope_in (frames_of s.old) at.now.frame.0 at.now.iters) condition.now message.now (option_copied level.entry)) }
+    ensures exact { GivesAssert result (assert_with_level (tree_in s.old desk.old.leaves) (scope_at s.old at.now) condition.now message.now (option_copied level.entry)) }
 {
     let condition = flat_argument(alloc, s, desk, at, Kind::Truth, condition)?;
-    let message = flat_argument(alloc, s, desk, at, Kind::Str, message)?;
-    let level = flat_level(alloc, s, desk, at, level)?;
-    let mut made = Made::new(alloc);
-    made.push_assert(alloc, condition, message, level)?;
-    Ok(made)
+    let rest = message_and_level(alloc, s, desk, at, message, level);
+    with_rest(alloc, condition, rest)
 }
 
 /// An assert; with another number of arguments, or with one that has a name, rule 34 at the call.
@@ -148,7 +182,7 @@ pub(crate) fn assert_of<'i, 't>(
     requires frame { IsFrame s.old at.now.frame.0 }
     requires desk { IsDesk s.old desk.old }
     ensures stays { Stays s.old s.new desk.old desk.new }
-    ensures exact { GivesAssert result (assert_by (tree_in s.old desk.old.leaves) (scope_in (frames_of s.old) at.now.frame.0 at.now.iters) place (plain_values arguments.now)) }
+    ensures exact { GivesAssert result (assert_by (tree_in s.old desk.old.leaves) (scope_at s.old at.now) place (plain_values arguments.now)) }
 {
     let Some(values) = plain(alloc, arguments)? else {
         return Err(stop(rules::OUTSIDE_PROFILE, place));

@@ -1,16 +1,17 @@
 //! What replaces the variables of an expression, and the expression in which they are replaced.
-ghost use Rattle.std.specs.Prelude.{◌≡◌, ℕ, ◌<◌, IsTrue, Ok, IfOk, OnOk, length, slice_set};
+ghost use Rattle.std.specs.Prelude.{◌≡◌, ℕ, ◌<◌, IsTrue, Ok, Err, IfOk, OnOk, length, slice_set};
 ghost use Rattle.mo_flat.specs.declared.expr.FlatExpr.{FlatExpr as Expression};
 ghost use Rattle.mo_equations.specs.Replacing.{with_variables};
-ghost use Rattle.mo_equations.specs.steps.Flats.{IsFlat};
+ghost use Rattle.mo_equations.specs.steps.Flats.{Answers, IsFlat};
 ghost use Rattle.mo_equations.specs.steps.Standing.{AreAsked, AreReplaced, IsPlaceAsked, unasked};
-ghost use Rattle.mo_syntax.specs.Outcome.{Outcome};
+ghost use Rattle.mo_syntax.specs.Outcome.{IfBroken, Outcome};
 
 use crate::counting::weight;
 use crate::filling::filled;
 use crate::flat::{Flat, is_past};
+use crate::stops::or_stop;
 use mo_flat::FlatExpr;
-use mo_syntax::NoMemory;
+use mo_syntax::{NoMemory, Stop};
 use std::alloc::Global;
 
 /// What replaces so many variables before any of them is asked.
@@ -41,6 +42,21 @@ pub(crate) fn put_together(
         nodes,
         built: Some(built),
     })
+}
+
+/// An expression of which all variables are replaced, where what replaces them was found.
+pub(crate) fn put_asked(
+    alloc: Global,
+    asked: Result<(), Stop>,
+    e: &FlatExpr,
+    replaced: &[Option<Flat>],
+) -> Result<Flat, Stop>
+    ensures { (replace : ℕ → Outcome Expression) → IfBroken asked (λ broken. with_variables replace e.now ≡ Err broken) → OnOk asked (AreReplaced replace replaced.now) → IfOk asked (λ _. AreAsked replaced.now e.now) → Answers IsFlat result (with_variables replace e.now) }
+{
+    match asked {
+        Ok(()) => or_stop(put_together(alloc, e, replaced)),
+        Err(stop) => Err(stop),
+    }
 }
 
 /// Whether the variable at a place was asked.

@@ -3,7 +3,7 @@ ghost use Rattle.std.specs.Prelude.{◌≡◌, IfOk, IfSome, IsTrue, Ok};
 ghost use Rattle.mo_flat.specs.declared.expr.FlatExpr.{FlatExpr as Expression};
 ghost use Rattle.mo_scope.specs.Worlds.{World, frames_of, table_in};
 ghost use Rattle.mo_names.specs.Sights.{IsMember, member_of};
-ghost use Rattle.mo_eval.specs.Seen.{element_seen};
+ghost use Rattle.mo_eval.specs.Seen.{element_at};
 ghost use Rattle.mo_equations.specs.Leaves.{number_of};
 ghost use Rattle.mo_equations.specs.Replacing.{constant as constant_by_left};
 ghost use Rattle.mo_equations.specs.steps.Desks.{IsDesk, Stays, tree_in};
@@ -49,7 +49,7 @@ pub(crate) fn kept_constant<'i, 't>(
 ) -> Result<Option<Flat>, NoMemory>
     requires member { IsMember _s.now element.now.member }
     requires desk { IsDesk _s.now desk.now }
-    ensures { IfOk result (λ found. IfSome found (λ flat. (e : Expression) × (constant_by_left (table_in _s.now) (number_of (tree_in _s.now desk.now.leaves)) left (element_seen (frames_of _s.now) element.now) ≡ Ok e) × IsFlat flat e)) }
+    ensures { IfOk result (λ found. IfSome found (λ flat. (e : Expression) × (constant_by_left (table_in _s.now) (number_of (tree_in _s.now desk.now.leaves)) left (element_at _s.now element.now) ≡ Ok e) × IsFlat flat e)) }
 {
     for kept in desk.constants.as_slice() {
         if kept.left == left && is_same_element(&kept.element, element) {
@@ -84,7 +84,7 @@ pub(crate) fn keep_constant<'i, 't>(
 ) -> Result<(), NoMemory>
     requires member { IsMember _s.now element.now.member }
     requires desk { IsDesk _s.now desk.old }
-    requires is { (e : Expression) × (constant_by_left (table_in _s.now) (number_of (tree_in _s.now desk.old.leaves)) left (element_seen (frames_of _s.now) element.now) ≡ Ok e) × IsFlat flat.now e }
+    requires is { (e : Expression) × (constant_by_left (table_in _s.now) (number_of (tree_in _s.now desk.old.leaves)) left (element_at _s.now element.now) ≡ Ok e) × IsFlat flat.now e }
     ensures { Stays _s.now _s.now desk.old desk.new }
 {
     let element = copied_element(alloc, element)?;

@@ -4,11 +4,12 @@
 ghost use Rattle.std.specs.Prelude.{◌≡◌, ◌++◌, ◌∷◌, [], true, false, flat_map, map, option_map, Ok, IfOk, OnOk};
 ghost use Rattle.std.specs.Option.{option_to_list};
 ghost use Rattle.mo_flat.specs.declared.connect.Side.TheVariants.{Neither};
+ghost use Rattle.mo_scope.specs.Sights.{scope_at, member_at};
 ghost use Rattle.mo_scope.specs.declared.row.Member.{Member as MemberAt};
 ghost use Rattle.mo_scope.specs.Outcome.{Gives as GivesSeen};
 ghost use Rattle.mo_scope.specs.Places.{Every};
-ghost use Rattle.mo_scope.specs.Worlds.{Grows, IsFrame, frames_of, scope_in, table_in};
-ghost use Rattle.mo_names.specs.Sights.{IsMember, member_of};
+ghost use Rattle.mo_scope.specs.Worlds.{Grows, IsFrame, frames_of, table_in};
+ghost use Rattle.mo_names.specs.Sights.{IsMember};
 ghost use Rattle.mo_syntax.specs.Outcome.{and_then};
 ghost use Rattle.mo_typing.specs.Outcome.{Gives, each};
 ghost use Rattle.mo_typing.specs.Subscripts.{subscripts as subscripts_within};
@@ -157,7 +158,7 @@ fn leaves_of<'i, 't>(
 ) -> Result<List<EndLeaf>, NoMemory>
     requires member { IsMember s.now element.now.0 }
     requires leaves { AreLeaves s.now leaves.now }
-    ensures { IfOk result (λ made. made ≡ leaves_of_element (tree_in s.now leaves.now) (member_of (frames_of s.now) element.now.0, element.now.1)) }
+    ensures { IfOk result (λ made. made ≡ leaves_of_element (tree_in s.now leaves.now) (member_at s.now element.now.0, element.now.1)) }
 {
     match path_of_element(alloc, s, &element.0, element.1.as_slice())? {
         Some(path) => leaves_below(alloc, s, leaves, path.as_slice()),
@@ -191,7 +192,7 @@ fn is_connector_member<'t>(
 ) -> Result<bool, Stop>
     requires { IsMember s.old member.now }
     ensures grows { Grows s.old s.new }
-    ensures value { Gives result (is_connector_by (table_in s.old) (member_of (frames_of s.old) member.now)) }
+    ensures value { Gives result (is_connector_by (table_in s.old) (member_at s.old member.now)) }
 {
     let child = child_of_member(alloc, s, member, &[])?;
     Ok(is_connector_class(s, s.class_of(child.class)))
@@ -220,7 +221,7 @@ fn declared_behind<'t>(
 ) -> Result<Member<'t>, Stop>
     requires { IsMember s.old member.now }
     ensures grows { Grows s.old s.new }
-    ensures value { GivesSeen (member_of (frames_of s.new)) result (behind_declared (table_in s.old) (member_of (frames_of s.old) member.now) part.now) }
+    ensures value { GivesSeen (member_at s.new) result (behind_declared (table_in s.old) (member_at s.old member.now) part.now) }
     ensures exists { IfOk result (IsMember s.new) }
 {
     let frame = enter_component(alloc, s, member, &[])?;
@@ -256,7 +257,7 @@ fn declared_first<'t>(
 ) -> Result<Member<'t>, Stop>
     requires { IsFrame s.old at.now.frame.0 }
     ensures grows { Grows s.old s.new }
-    ensures value { GivesSeen (member_of (frames_of s.new)) result (first_component (table_in s.old) top (scope_in (frames_of s.old) at.now.frame.0 at.now.iters) part.now) }
+    ensures value { GivesSeen (member_at s.new) result (first_component (table_in s.old) top (scope_at s.old at.now) part.now) }
     ensures exists { IfOk result (IsMember s.new) }
 {
     let found = find_declared(alloc, s, at, top, &part.name, part.place)?;
@@ -272,7 +273,7 @@ fn declared_by_name<'t>(
 ) -> Result<List<Member<'t>>, Stop>
     requires { IsFrame s.old at.now.frame.0 }
     ensures grows { Grows s.old s.new }
-    ensures value { GivesSeen (map (member_of (frames_of s.new))) result (declared_by (table_in s.old) (scope_in (frames_of s.old) at.now.frame.0 at.now.iters) reference.now) }
+    ensures value { GivesSeen (map (member_at s.new)) result (declared_by (table_in s.old) (scope_at s.old at.now) reference.now) }
     ensures exist { IfOk result (Every (IsMember s.new)) }
 {
     let mut made = List::new(alloc);
@@ -296,7 +297,7 @@ fn connectors_among<'t>(
 ) -> Result<List<bool>, Stop>
     requires { Every (IsMember s.old) members.now }
     ensures grows { Grows s.old s.new }
-    ensures value { Gives result (each (is_connector_by (table_in s.old)) (map (member_of (frames_of s.old)) members.now)) }
+    ensures value { Gives result (each (is_connector_by (table_in s.old)) (map (member_at s.old) members.now)) }
 {
     let mut made = List::new(alloc);
     for member in members {
@@ -380,7 +381,7 @@ fn connectors_of_name<'t>(
 ) -> Result<List<bool>, Stop>
     requires { IsFrame s.old at.now.frame.0 }
     ensures grows { Grows s.old s.new }
-    ensures value { Gives result (and_then (declared_by (table_in s.old) (scope_in (frames_of s.old) at.now.frame.0 at.now.iters) reference.now) (each (is_connector_by (table_in s.old)))) }
+    ensures value { Gives result (and_then (declared_by (table_in s.old) (scope_at s.old at.now) reference.now) (each (is_connector_by (table_in s.old)))) }
 {
     let members = declared_by_name(alloc, s, at, reference)?;
     connectors_among(alloc, s, members.as_slice())
@@ -406,7 +407,7 @@ fn side_of<'t>(
 ) -> Result<Side, NoMemory>
     requires { IsFrame s.old at.now.frame.0 }
     ensures grows { Grows s.old s.new }
-    ensures value { IfOk result (λ side. side ≡ side_of_name (table_in s.old) (scope_in (frames_of s.old) at.now.frame.0 at.now.iters) reference.now) }
+    ensures value { IfOk result (λ side. side ≡ side_of_name (table_in s.old) (scope_at s.old at.now) reference.now) }
 {
     match connectors_of_name(alloc, s, at, reference) {
         Ok(connectors) => Ok(side_of_connectors(connectors.as_slice())),
@@ -516,7 +517,7 @@ fn end_of<'i, 't>(
     requires frame { IsFrame s.old at.now.frame.0 }
     requires desk { IsDesk s.old desk.old }
     ensures stays { Stays s.old s.new desk.old desk.new }
-    ensures exact { Gives result (end_by (tree_in s.old desk.old.leaves) (scope_in (frames_of s.old) at.now.frame.0 at.now.iters) reference.now) }
+    ensures exact { Gives result (end_by (tree_in s.old desk.old.leaves) (scope_at s.old at.now) reference.now) }
 {
     let place = place_of(reference.parts.as_slice());
     match desk.reader.end(s, at, reference)? {
@@ -542,7 +543,7 @@ pub(crate) fn connect_of<'i, 't>(
     requires frame { IsFrame s.old at.now.frame.0 }
     requires desk { IsDesk s.old desk.old }
     ensures stays { Stays s.old s.new desk.old desk.new }
-    ensures exact { GivesSeen option_to_list result (connects_of (tree_in s.old desk.old.leaves) (scope_in (frames_of s.old) at.now.frame.0 at.now.iters) place left.now right.now) }
+    ensures exact { GivesSeen option_to_list result (connects_of (tree_in s.old desk.old.leaves) (scope_at s.old at.now) place left.now right.now) }
 {
     let Some(left) = end_of(alloc, s, desk, at, left)? else {
         return Ok(None);

@@ -2,12 +2,13 @@
 #![tactic(auto, using(crate::proofs::Staying::staying))]
 
 ghost use Rattle.std.specs.Prelude.{◌++◌, ◌∷◌, [], OnOk, map};
-ghost use Rattle.mo_scope.specs.Worlds.{IsFrame, frames_of, scope_in};
+ghost use Rattle.mo_scope.specs.Sights.{scope_at};
+ghost use Rattle.mo_scope.specs.Worlds.{IsFrame};
 ghost use Rattle.mo_typing.specs.Indices.{indices};
 ghost use Rattle.mo_typing.specs.Outcome.{each};
 ghost use Rattle.mo_arrays.specs.Elements.{element_of};
 ghost use Rattle.mo_arrays.specs.Equations.{equation as equation_of};
-ghost use Rattle.mo_eval.specs.Seen.{AreThere, virtuals_seen};
+ghost use Rattle.mo_eval.specs.Seen.{AreThere, virtuals_at};
 ghost use Rattle.mo_eval.specs.Values.{most_references};
 ghost use Rattle.mo_equations.specs.Equalities.{equalities as equalities_of_expressions, replaced_sides};
 ghost use Rattle.mo_equations.specs.Replacing.{of_variable, with_variables};
@@ -48,10 +49,10 @@ fn flat_side<'i, 't>(
 ) -> Result<Flat, Stop>
     requires there { AreThere s.old virtuals.now }
     requires desk { IsDesk s.old desk.old }
-    requires replaced { AreReplaced (of_variable (replacing_in s.old desk.old.leaves most_references) (virtuals_seen (frames_of s.old) virtuals.now)) replaced.old.items }
+    requires replaced { AreReplaced (of_variable (replacing_in s.old desk.old.leaves most_references) (virtuals_at s.old virtuals.now)) replaced.old.items }
     ensures stays { Stays s.old s.new desk.old desk.new }
-    ensures replaced { OnOk result (AreReplaced (of_variable (replacing_in s.old desk.old.leaves most_references) (virtuals_seen (frames_of s.old) virtuals.now)) replaced.new.items) }
-    ensures exact { Answers IsFlat result (with_variables (of_variable (replacing_in s.old desk.old.leaves most_references) (virtuals_seen (frames_of s.old) virtuals.now)) (element_of side.now index.now)) }
+    ensures replaced { OnOk result (AreReplaced (of_variable (replacing_in s.old desk.old.leaves most_references) (virtuals_at s.old virtuals.now)) replaced.new.items) }
+    ensures exact { Answers IsFlat result (with_variables (of_variable (replacing_in s.old desk.old.leaves most_references) (virtuals_at s.old virtuals.now)) (element_of side.now index.now)) }
 {
     let element = element_at(alloc, side, index)?;
     ask(
@@ -78,10 +79,10 @@ fn put_equation<'i, 't>(
 ) -> Result<(), Stop>
     requires there { AreThere s.old sides.now.virtuals }
     requires desk { IsDesk s.old desk.old }
-    requires replaced { AreReplaced (of_variable (replacing_in s.old desk.old.leaves most_references) (virtuals_seen (frames_of s.old) sides.now.virtuals)) row.old.replaced.items }
+    requires replaced { AreReplaced (of_variable (replacing_in s.old desk.old.leaves most_references) (virtuals_at s.old sides.now.virtuals)) row.old.replaced.items }
     ensures stays { Stays s.old s.new desk.old desk.new }
-    ensures replaced { OnOk result (AreReplaced (of_variable (replacing_in s.old desk.old.leaves most_references) (virtuals_seen (frames_of s.old) sides.now.virtuals)) row.new.replaced.items) }
-    ensures exact { PutsEquations result row.old.made row.new.made (each (replaced_sides (tree_in s.old desk.old.leaves) (virtuals_seen (frames_of s.old) sides.now.virtuals)) (equation_of sides.now.left sides.now.right place index.now ∷ [])) }
+    ensures replaced { OnOk result (AreReplaced (of_variable (replacing_in s.old desk.old.leaves most_references) (virtuals_at s.old sides.now.virtuals)) row.new.replaced.items) }
+    ensures exact { PutsEquations result row.old.made row.new.made (each (replaced_sides (tree_in s.old desk.old.leaves) (virtuals_at s.old sides.now.virtuals)) (equation_of sides.now.left sides.now.right place index.now ∷ [])) }
 {
     let virtuals = sides.virtuals.as_slice();
     let left = flat_side(
@@ -125,10 +126,10 @@ fn put_below<'i, 't>(
 ) -> Result<(), Stop>
     requires there { AreThere s.old sides.now.virtuals }
     requires desk { IsDesk s.old desk.old }
-    requires replaced { AreReplaced (of_variable (replacing_in s.old desk.old.leaves most_references) (virtuals_seen (frames_of s.old) sides.now.virtuals)) row.old.replaced.items }
+    requires replaced { AreReplaced (of_variable (replacing_in s.old desk.old.leaves most_references) (virtuals_at s.old sides.now.virtuals)) row.old.replaced.items }
     ensures stays { Stays s.old s.new desk.old desk.new }
-    ensures replaced { OnOk result (AreReplaced (of_variable (replacing_in s.old desk.old.leaves most_references) (virtuals_seen (frames_of s.old) sides.now.virtuals)) row.new.replaced.items) }
-    ensures exact { PutsEquations result row.old.made row.new.made (each (replaced_sides (tree_in s.old desk.old.leaves) (virtuals_seen (frames_of s.old) sides.now.virtuals)) (map (λ index. equation_of sides.now.left sides.now.right below.entry.place (below.entry.begun.now ++ index)) (indices below.entry.dims.now))) }
+    ensures replaced { OnOk result (AreReplaced (of_variable (replacing_in s.old desk.old.leaves most_references) (virtuals_at s.old sides.now.virtuals)) row.new.replaced.items) }
+    ensures exact { PutsEquations result row.old.made row.new.made (each (replaced_sides (tree_in s.old desk.old.leaves) (virtuals_at s.old sides.now.virtuals)) (map (λ index. equation_of sides.now.left sides.now.right below.entry.place (below.entry.begun.now ++ index)) (indices below.entry.dims.now))) }
 {
     match below.dims {
         [] => put_equation(alloc, s, desk, sides, below.place, below.begun, row),
@@ -156,10 +157,10 @@ fn put_rows<'i, 't>(
 ) -> Result<(), Stop>
     requires there { AreThere s.old sides.now.virtuals }
     requires desk { IsDesk s.old desk.old }
-    requires replaced { AreReplaced (of_variable (replacing_in s.old desk.old.leaves most_references) (virtuals_seen (frames_of s.old) sides.now.virtuals)) row.old.replaced.items }
+    requires replaced { AreReplaced (of_variable (replacing_in s.old desk.old.leaves most_references) (virtuals_at s.old sides.now.virtuals)) row.old.replaced.items }
     ensures stays { Stays s.old s.new desk.old desk.new }
-    ensures replaced { OnOk result (AreReplaced (of_variable (replacing_in s.old desk.old.leaves most_references) (virtuals_seen (frames_of s.old) sides.now.virtuals)) row.new.replaced.items) }
-    ensures exact { PutsEquations result row.old.made row.new.made (each (replaced_sides (tree_in s.old desk.old.leaves) (virtuals_seen (frames_of s.old) sides.now.virtuals)) (map (λ index. equation_of sides.now.left sides.now.right below.entry.place (below.entry.begun.now ++ index)) (indices (n.now ∷ below.entry.dims.now)))) }
+    ensures replaced { OnOk result (AreReplaced (of_variable (replacing_in s.old desk.old.leaves most_references) (virtuals_at s.old sides.now.virtuals)) row.new.replaced.items) }
+    ensures exact { PutsEquations result row.old.made row.new.made (each (replaced_sides (tree_in s.old desk.old.leaves) (virtuals_at s.old sides.now.virtuals)) (map (λ index. equation_of sides.now.left sides.now.right below.entry.place (below.entry.begun.now ++ index)) (indices (n.now ∷ below.entry.dims.now)))) }
 {
     for k in 0..*n {
         let index = joined_lists(alloc, below.begun, &[k + 1])?;
@@ -187,7 +188,7 @@ pub(crate) fn equalities<'i, 't>(
     requires frame { IsFrame s.old at.now.frame.0 }
     requires desk { IsDesk s.old desk.old }
     ensures stays { Stays s.old s.new desk.old desk.new }
-    ensures exact { GivesEquations result (equalities_of_expressions (tree_in s.old desk.old.leaves) (scope_in (frames_of s.old) at.now.frame.0 at.now.iters) place left.now right.now) }
+    ensures exact { GivesEquations result (equalities_of_expressions (tree_in s.old desk.old.leaves) (scope_at s.old at.now) place left.now right.now) }
 {
     let sides = desk.reader.sides(s, at, left, right)?;
     let dims = checked_sides(alloc, &sides.left, &sides.right, place)?;

@@ -2,7 +2,8 @@
 #![tactic(auto, using(crate::proofs::Staying::staying))]
 
 ghost use Rattle.std.specs.Prelude.{◌≡◌, ◌+◌, ◌<◌, ◌≤◌, ◌∷◌, [], IfErr, IfOk, OnOk};
-ghost use Rattle.mo_scope.specs.Worlds.{IsFrame, frames_of, scope_in};
+ghost use Rattle.mo_scope.specs.Sights.{scope_at};
+ghost use Rattle.mo_scope.specs.Worlds.{IsFrame, frames_of};
 ghost use Rattle.mo_syntax.specs.Outcome.{IfBroken, breach};
 ghost use Rattle.mo_syntax.specs.declared.rules.TheConstants.{FLAT_MODEL_TOO_LARGE};
 ghost use Rattle.mo_typing.specs.Outcome.{Gives};
@@ -151,7 +152,7 @@ fn condition_known<'x, 'i, 't>(
     requires frame { IsFrame s.old at.now.frame.0 }
     requires desk { IsDesk s.old desk.old }
     ensures stays { Stays s.old s.new desk.old desk.new }
-    ensures exact { Gives result (known_of_condition (tree_in s.old desk.old.leaves) (scope_in (frames_of s.old) at.now.frame.0 at.now.iters) condition.now) }
+    ensures exact { Gives result (known_of_condition (tree_in s.old desk.old.leaves) (scope_at s.old at.now) condition.now) }
 {
     let asked = Asked {
         left: MOST_REFERENCES,
@@ -160,7 +161,7 @@ fn condition_known<'x, 'i, 't>(
         index: &[],
         layers: Layers {
             want: Want::Condition,
-            fit: Fit::Scalar(40),
+            fit: Fit::Scalar(rules::CONDITION_NOT_BOOLEAN),
             place: condition.place,
         },
     };
@@ -178,7 +179,7 @@ fn flat_condition<'x, 'i, 't>(
     requires frame { IsFrame s.old at.now.frame.0 }
     requires desk { IsDesk s.old desk.old }
     ensures stays { Stays s.old s.new desk.old desk.new }
-    ensures exact { Answers IsFlat result (flat_of_condition (tree_in s.old desk.old.leaves) (scope_in (frames_of s.old) at.now.frame.0 at.now.iters) condition.now) }
+    ensures exact { Answers IsFlat result (flat_of_condition (tree_in s.old desk.old.leaves) (scope_at s.old at.now) condition.now) }
 {
     let asked = Asked {
         left: MOST_REFERENCES,
@@ -187,7 +188,7 @@ fn flat_condition<'x, 'i, 't>(
         index: &[],
         layers: Layers {
             want: Want::Condition,
-            fit: Fit::Scalar(40),
+            fit: Fit::Scalar(rules::CONDITION_NOT_BOOLEAN),
             place: condition.place,
         },
     };

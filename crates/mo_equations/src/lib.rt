@@ -31,6 +31,7 @@ mod made;
 mod paths;
 mod sections;
 mod standing;
+mod stops;
 mod table;
 mod values;
 mod variables;

@@ -1,9 +1,9 @@
 //! What comes of equations, counted, and kept as long as it is no more than a flat model may have.
 ghost use Rattle.std.specs.Prelude.{◌≡◌, [], ◌∷◌, Option, IfOk, OnOk};
 ghost use Rattle.mo_flat.specs.declared.expr.FlatExpr.{FlatExpr as Expression};
-ghost use Rattle.mo_equations.specs.Gathering.{Made as Gathered, beside, made_assert, made_connects, made_equations, nothing};
+ghost use Rattle.mo_equations.specs.Gathering.{made_assert, made_equations, nothing};
 ghost use Rattle.mo_equations.specs.steps.Flats.{IsFlat};
-ghost use Rattle.mo_equations.specs.steps.Makings.{IsFlatOption, IsMade, IsSettled, assert_with, equation_with, level_with};
+ghost use Rattle.mo_equations.specs.steps.Makings.{HasAll, HasConnect, HasEquation, IsFlatOption, IsMade, IsSettled, assert_with, equation_with, level_with};
 
 use crate::flat::{Flat, is_past};
 use mo_flat::{Connect, FlatAssert, FlatEquation, FlatExpr};
@@ -54,36 +54,22 @@ impl Made {
         right: Flat,
         place: Place,
     ) -> Result<(), NoMemory>
-        ensures { OnOk result ((made : Gathered) (l r : Expression) → IsMade self.old made → IsFlat left l → IsFlat right r → IsMade self.new (beside made (made_equations (record { left = l; right = r; place = place } ∷ [])))) }
+        ensures { OnOk result (HasEquation self.old self.new left right place) }
     {
         let one = one_equation(alloc, left, right, place)?;
         self.append(alloc, one)
     }
 
-    /// Puts an assert at the end. `NoMemory` is the only other answer.
-    pub fn push_assert(
-        &mut self,
-        alloc: Global,
-        condition: Flat,
-        message: Flat,
-        level: Option<Flat>,
-    ) -> Result<(), NoMemory>
-        ensures { OnOk result ((made : Gathered) (c m : Expression) (l : Option Expression) → IsMade self.old made → IsFlat condition c → IsFlat message m → IsFlatOption level l → IsMade self.new (beside made (made_assert (record { condition = c; message = m; level = l })))) }
-    {
-        let one = one_assert(alloc, condition, message, level)?;
-        self.append(alloc, one)
-    }
-
     /// Puts a connect at the end. `NoMemory` is the only other answer.
     pub fn push_connect(&mut self, connect: Connect) -> Result<(), NoMemory>
-        ensures { OnOk result ((made : Gathered) → IsMade self.old made → IsMade self.new (beside made (made_connects (connect ∷ [])))) }
+        ensures { OnOk result (HasConnect self.old self.new connect) }
     {
         self.connects.push(connect)
     }
 
     /// Moves what comes of other equations to the end. `NoMemory` is the only other answer.
     pub fn append(&mut self, alloc: Global, more: Made) -> Result<(), NoMemory>
-        ensures { OnOk result ((made others : Gathered) → IsMade self.old made → IsMade more others → IsMade self.new (beside made others)) }
+        ensures { OnOk result (HasAll self.old self.new more) }
     {
         let Made {
             count,
@@ -164,7 +150,7 @@ fn assert_of(
 }
 
 /// One assert.
-fn one_assert(
+pub(crate) fn one_assert(
     alloc: Global,
     condition: Flat,
     message: Flat,

@@ -5,10 +5,9 @@ ghost use Rattle.std.specs.Prelude.{◌≡◌, ◌++◌, [], List as Seq, flat_m
 ghost use Rattle.mo_syntax.specs.Outcome.{IfBroken};
 ghost use Rattle.mo_syntax.specs.declared.meaning.FrameId.{FrameId as FrameNumber};
 ghost use Rattle.mo_scope.specs.Places.{Every};
-ghost use Rattle.mo_scope.specs.Rows.{row_at};
 ghost use Rattle.mo_scope.specs.Frames.{class_of};
 ghost use Rattle.mo_scope.specs.Trees.{IsInstance, instances_in};
-ghost use Rattle.mo_scope.specs.Worlds.{Grows, IsFrame, frame_at, frames_of, table_in};
+ghost use Rattle.mo_scope.specs.Worlds.{Grows, IsFrame, frame_at, frames_of, table_in, row_of_frame};
 ghost use Rattle.mo_equations.specs.Expansion.{Parts as PartsOf, made_placed, sections_at};
 ghost use Rattle.mo_equations.specs.Sections.{frames_of as frames_with_sections};
 ghost use Rattle.mo_equations.specs.Gathering.{Made as Gathered, turn_each};
@@ -129,7 +128,7 @@ pub(crate) fn frames_of_all<'t>(
 /// The class of a frame, None where it is a predefined type.
 fn class_at<'t>(s: &Scopes<'t>, frame: FrameId) -> Option<&'t ClassDef>
     requires { IsFrame s.now frame.0 }
-    ensures { option_copied result ≡ option_map (λ row. row.class) (row_at (table_in s.now) (class_of (frame_at s.now frame.0))) }
+    ensures { option_copied result ≡ option_map (λ row. row.class) (row_of_frame s.now frame.0) }
 {
     match s.row(s.class_of(frame)) {
         Some(row) => Some(row.class),

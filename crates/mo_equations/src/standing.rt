@@ -6,10 +6,10 @@ ghost use Rattle.std.specs.Prelude.{◌≡◌, Ok, Err, IfOk, OnOk};
 ghost use Rattle.mo_flat.specs.declared.expr.FlatExpr.TheVariants.{Var};
 ghost use Rattle.mo_scope.specs.Frames.{at_of};
 ghost use Rattle.mo_scope.specs.Names.{path_below};
-ghost use Rattle.mo_scope.specs.Sights.{member_seen};
-ghost use Rattle.mo_scope.specs.Worlds.{IsFrame, frame_at, frames_of, scope_in, table_in};
+ghost use Rattle.mo_scope.specs.Sights.{member_seen, scope_at};
+ghost use Rattle.mo_scope.specs.Worlds.{IsFrame, frame_at, frames_of, table_in};
 ghost use Rattle.mo_names.specs.Sights.{IsMember};
-ghost use Rattle.mo_eval.specs.Seen.{AreThere, element_seen, resolved_seen, virtual_seen, virtuals_seen};
+ghost use Rattle.mo_eval.specs.Seen.{AreThere, virtual_seen, element_at, virtuals_at, resolved_at};
 ghost use Rattle.mo_equations.specs.Replacing.{constant as constant_by_left, constant_by as constant_by_reader, flat_at as flat_of_expression, flat_element as element_of_resolved, flat_value as expression_of_value, of_variable, of_virtual as virtual_by, standing as standing_by, with_variables};
 ghost use Rattle.mo_syntax.specs.Outcome.{IfBroken};
 ghost use Rattle.mo_typing.specs.Outcome.{Gives};
@@ -20,7 +20,7 @@ ghost use Rattle.mo_equations.specs.steps.Flats.{Answers, IsFlat};
 ghost use Rattle.mo_equations.specs.steps.Layers.{HasRule, fit_of, wanted_of};
 ghost use Rattle.mo_equations.specs.steps.Standing.{AreAsked, AreReplaced, IsVirtualThere, constant_expression as expression_of_constant, constant_known as known_of_constant};
 
-use crate::building::{is_asked, put_replaced, put_together, unreplaced};
+use crate::building::{is_asked, put_asked, put_replaced, unreplaced};
 use crate::constants::{keep_constant, kept_constant};
 use crate::counting::variables_of;
 use crate::desk::Desk;
@@ -139,7 +139,7 @@ pub(crate) fn flat_at<'i, 't>(
     requires rule { HasRule asked.now.layers.fit }
     requires desk { IsDesk s.old desk.old }
     ensures stays { Stays s.old s.new desk.old desk.new }
-    ensures exact { Answers IsFlat result (flat_of_expression (table_in s.old) asked.now.left (replacing_in s.old desk.old.leaves asked.now.left) (wanted_of asked.now.layers.want asked.now.layers.place) (fit_of asked.now.layers.fit asked.now.layers.place) (scope_in (frames_of s.old) asked.now.at.now.frame.0 asked.now.at.now.iters) asked.now.value.now asked.now.index.now) }
+    ensures exact { Answers IsFlat result (flat_of_expression (table_in s.old) asked.now.left (replacing_in s.old desk.old.leaves asked.now.left) (wanted_of asked.now.layers.want asked.now.layers.place) (fit_of asked.now.layers.fit asked.now.layers.place) (scope_at s.old asked.now.at.now) asked.now.value.now asked.now.index.now) }
 {
     let resolved = desk.reader.resolved(s, asked.at, asked.left, asked.value)?;
     layered(alloc, &asked.layers, &resolved.expression)?;
@@ -159,13 +159,13 @@ fn flat_element<'i, 't>(
     requires there { AreThere s.old resolved.now.virtuals }
     requires desk { IsDesk s.old desk.old }
     ensures stays { Stays s.old s.new desk.old desk.new }
-    ensures exact { Answers IsFlat result (element_of_resolved (replacing_in s.old desk.old.leaves left) (resolved_seen (frames_of s.old) resolved.now) index.now) }
+    ensures exact { Answers IsFlat result (element_of_resolved (replacing_in s.old desk.old.leaves left) (resolved_at s.old resolved.now) index.now) }
 {
     let element = element_at(alloc, &resolved.expression, index)?;
     let virtuals = resolved.virtuals.as_slice();
     let mut replaced = unreplaced(alloc, virtuals.len())?;
-    ask(alloc, s, desk, left, &element, virtuals, &mut replaced)?;
-    Ok(put_together(alloc, &element, replaced.as_slice())?)
+    let asked = ask(alloc, s, desk, left, &element, virtuals, &mut replaced);
+    put_asked(alloc, asked, &element, replaced.as_slice())
 }
 
 /// Asks what replaces the variables of an expression, from left to right, each once.
@@ -181,11 +181,11 @@ pub(crate) fn ask<'i, 't>(
 ) -> Result<(), Stop>
     requires there { AreThere s.old virtuals.now }
     requires desk { IsDesk s.old desk.old }
-    requires replaced { AreReplaced (of_variable (replacing_in s.old desk.old.leaves left) (virtuals_seen (frames_of s.old) virtuals.now)) replaced.old.items }
+    requires replaced { AreReplaced (of_variable (replacing_in s.old desk.old.leaves left) (virtuals_at s.old virtuals.now)) replaced.old.items }
     ensures stays { Stays s.old s.new desk.old desk.new }
-    ensures replaced { OnOk result (AreReplaced (of_variable (replacing_in s.old desk.old.leaves left) (virtuals_seen (frames_of s.old) virtuals.now)) replaced.new.items) }
+    ensures replaced { OnOk result (AreReplaced (of_variable (replacing_in s.old desk.old.leaves left) (virtuals_at s.old virtuals.now)) replaced.new.items) }
     ensures asked { IfOk result (λ _. AreAsked replaced.new.items e.now) }
-    ensures refused { IfBroken result (λ broken. with_variables (of_variable (replacing_in s.old desk.old.leaves left) (virtuals_seen (frames_of s.old) virtuals.now)) e.now ≡ Err broken) }
+    ensures refused { IfBroken result (λ broken. with_variables (of_variable (replacing_in s.old desk.old.leaves left) (virtuals_at s.old virtuals.now)) e.now ≡ Err broken) }
 {
     let numbers = variables_of(alloc, e)?;
     for n in numbers.as_slice() {
@@ -239,7 +239,7 @@ fn standing<'i, 't>(
     requires member { IsMember s.old element.now.member }
     requires desk { IsDesk s.old desk.old }
     ensures stays { Stays s.old s.new desk.old desk.new }
-    ensures exact { Answers IsFlat result (replacing_in s.old desk.old.leaves left (element_seen (frames_of s.old) element.now)) }
+    ensures exact { Answers IsFlat result (replacing_in s.old desk.old.leaves left (element_at s.old element.now)) }
 {
     match path_of_element(alloc, s, &element.member, element.index.as_slice())? {
         Some(path) => Ok(variable_at(alloc, s, desk, path.as_slice())?),
@@ -259,7 +259,7 @@ fn constant<'i, 't>(
     requires member { IsMember s.old element.now.member }
     requires desk { IsDesk s.old desk.old }
     ensures stays { Stays s.old s.new desk.old desk.new }
-    ensures exact { Answers IsFlat result (constant_by_left (table_in s.old) (number_of (tree_in s.old desk.old.leaves)) left (element_seen (frames_of s.old) element.now)) }
+    ensures exact { Answers IsFlat result (constant_by_left (table_in s.old) (number_of (tree_in s.old desk.old.leaves)) left (element_at s.old element.now)) }
 {
     if left == 0 {
         return Err(stop(rules::REFERENCE_CHAIN_TOO_LONG, element.place));
@@ -284,7 +284,7 @@ fn constant_by<'i, 't>(
     requires member { IsMember s.old element.now.member }
     requires desk { IsDesk s.old desk.old }
     ensures stays { Stays s.old s.new desk.old desk.new }
-    ensures exact { Answers IsFlat result (constant_by_reader (table_in s.old) left (replacing_in s.old desk.old.leaves left) (element_seen (frames_of s.old) element.now)) }
+    ensures exact { Answers IsFlat result (constant_by_reader (table_in s.old) left (replacing_in s.old desk.old.leaves left) (element_at s.old element.now)) }
 {
     match constant_known(alloc, s, desk, left, element)? {
         Some(scalar) => Ok(Flat::of(flat_value(alloc, s, scalar)?)),
@@ -303,7 +303,7 @@ fn constant_known<'i, 't>(
     requires member { IsMember s.old element.now.member }
     requires desk { IsDesk s.old desk.old }
     ensures stays { Stays s.old s.new desk.old desk.new }
-    ensures exact { Gives result (known_of_constant (table_in s.old) left (element_seen (frames_of s.old) element.now)) }
+    ensures exact { Gives result (known_of_constant (table_in s.old) left (element_at s.old element.now)) }
 {
     if has_values(element.kind) {
         desk.reader.value_of_element(s, left, element)
@@ -324,7 +324,7 @@ fn constant_expression<'i, 't>(
     requires member { IsMember s.old element.now.member }
     requires desk { IsDesk s.old desk.old }
     ensures stays { Stays s.old s.new desk.old desk.new }
-    ensures exact { Answers IsFlat result (expression_of_constant (table_in s.old) left (replacing_in s.old desk.old.leaves left) (element_seen (frames_of s.old) element.now)) }
+    ensures exact { Answers IsFlat result (expression_of_constant (table_in s.old) left (replacing_in s.old desk.old.leaves left) (element_at s.old element.now)) }
 {
     let child = child_of_member(alloc, s, &element.member, element.index.as_slice())?;
     match pick_here(child.sources.as_slice()) {

@@ -3,10 +3,11 @@
 
 ghost use Rattle.std.specs.Prelude.{◌≡◌, ◌<◌, Some, length, slice_get, IfOk};
 ghost use Rattle.mo_typing.specs.Outcome.{Gives};
-ghost use Rattle.mo_scope.specs.Worlds.{IsFrame, frames_of, scope_in, table_in};
+ghost use Rattle.mo_scope.specs.Sights.{scope_at};
+ghost use Rattle.mo_scope.specs.Worlds.{IsFrame, table_in};
 ghost use Rattle.mo_values.specs.Asked.{must_be_whole as whole_that_is_known};
 ghost use Rattle.mo_eval.specs.References.{numbers_of as numbers_read};
-ghost use Rattle.mo_eval.specs.Seen.{AreThere, resolved_seen};
+ghost use Rattle.mo_eval.specs.Seen.{AreThere, resolved_at};
 ghost use Rattle.mo_eval.specs.Values.{known_of, most_references};
 ghost use Rattle.mo_equations.specs.Equations.{numbers_of_index as numbers_at_index, range_numbers as range_in};
 ghost use Rattle.mo_equations.specs.steps.Desks.{IsDesk, Stays, tree_in};
@@ -36,7 +37,7 @@ pub(crate) fn known_at<'i, 't>(
     requires rule { HasRule asked.now.layers.fit }
     requires desk { IsDesk s.old desk.old }
     ensures stays { Stays s.old s.new desk.old desk.new }
-    ensures exact { Gives result (known_so (table_in s.old) (wanted_of asked.now.layers.want asked.now.layers.place) (fit_of asked.now.layers.fit asked.now.layers.place) (scope_in (frames_of s.old) asked.now.at.now.frame.0 asked.now.at.now.iters) asked.now.value.now asked.now.index.now) }
+    ensures exact { Gives result (known_so (table_in s.old) (wanted_of asked.now.layers.want asked.now.layers.place) (fit_of asked.now.layers.fit asked.now.layers.place) (scope_at s.old asked.now.at.now) asked.now.value.now asked.now.index.now) }
 {
     let resolved = desk
         .reader
@@ -118,7 +119,7 @@ fn numbers_listed<'i, 't>(
     requires there { AreThere s.old resolved.now.virtuals }
     requires desk { IsDesk s.old desk.old }
     ensures stays { Stays s.old s.new desk.old desk.new }
-    ensures exact { GivesNumbers result (numbers_read (known_of (table_in s.old) most_references (resolved_seen (frames_of s.old) resolved.now)) place size) }
+    ensures exact { GivesNumbers result (numbers_read (known_of (table_in s.old) most_references (resolved_at s.old resolved.now)) place size) }
 {
     let mut made = List::new(alloc);
     for k in 0..size {
@@ -139,7 +140,7 @@ pub(crate) fn range_numbers<'i, 't>(
     requires frame { IsFrame s.old at.now.frame.0 }
     requires desk { IsDesk s.old desk.old }
     ensures stays { Stays s.old s.new desk.old desk.new }
-    ensures exact { GivesNumbers result (range_in (tree_in s.old desk.old.leaves) (scope_in (frames_of s.old) at.now.frame.0 at.now.iters) e.now) }
+    ensures exact { GivesNumbers result (range_in (tree_in s.old desk.old.leaves) (scope_at s.old at.now) e.now) }
 {
     let resolved = desk.reader.resolved_for_value(s, at, MOST_REFERENCES, e)?;
     let size = range_size(alloc, e.place, &resolved.expression)?;
@@ -165,7 +166,7 @@ pub(crate) fn numbers_of_index<'i, 't>(
     requires frame { IsFrame s.old at.now.frame.0 }
     requires desk { IsDesk s.old desk.old }
     ensures stays { Stays s.old s.new desk.old desk.new }
-    ensures exact { GivesNumbers result (numbers_at_index (tree_in s.old desk.old.leaves) place (scope_in (frames_of s.old) at.now.frame.0 at.now.iters) range.now) }
+    ensures exact { GivesNumbers result (numbers_at_index (tree_in s.old desk.old.leaves) place (scope_at s.old at.now) range.now) }
 {
     match range {
         Some(e) => range_numbers(alloc, s, desk, at, e),

@@ -1,7 +1,7 @@
 //! What the instances of a class give.
 #![tactic(auto, using(crate::proofs::Staying::staying))]
 
-ghost use Rattle.std.specs.Prelude.{◌≡◌, ◌∷◌, [], ◌++◌, false, List as Seq, IfOk, OnOk, if◌then◌else◌};
+ghost use Rattle.std.specs.Prelude.{◌≡◌, ◌∷◌, [], ◌++◌, false, List as Seq, Ok, IfOk, OnOk, if◌then◌else◌};
 ghost use Rattle.mo_flat.specs.declared.connect.Expanded.{Expanded as ExpandedAt};
 ghost use Rattle.mo_flat.specs.SoundConnects.{IsSoundConnects};
 ghost use Rattle.mo_scope.specs.Places.{Every};
@@ -13,7 +13,7 @@ ghost use Rattle.mo_equations.specs.Expansion.{Parts as PartsOf, name_of_root as
 ghost use Rattle.mo_equations.specs.Leaves.{place_of_root as place_of_tree};
 ghost use Rattle.mo_equations.specs.Size.{is_past as is_past_expansion};
 ghost use Rattle.mo_equations.specs.steps.Flats.{are_over};
-ghost use Rattle.mo_equations.specs.Variables.{Declared as DeclaredOne};
+ghost use Rattle.mo_equations.specs.Variables.{Declared as DeclaredOne, all_declared as all_of_tree};
 ghost use Rattle.mo_equations.specs.Sound.{IsSoundExpansion};
 ghost use Rattle.mo_equations.specs.steps.Declaring.{AreDeclared, IsExpandedWith, expanded_from};
 ghost use Rattle.mo_equations.specs.steps.Desks.{Goes, IsDesk, tree_in};
@@ -27,6 +27,7 @@ use crate::leaves::{Leaves, leaves_of};
 use crate::limits::{MOST_EQUATIONS, MOST_UNKNOWNS};
 use crate::made::Made;
 use crate::sections::{Parts, all_sections, frames_of_all};
+use crate::stops::or_stop;
 use crate::variables::{Declared, all_declared};
 use mo_eval::{Reader, class_text};
 use mo_flat::{Connects, Expanded};
@@ -283,6 +284,39 @@ fn completed<'i, 't>(
     put_together(name, desk.asked, declared, parts, flows)
 }
 
+/// The whole of what declarations gave and what comes of the sections.
+fn with_parts<'i, 't>(
+    alloc: Global,
+    s: &Scopes<'t>,
+    desk: &Desk<'i, 't>,
+    declared: Declared,
+    parts: Result<Parts, Stop>,
+) -> Result<Expansion, Stop>
+    requires { IsDesk s.now desk.now }
+    ensures { (all : Seq DeclaredOne) → all_of_tree (tree_in s.now desk.now.leaves) ≡ Ok all → AreDeclared declared all → GivesParts parts desk.now (parts_of_tree (tree_in s.now desk.now.leaves) 0) → GivesExpansion result (tree_in s.now desk.now.leaves) }
+{
+    match parts {
+        Ok(parts) => or_stop(completed(alloc, s, desk, declared, parts)),
+        Err(stop) => Err(stop),
+    }
+}
+
+/// What the instances of a desk give from which no turn was taken yet.
+fn expanded_at<'i, 't>(
+    alloc: Global,
+    s: &mut Scopes<'t>,
+    desk: &mut Desk<'i, 't>,
+) -> Result<Expansion, Stop>
+    requires desk { IsDesk s.old desk.old }
+    requires turns { desk.old.turns ≡ 0 }
+    ensures grows { Grows s.old s.new }
+    ensures exact { GivesExpansion result (tree_in s.old desk.old.leaves) }
+{
+    let declared = all_declared(alloc, s, desk)?;
+    let parts = all_parts(alloc, s, desk);
+    with_parts(alloc, s, desk, declared, parts)
+}
+
 /// What instances give.
 fn expanded<'t>(
     alloc: Global,
@@ -295,7 +329,5 @@ fn expanded<'t>(
     ensures exact { GivesExpansion result (record { classes = table_in s.old; instances = instances_in s.old instances.now }) }
 {
     let mut desk = first_desk(alloc, s, instances)?;
-    let declared = all_declared(alloc, s, &mut desk)?;
-    let parts = all_parts(alloc, s, &mut desk)?;
-    Ok(completed(alloc, s, &desk, declared, parts)?)
+    expanded_at(alloc, s, &mut desk)
 }

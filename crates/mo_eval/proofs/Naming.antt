@@ -16,7 +16,7 @@ use Rattle.mo_scope.specs.Names.{behind_found, taken}
 use Rattle.mo_scope.specs.Outcome.{Gives as GivesSeen}
 use Rattle.mo_scope.specs.Places.{Every}
 use Rattle.mo_scope.specs.Rows.{Table}
-use Rattle.mo_scope.specs.Worlds.{World, Grows, IsFrame, frames_of, table_in}
+use Rattle.mo_scope.specs.Worlds.{World, Grows, frames_of, table_in}
 use Rattle.mo_names.specs.declared.found.Found.{Found as FoundAt}
 use Rattle.mo_names.specs.Children.{first_found, next_found}
 use Rattle.mo_names.specs.Past.{first_met}
@@ -26,15 +26,12 @@ use Rattle.mo_syntax.specs.declared.rules.TheConstants.{WRONG_TYPE}
 use Rattle.mo_typing.specs.Outcome.{Gives}
 use Rattle.mo_typing.proofs.Gathering.{opened}
 use Rattle.mo_eval.specs.declared.names.Name.{Name}
-use Rattle.mo_eval.specs.declared.resolve.Site.{Site}
 use Rattle.mo_eval.specs.Contexts.{Part}
 use Rattle.mo_eval.specs.References.{Named, Components, Found_at, counted_subscripts, identifier, named, named_before, named_from, named_last, number_of_dims}
-use Rattle.mo_eval.specs.steps.Sites.{part_in, scope_of}
-use Rattle.mo_eval.proofs.Growing.{same_parts}
 use Rattle.mo_eval.proofs.Written.{every_later}
 use Rattle.mo_eval.specs.steps.Measuring.{GoesOn}
 use Rattle.mo_eval.specs.steps.Naming.{AreNames, counted_in, name_seen, named_behind, named_on, names_seen}
-use Rattle.mo_eval.specs.steps.Parts.{as_identifier, as_reference}
+use Rattle.mo_eval.specs.steps.Parts.{as_identifier}
 
 -- ---- in later worlds
 
@@ -202,25 +199,25 @@ pub counted_earlier : (u v : World) → Grows u v → (found : FoundAt) → IsFo
 counted_earlier u v g found is part =
     ap (λ t. counted_subscripts t (found_in (frames_of v) found) part) (table_later u v g) ∙ ap (λ (x : Found). counted_subscripts (table_in u) x part) (found_later u v found g is)
 
+-- with none before
+pub from_none : (table : Table) (frames : List Frame) (f : Expr → Part) (names : List Name) (found : Found) (part : PartOf Part) (parts : List (PartOf Part)) → names ≡ [] →
+    named_on table (names_seen f frames names) found part parts ≡ named_from table found part parts
+from_none table frames f names found part parts none =
+    ap (λ ns. named_on table (names_seen f frames ns) found part parts) none ∙ all_named (named_from table found part parts)
+
 -- what the first identifier found, and those behind it
-pub begun : (u v : World) → Grows u v → (site : Site) → IsFrame u site.at.now.frame.0 → (top : Bool) (found : FoundAt) (part : PartOf Expr) (others : List (PartOf Expr)) (names : List Name) → names ≡ [] →
-    first_found (table_in u) top (scope_of u site) part.name part.place ≡ Ok (found_in (frames_of v) found) →
-    named (table_in u) (scope_of u site) (record { top = top; parts = as_identifier (part_in u site) part ∷ map (as_identifier (part_in u site)) others })
-    ≡ named_on (table_in v) (names_seen (part_in v site) (frames_of v) names) (found_in (frames_of v) found) (as_identifier (part_in v site) part) (map (as_identifier (part_in v site)) others)
-begun u v g site is top found part others names none value =
-    let f = part_in u site in
+pub begun : (u v : World) → Grows u v → (scope : Scope) (top : Bool) (found : FoundAt) (part : PartOf Part) (parts : List (PartOf Part)) →
+    first_found (table_in u) top scope part.name part.place ≡ Ok (found_in (frames_of v) found) →
+    named_from (table_in v) (found_in (frames_of v) found) part parts ≡ named (table_in u) scope (record { top = top; parts = part ∷ parts })
+begun u v g scope top found part parts value =
     let seen = found_in (frames_of v) found in
-    first_named (table_in u) (scope_of u site) top (as_identifier f part) (map (as_identifier f) others)
-    ∙ (ap (λ (o : Seen Found). and_then o (λ x. named_from (table_in u) x (as_identifier f part) (map (as_identifier f) others))) value
-    ∙ (sym (all_named (named_from (table_in u) seen (as_identifier f part) (map (as_identifier f) others)))
-    ∙ (ap (λ (h : Expr → Part). named_on (table_in u) [] seen (as_identifier h part) (map (as_identifier h) others)) (sym (same_parts u v site g is))
-    ∙ (ap (λ t. named_on t [] seen (as_identifier (part_in v site) part) (map (as_identifier (part_in v site)) others)) (sym (table_later u v g))
-    ∙ ap (λ ns. named_on (table_in v) (names_seen (part_in v site) (frames_of v) ns) seen (as_identifier (part_in v site) part) (map (as_identifier (part_in v site)) others)) (sym none)))))
+    ap (λ t. named_from t seen part parts) (table_later u v g)
+    ∙ (ap (λ (o : Seen Found). and_then o (λ x. named_from (table_in u) x part parts)) (sym value)
+    ∙ sym (first_named (table_in u) scope top part parts))
 
 -- what the last identifier names, in a later world
-pub last_as : (u v : World) → Grows u v → (f h : Expr → Part) → f ≡ h → (names : List Name) (found : FoundAt) (part : PartOf Expr) → AreNames u names → IsFound u found →
-    named_behind (names_seen f (frames_of v) names) (named_last (found_in (frames_of v) found) (as_identifier f part)) ≡ named_behind (names_seen h (frames_of u) names) (named_last (found_in (frames_of u) found) (as_identifier h part))
-last_as u v g f h e names found part are is =
-    ap (λ (x : Expr → Part). named_behind (names_seen x (frames_of v) names) (named_last (found_in (frames_of v) found) (as_identifier x part))) e
-    ∙ (ap (λ ns. named_behind ns (named_last (found_in (frames_of v) found) (as_identifier h part))) (names_later u v g h names are)
-    ∙ ap (λ (x : Found). named_behind (names_seen h (frames_of u) names) (named_last x (as_identifier h part))) (found_later u v found g is))
+pub last_as : (u v : World) → Grows u v → (f : Expr → Part) (names : List Name) (found : FoundAt) (part : PartOf Part) → AreNames u names → IsFound u found →
+    named_behind (names_seen f (frames_of v) names) (named_last (found_in (frames_of v) found) part) ≡ named_behind (names_seen f (frames_of u) names) (named_last (found_in (frames_of u) found) part)
+last_as u v g f names found part are is =
+    ap (λ ns. named_behind ns (named_last (found_in (frames_of v) found) part)) (names_later u v g f names are)
+    ∙ ap (λ (x : Found). named_behind (names_seen f (frames_of u) names) (named_last x part)) (found_later u v found g is)

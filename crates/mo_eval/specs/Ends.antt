@@ -13,7 +13,7 @@ use Rattle.mo_flat.specs.declared.array.Subscript.{Subscript}
 use Rattle.mo_scope.specs.Rows.{Table}
 use Rattle.mo_scope.specs.Frames.{Frame, Scope, Member}
 use Rattle.mo_scope.specs.Places.{Every}
-use Rattle.mo_scope.specs.Worlds.{World}
+use Rattle.mo_scope.specs.Worlds.{World, frames_of}
 use Rattle.mo_names.specs.Sights.{IsMember, member_of}
 use Rattle.mo_typing.specs.Dims.{Dims}
 use Rattle.mo_typing.specs.Indices.{Index}
@@ -102,6 +102,10 @@ abbrev pub ended_seen : List Frame → EndedAt → Ended
 ended_seen frames Removed = Is_removed
 ended_seen frames Other = Is_other
 ended_seen frames (selected_at selected) = Selects selected.dims selected.subs (map (λ element. (member_of frames element.0, element.1)) selected.elements)
+
+-- in a world, whose frames have the numbers
+abbrev pub ended_at : World → EndedAt → Ended
+ended_at world = ended_seen (frames_of world)
 
 -- the components of the elements exist
 abbrev pub IsEnded : World → EndedAt → Type 0

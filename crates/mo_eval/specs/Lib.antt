@@ -9,5 +9,6 @@ pub mod Resolving
 pub mod Components
 pub mod Values
 pub mod Ends
+pub mod InScope
 pub mod Heights
 pub mod Keeping

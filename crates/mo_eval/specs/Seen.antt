@@ -2,7 +2,7 @@
 use Rattle.std.specs.Prelude.{◌≡◌, ℕ, List, Some, map, slice_get}
 use Rattle.mo_flat.specs.declared.array.ArrayExpr.{ArrayExpr}
 use Rattle.mo_scope.specs.Frames.{Frame}
-use Rattle.mo_scope.specs.Worlds.{World, member_in}
+use Rattle.mo_scope.specs.Worlds.{World, frames_of, member_in}
 use Rattle.mo_scope.specs.Sights.{member_seen}
 use Rattle.mo_names.specs.Sights.{IsMember}
 use Rattle.mo_eval.specs.declared.virtuals.Element.{Element as ElementAt}
@@ -33,6 +33,20 @@ resolved_seen frames resolved = record { expression = resolved.expression; virtu
 
 abbrev pub sides_seen : List Frame → SidesAt → (ArrayExpr × ArrayExpr) × List Virtual
 sides_seen frames sides = ((sides.left, sides.right), virtuals_seen frames sides.virtuals)
+
+-- ---- what they are in a world, whose frames have the numbers
+
+abbrev pub element_at : World → ElementAt → Element
+element_at world = element_seen (frames_of world)
+
+abbrev pub virtuals_at : World → List VirtualAt → List Virtual
+virtuals_at world = virtuals_seen (frames_of world)
+
+abbrev pub resolved_at : World → ResolvedAt → Resolved
+resolved_at world = resolved_seen (frames_of world)
+
+abbrev pub sides_at : World → SidesAt → (ArrayExpr × ArrayExpr) × List Virtual
+sides_at world = sides_seen (frames_of world)
 
 -- the components of virtual variables exist
 pub record AreThere (world : World) (virtuals : List VirtualAt) : Type 0 where

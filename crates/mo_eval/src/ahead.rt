@@ -1,15 +1,9 @@
 //! What is read ahead of a walk. A walk halts at the first variable that it needs and that is not read yet, and then begins again: so
 //! after some walks the variables behind that one are read as well, twice as many each time, and an expression of many variables is
 //! walked few times more than its logarithm.
-ghost use Rattle.std.specs.Prelude.{List, IfSome};
-ghost use Rattle.mo_scope.specs.Frames.{Frame};
-ghost use Rattle.mo_syntax.specs.Outcome.{Outcome};
-ghost use Rattle.mo_values.specs.Scalars.{Known};
-ghost use Rattle.mo_eval.specs.Virtuals.{Element, numbered, known_of_virtuals};
-ghost use Rattle.mo_values.specs.Walk.{known_by};
-ghost use Rattle.mo_values.specs.Told.{AreRead, IsUnread};
-ghost use Rattle.mo_eval.specs.Seen.{virtuals_seen};
-ghost use Rattle.mo_eval.specs.Sequence.{IsStep};
+ghost use Rattle.std.specs.Prelude.{IfSome};
+ghost use Rattle.mo_values.specs.Told.{IsUnread};
+ghost use Rattle.mo_eval.specs.Sequence.{IsNextStep};
 
 use crate::reader::Reader;
 use crate::reading::{Step, next, reading};
@@ -93,7 +87,7 @@ pub(crate) fn next_step<'t>(
     reads: &[Told],
     ahead: &mut Ahead,
 ) -> Result<Step, Stop>
-    ensures { (frames : List Frame) (read : Element → Outcome Known) → AreRead reads.now (numbered (known_of_virtuals read (virtuals_seen frames virtuals.now))) → IsStep read (virtuals_seen frames virtuals.now) reads.now result (known_by (numbered (known_of_virtuals read (virtuals_seen frames virtuals.now))) e.now index.now) }
+    ensures { IsNextStep virtuals.now reads.now result e.now index.now }
 {
     if reader.reads_ahead {
         if let Some(n) = first_unread(reads, *ahead) {

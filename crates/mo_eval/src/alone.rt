@@ -1,14 +1,14 @@
 //! Expressions that are resolved by themselves and read for their values.
 ghost use Rattle.std.specs.Prelude.{◌≤◌, ℤ, IfOk, Ok};
 ghost use Rattle.mo_scope.specs.Outcome.{Gives as GivesSeen};
-ghost use Rattle.mo_scope.specs.Worlds.{Grows, IsFrame, frames_of};
+ghost use Rattle.mo_scope.specs.Worlds.{Grows, IsFrame};
 ghost use Rattle.mo_syntax.specs.Outcome.{Outcome, and_then};
 ghost use Rattle.mo_typing.specs.Outcome.{Gives};
 ghost use Rattle.mo_eval.specs.Keeping.{IsKept};
 ghost use Rattle.mo_eval.specs.Contexts.{alone, whole_of, truth_of};
 ghost use Rattle.mo_eval.specs.Resolving.{read_end};
 ghost use Rattle.mo_eval.specs.Calls.{read_size};
-ghost use Rattle.mo_eval.specs.Seen.{AreThere, resolved_seen};
+ghost use Rattle.mo_eval.specs.Seen.{AreThere, resolved_at};
 ghost use Rattle.mo_eval.specs.steps.Sites.{part_in, elements_in};
 ghost use Rattle.mo_eval.specs.steps.Asking.{end_in};
 ghost use Rattle.mo_eval.specs.steps.Choosing.{read_condition};
@@ -35,7 +35,7 @@ pub(crate) fn alone<'t>(
     ensures grows { Grows s.old s.new }
     ensures kept { IsKept s.new reader.new }
     ensures there { IfOk result (λ resolved. AreThere s.new resolved.virtuals) }
-    ensures exact { GivesSeen (resolved_seen (frames_of s.new)) result (alone (part_in s.old site.now e.now) site.now.context) }
+    ensures exact { GivesSeen (resolved_at s.new) result (alone (part_in s.old site.now e.now) site.now.context) }
 {
     let mut virtuals = List::new(reader.alloc);
     let expression = resolve(reader, s, site, e, &mut virtuals)?;
@@ -58,7 +58,7 @@ fn end_of<'t>(
     requires kept { IsKept s.old reader.old }
     ensures grows { Grows s.old s.new }
     ensures kept { IsKept s.new reader.new }
-    ensures exact { Gives result (end_in (elements_in s.old left) place (resolved_seen (frames_of s.old) resolved.now)) }
+    ensures exact { Gives result (end_in (elements_in s.old left) place (resolved_at s.old resolved.now)) }
 {
     whole_scalar(reader.alloc, place, &resolved.expression)?;
     known_in(
@@ -84,7 +84,7 @@ pub(crate) fn whole_of<'t>(
     requires kept { IsKept s.old reader.old }
     ensures grows { Grows s.old s.new }
     ensures kept { IsKept s.new reader.new }
-    ensures exact { Gives result (whole_of (elements_in s.old left) place (resolved_seen (frames_of s.old) resolved.now)) }
+    ensures exact { Gives result (whole_of (elements_in s.old left) place (resolved_at s.old resolved.now)) }
 {
     let known = end_of(reader, s, left, place, resolved)?;
     answer(must_be_whole(place, known))
@@ -106,7 +106,7 @@ pub(crate) fn truth_of<'t>(
     requires kept { IsKept s.old reader.old }
     ensures grows { Grows s.old s.new }
     ensures kept { IsKept s.new reader.new }
-    ensures exact { Gives result (truth_of (elements_in s.old left) rule place (resolved_seen (frames_of s.old) resolved.now)) }
+    ensures exact { Gives result (truth_of (elements_in s.old left) rule place (resolved_at s.old resolved.now)) }
 {
     truth_scalar(reader.alloc, rule, place, &resolved.expression)?;
     known_in(

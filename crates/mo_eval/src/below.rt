@@ -2,10 +2,11 @@
 #![tactic(auto, using(mo_names::proofs::Later::later))]
 
 ghost use Rattle.std.specs.Prelude.{◌≡◌, ◌≤◌, ◌++◌, length, map, Ok, IfOk, OnOk};
+ghost use Rattle.mo_scope.specs.Sights.{member_at};
 ghost use Rattle.mo_scope.specs.Outcome.{Gives as GivesSeen};
 ghost use Rattle.mo_scope.specs.Places.{Every};
 ghost use Rattle.mo_scope.specs.Worlds.{Grows, frames_of, table_in};
-ghost use Rattle.mo_names.specs.Sights.{IsMember, member_of};
+ghost use Rattle.mo_names.specs.Sights.{IsMember};
 ghost use Rattle.mo_typing.specs.Dims.{are_equal};
 ghost use Rattle.mo_typing.specs.Outcome.{Gives};
 ghost use Rattle.mo_eval.specs.Keeping.{IsKept};
@@ -45,7 +46,7 @@ fn agrees<'t>(
     requires kept { IsKept s.old reader.old }
     ensures grows { Grows s.old s.new }
     ensures kept { IsKept s.new reader.new }
-    ensures exact { (asking : Removal) → Gives (as_stopped asking result) (agrees (reading_in asking s.old deeper) place (selection_seen selection.now) (member_of (frames_of s.old) member.now)) }
+    ensures exact { (asking : Removal) → Gives (as_stopped asking result) (agrees (reading_in asking s.old deeper) place (selection_seen selection.now) (member_at s.old member.now)) }
 {
     let dims = dims_there(reader, s, deeper, selection.place, member)?;
     if are_equal(dims.as_slice(), selection.dims.as_slice()) {
@@ -98,7 +99,7 @@ pub(crate) fn below<'t>(
     ensures grows { Grows s.old s.new }
     ensures kept { IsKept s.new reader.new }
     ensures there { OnOk result (Every (λ element. IsMember s.new element.0) made.new) }
-    ensures exact { (asking : Removal) → GivesSeen (λ _. elements_seen (frames_of s.new) made.new) (as_stopped asking result) (elements_more (elements_seen (frames_of s.old) made.old) (elements_below (table_in s.old) (reading_in asking s.old deeper) place (member_of (frames_of s.old) member.now) (selections_seen chosen.now))) }
+    ensures exact { (asking : Removal) → GivesSeen (λ _. elements_seen (frames_of s.new) made.new) (as_stopped asking result) (elements_more (elements_seen (frames_of s.old) made.old) (elements_below (table_in s.old) (reading_in asking s.old deeper) place (member_at s.old member.now) (selections_seen chosen.now))) }
 {
     let [selection, others @ ..] = chosen else {
         return Ok(());
@@ -134,7 +135,7 @@ fn below_each<'t>(
     ensures grows { Grows s.old s.new }
     ensures kept { IsKept s.new reader.new }
     ensures there { OnOk result (Every (λ element. IsMember s.new element.0) made.new) }
-    ensures exact { (asking : Removal) → GivesSeen (λ _. elements_seen (frames_of s.new) made.new) (as_stopped asking result) (elements_more (elements_seen (frames_of s.old) made.old) (each_below (table_in s.old) (reading_in asking s.old deeper) place (member_of (frames_of s.old) at.entry.0.now) (selections_seen chosen.now) at.entry.1.now)) }
+    ensures exact { (asking : Removal) → GivesSeen (λ _. elements_seen (frames_of s.new) made.new) (as_stopped asking result) (elements_more (elements_seen (frames_of s.old) made.old) (each_below (table_in s.old) (reading_in asking s.old deeper) place (member_at s.old at.entry.0.now) (selections_seen chosen.now) at.entry.1.now)) }
 {
     let (member, indices) = at;
     let [next, ..] = chosen else {

@@ -6,7 +6,7 @@ ghost use Rattle.mo_flat.specs.declared.array.ArrayExpr.{ArrayExpr as ArrayTree}
 ghost use Rattle.mo_flat.specs.declared.array.ArrayNode.TheVariants.{Call};
 ghost use Rattle.mo_syntax.specs.Outcome.{Outcome, and_then};
 ghost use Rattle.mo_tables.specs.declared.functions.TheConstants.{DIV, IDENTITY, MOD, NDIMS, ONES, REM, ZEROS};
-ghost use Rattle.mo_scope.specs.Worlds.{World, Grows, IsFrame, frames_of, table_in};
+ghost use Rattle.mo_scope.specs.Worlds.{World, Grows, IsFrame, table_in};
 ghost use Rattle.mo_typing.specs.Kinds.{is_among};
 ghost use Rattle.mo_typing.specs.Outcome.{Gives};
 ghost use Rattle.mo_eval.specs.Keeping.{IsKept};
@@ -15,7 +15,7 @@ ghost use Rattle.mo_eval.specs.Virtuals.{Ask, Virtual as VirtualSeen};
 ghost use Rattle.mo_eval.specs.Contexts.{Part as PartOf};
 ghost use Rattle.mo_values.specs.Asked.{argument_of_size};
 ghost use Rattle.mo_eval.specs.Calls.{make_arguments, read_sizes, made_size, made_ndims, made_fill, made_sized, made_function, made_call};
-ghost use Rattle.mo_eval.specs.Seen.{AreThere, virtuals_seen};
+ghost use Rattle.mo_eval.specs.Seen.{AreThere, virtuals_at};
 ghost use Rattle.mo_eval.specs.steps.Sites.{part_in, plain_in, elements_in, ask_of, scope_of, IsMade};
 ghost use Rattle.mo_eval.specs.steps.Parts.{as_callee, as_part, made_arguments};
 ghost use Rattle.mo_eval.specs.steps.Calling.{IsFirst, is_lone, filled_with, number_of_size, made_derivative, plain};
@@ -49,7 +49,7 @@ pub(crate) fn arguments<'t>(
     ensures grows { Grows s.old s.new }
     ensures kept { IsKept s.new reader.new }
     ensures there { AreThere s.new virtuals.new }
-    ensures exact { (parts : Seq PartOf) → plain_in s.old site.now args.now ≡ Some parts → IsMade s.new result virtuals.new (make_arguments site.now.context parts (virtuals_seen (frames_of s.old) virtuals.old)) }
+    ensures exact { (parts : Seq PartOf) → plain_in s.old site.now args.now ≡ Some parts → IsMade s.new result virtuals.new (make_arguments site.now.context parts (virtuals_at s.old virtuals.old)) }
 {
     let mut made = List::new(reader.alloc);
     for arg in args {
@@ -128,7 +128,7 @@ fn array<'t>(
     ensures grows { Grows s.old s.new }
     ensures kept { IsKept s.new reader.new }
     ensures there { AreThere s.new virtuals.new }
-    ensures exact { IsMade s.new result virtuals.new ((part_in s.old site.now e.now).1 (argument_of_size site.now.context) (virtuals_seen (frames_of s.old) virtuals.old)) }
+    ensures exact { IsMade s.new result virtuals.new ((part_in s.old site.now e.now).1 (argument_of_size site.now.context) (virtuals_at s.old virtuals.old)) }
 {
     let inner = Site {
         at: site.at,
@@ -155,7 +155,7 @@ fn number<'t>(
     ensures grows { Grows s.old s.new }
     ensures kept { IsKept s.new reader.new }
     ensures there { AreThere s.new virtuals.new }
-    ensures exact { (parts : Seq PartOf) → plain_in s.old site.now args.now ≡ Some parts → IsMade s.new result virtuals.new (number_of_size (elements_in s.old site.now.left) site.now.context place parts (virtuals_seen (frames_of s.old) virtuals.old)) }
+    ensures exact { (parts : Seq PartOf) → plain_in s.old site.now args.now ≡ Some parts → IsMade s.new result virtuals.new (number_of_size (elements_in s.old site.now.left) site.now.context place parts (virtuals_at s.old virtuals.old)) }
 {
     let Some((e, others)) = split(args) else {
         return Ok(None);
@@ -186,7 +186,7 @@ fn size<'t>(
     ensures grows { Grows s.old s.new }
     ensures kept { IsKept s.new reader.new }
     ensures there { AreThere s.new virtuals.new }
-    ensures exact { (parts : Seq PartOf) → plain_in s.old site.now args.now ≡ Some parts → IsMade s.new result virtuals.new (made_size (elements_in s.old site.now.left) site.now.context place parts (virtuals_seen (frames_of s.old) virtuals.old)) }
+    ensures exact { (parts : Seq PartOf) → plain_in s.old site.now args.now ≡ Some parts → IsMade s.new result virtuals.new (made_size (elements_in s.old site.now.left) site.now.context place parts (virtuals_at s.old virtuals.old)) }
 {
     let Some((e, others)) = split(args) else {
         return Err(Stop::Broken(broken(rules::WRONG_TYPE, place)));
@@ -229,7 +229,7 @@ fn ndims<'t>(
     ensures grows { Grows s.old s.new }
     ensures kept { IsKept s.new reader.new }
     ensures there { AreThere s.new virtuals.new }
-    ensures exact { (parts : Seq PartOf) → plain_in s.old site.now args.now ≡ Some parts → IsMade s.new result virtuals.new (made_ndims site.now.context place parts (virtuals_seen (frames_of s.old) virtuals.old)) }
+    ensures exact { (parts : Seq PartOf) → plain_in s.old site.now args.now ≡ Some parts → IsMade s.new result virtuals.new (made_ndims site.now.context place parts (virtuals_at s.old virtuals.old)) }
 {
     let Some(e) = lone(args) else {
         arguments(reader, s, site, args, virtuals)?;
@@ -268,7 +268,7 @@ fn fill<'t>(
     ensures grows { Grows s.old s.new }
     ensures kept { IsKept s.new reader.new }
     ensures there { AreThere s.new virtuals.new }
-    ensures exact { (parts : Seq PartOf) → plain_in s.old site.now args.now ≡ Some parts → IsMade s.new result virtuals.new (made_fill (elements_in s.old site.now.left) site.now.context place parts (virtuals_seen (frames_of s.old) virtuals.old)) }
+    ensures exact { (parts : Seq PartOf) → plain_in s.old site.now args.now ≡ Some parts → IsMade s.new result virtuals.new (made_fill (elements_in s.old site.now.left) site.now.context place parts (virtuals_at s.old virtuals.old)) }
 {
     let Some((e, others)) = split(args) else {
         return Err(Stop::Broken(broken(rules::WRONG_TYPE, place)));
@@ -294,7 +294,7 @@ fn sized<'t>(
     ensures grows { Grows s.old s.new }
     ensures kept { IsKept s.new reader.new }
     ensures there { AreThere s.new virtuals.now }
-    ensures exact { (parts : Seq PartOf) → plain_in s.old site.now args.now ≡ Some parts → IsMade s.new result virtuals.now (made_sized (elements_in s.old site.now.left) site.now.context called.place called.function parts (virtuals_seen (frames_of s.old) virtuals.now)) }
+    ensures exact { (parts : Seq PartOf) → plain_in s.old site.now args.now ≡ Some parts → IsMade s.new result virtuals.now (made_sized (elements_in s.old site.now.left) site.now.context called.place called.function parts (virtuals_at s.old virtuals.now)) }
 {
     let numbers = sizes(reader, s, site, args)?;
     if !takes(called.function, numbers.len()) {
@@ -319,7 +319,7 @@ fn derivative<'t>(
     ensures grows { Grows s.old s.new }
     ensures kept { IsKept s.new reader.new }
     ensures there { AreThere s.new virtuals.new }
-    ensures exact { (parts : Seq PartOf) → plain_in s.old site.now args.now ≡ Some parts → IsMade s.new result virtuals.new (made_derivative site.now.context place parts (virtuals_seen (frames_of s.old) virtuals.old)) }
+    ensures exact { (parts : Seq PartOf) → plain_in s.old site.now args.now ≡ Some parts → IsMade s.new result virtuals.new (made_derivative site.now.context place parts (virtuals_at s.old virtuals.old)) }
 {
     let operands = arguments(reader, s, site, args, virtuals)?;
     answer(derivative_of(place, operands))
@@ -373,7 +373,7 @@ fn function<'t>(
     ensures grows { Grows s.old s.new }
     ensures kept { IsKept s.new reader.new }
     ensures there { AreThere s.new virtuals.new }
-    ensures exact { (parts : Seq PartOf) → plain_in s.old site.now args.now ≡ Some parts → IsMade s.new result virtuals.new (made_function (elements_in s.old site.now.left) site.now.context called.place called.function parts (virtuals_seen (frames_of s.old) virtuals.old)) }
+    ensures exact { (parts : Seq PartOf) → plain_in s.old site.now args.now ≡ Some parts → IsMade s.new result virtuals.new (made_function (elements_in s.old site.now.left) site.now.context called.place called.function parts (virtuals_at s.old virtuals.old)) }
 {
     if called.function == functions::SIZE {
         return size(reader, s, site, called.place, args, virtuals);
@@ -410,7 +410,7 @@ pub(crate) fn call<'t>(
     ensures grows { Grows s.old s.new }
     ensures kept { IsKept s.new reader.new }
     ensures there { AreThere s.new virtuals.new }
-    ensures exact { IsMade s.new result virtuals.new (made_call (table_in s.old) (scope_of s.old site.now) (elements_in s.old site.now.left) site.now.context place (as_callee (part_in s.old site.now) callee.now) (made_arguments (table_in s.old) (ask_of s.old site.now) (scope_of s.old site.now) args.now) (virtuals_seen (frames_of s.old) virtuals.old)) }
+    ensures exact { IsMade s.new result virtuals.new (made_call (table_in s.old) (scope_of s.old site.now) (elements_in s.old site.now.left) site.now.context place (as_callee (part_in s.old site.now) callee.now) (made_arguments (table_in s.old) (ask_of s.old site.now) (scope_of s.old site.now) args.now) (virtuals_at s.old virtuals.old)) }
 {
     match callee {
         Callee::Named(reference) => {

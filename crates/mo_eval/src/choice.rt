@@ -2,7 +2,7 @@
 ghost use Rattle.std.specs.Prelude.{◌≡◌, ◌++◌, map, Ok, IfOk, OnOk, List as Seq};
 ghost use Rattle.std.specs.Option.{option_map};
 ghost use Rattle.mo_flat.specs.declared.array.ArrayExpr.{ArrayExpr};
-ghost use Rattle.mo_scope.specs.Worlds.{World, Grows, IsFrame, frames_of};
+ghost use Rattle.mo_scope.specs.Worlds.{World, Grows, IsFrame};
 ghost use Rattle.mo_syntax.specs.Outcome.{Outcome, and_then};
 ghost use Rattle.mo_typing.specs.Outcome.{Gives};
 ghost use Rattle.mo_eval.specs.Keeping.{IsKept};
@@ -10,7 +10,7 @@ ghost use Rattle.mo_eval.specs.declared.choice.BranchMade.TheVariants.{Kept, Las
 ghost use Rattle.mo_eval.specs.declared.virtuals.Virtual.{Virtual as VirtualAt};
 ghost use Rattle.mo_eval.specs.Virtuals.{Virtual as VirtualSeen};
 ghost use Rattle.mo_eval.specs.Resolving.{made_range, read_step, made_choice};
-ghost use Rattle.mo_eval.specs.Seen.{AreThere, virtuals_seen};
+ghost use Rattle.mo_eval.specs.Seen.{AreThere, virtuals_at};
 ghost use Rattle.mo_eval.specs.steps.Sites.{part_in, elements_in, IsMade};
 ghost use Rattle.mo_eval.specs.steps.Parts.{as_branch};
 ghost use Rattle.mo_eval.specs.steps.Choosing.{kept_in, last_in, made_branch, truth_in};
@@ -121,7 +121,7 @@ fn made_branch<'t>(
     ensures grows { Grows s.old s.new }
     ensures kept { IsKept s.new reader.new }
     ensures there { AreThere s.new virtuals.new }
-    ensures exact { IsMade s.new result virtuals.new (made_branch (elements_in s.old site.now.left) site.now.context (as_branch (part_in s.old site.now) branch.now) (virtuals_seen (frames_of s.old) virtuals.old)) }
+    ensures exact { IsMade s.new result virtuals.new (made_branch (elements_in s.old site.now.left) site.now.context (as_branch (part_in s.old site.now) branch.now) (virtuals_at s.old virtuals.old)) }
 {
     let known = read_condition(reader, s, site, &branch.condition)?;
     match truth_in(known) {
@@ -165,7 +165,7 @@ pub(crate) fn choice<'t>(
     ensures grows { Grows s.old s.new }
     ensures kept { IsKept s.new reader.new }
     ensures there { AreThere s.new virtuals.new }
-    ensures exact { IsMade s.new result virtuals.new (made_choice (elements_in s.old site.now.left) site.now.context (map (as_branch (part_in s.old site.now)) branches.now) (part_in s.old site.now other.now) (virtuals_seen (frames_of s.old) virtuals.old)) }
+    ensures exact { IsMade s.new result virtuals.new (made_choice (elements_in s.old site.now.left) site.now.context (map (as_branch (part_in s.old site.now)) branches.now) (part_in s.old site.now other.now) (virtuals_at s.old virtuals.old)) }
 {
     let mut made = List::new(reader.alloc);
     for one in branches {

@@ -2,14 +2,14 @@
 //! 3.5, sections 4.4.2, 4.4.4, 4.8, 7.2.5 and 10.1).
 ghost use Rattle.std.specs.Prelude.{◌≡◌, [], IfOk, Ok, Some};
 ghost use Rattle.mo_scope.specs.Outcome.{Gives as GivesSeen};
-ghost use Rattle.mo_scope.specs.Sights.{picked_in};
+ghost use Rattle.mo_scope.specs.Sights.{picked_in, member_at};
 ghost use Rattle.mo_scope.specs.Worlds.{Grows, IsFrame, frames_of, table_in, scope_in};
-ghost use Rattle.mo_names.specs.Sights.{IsMember, member_of};
+ghost use Rattle.mo_names.specs.Sights.{IsMember};
 ghost use Rattle.mo_typing.specs.Outcome.{Gives};
 ghost use Rattle.mo_eval.specs.Keeping.{AreLayers, IsBinding, IsKept, bound_seen};
 ghost use Rattle.mo_eval.specs.Components.{binding_of, condition_in, value_in};
 ghost use Rattle.mo_eval.specs.Values.{reading, resolved_for_value, there_of, value_of_element};
-ghost use Rattle.mo_eval.specs.Seen.{AreThere, element_seen};
+ghost use Rattle.mo_eval.specs.Seen.{AreThere, element_at};
 ghost use Rattle.mo_eval.specs.steps.Sites.{elements_in};
 ghost use Rattle.mo_eval.specs.steps.Asking.{bound_in, unbound};
 
@@ -75,7 +75,7 @@ pub(crate) fn is_there<'t>(
     requires kept { IsKept s.old reader.old }
     ensures grows { Grows s.old s.new }
     ensures kept { IsKept s.new reader.new }
-    ensures exact { Gives result (there_of (table_in s.old) left (member_of (frames_of s.old) member.now)) }
+    ensures exact { Gives result (there_of (table_in s.old) left (member_at s.old member.now)) }
 {
     match member.declares.sort {
         Sort::Class { .. } => Ok(true),
@@ -128,7 +128,7 @@ fn resolved_binding<'t>(
 ) -> Result<Bound<'t>, Stop>
     requires frame { IsFrame s.old picked.now.scope.now.frame.0 }
     requires member { IsMember s.old element.now.member }
-    requires picked { binding_of (table_in s.old) (member_of (frames_of s.old) element.now.member) element.now.index ≡ Ok (Some (picked_in (frames_of s.old) picked.now)) }
+    requires picked { binding_of (table_in s.old) (member_at s.old element.now.member) element.now.index ≡ Ok (Some (picked_in (frames_of s.old) picked.now)) }
     requires kept { IsKept s.old reader.old }
     ensures grows { Grows s.old s.new }
     ensures kept { IsKept s.new reader.new }
@@ -162,7 +162,7 @@ fn value_in<'t>(
 ) -> Result<Option<Scalar>, Stop>
     requires frame { IsFrame s.old picked.now.scope.now.frame.0 }
     requires member { IsMember s.old element.now.member }
-    requires picked { binding_of (table_in s.old) (member_of (frames_of s.old) element.now.member) element.now.index ≡ Ok (Some (picked_in (frames_of s.old) picked.now)) }
+    requires picked { binding_of (table_in s.old) (member_at s.old element.now.member) element.now.index ≡ Ok (Some (picked_in (frames_of s.old) picked.now)) }
     requires kept { IsKept s.old reader.old }
     ensures grows { Grows s.old s.new }
     ensures kept { IsKept s.new reader.new }
@@ -180,7 +180,7 @@ fn value_in<'t>(
 /// What an element without a binding has.
 fn unbound<'t>(s: &Scopes<'t>, element: &Element<'t>) -> Result<Option<Scalar>, Broken>
     requires member { IsMember s.now element.now.member }
-    ensures { result ≡ unbound (element_seen (frames_of s.now) element.now) }
+    ensures { result ≡ unbound (element_at s.now element.now) }
 {
     if is_replaced(s, element) {
         Err(broken(rules::NO_VALUE, element.place))
@@ -202,7 +202,7 @@ pub(crate) fn element_value<'t>(
     requires kept { IsKept s.old reader.old }
     ensures grows { Grows s.old s.new }
     ensures kept { IsKept s.new reader.new }
-    ensures exact { Gives result (value_of_element (table_in s.old) left (element_seen (frames_of s.old) element.now)) }
+    ensures exact { Gives result (value_of_element (table_in s.old) left (element_at s.old element.now)) }
 {
     let child = child_of_member(reader.alloc, s, &element.member, element.index.as_slice())?;
     match pick_here(child.sources.as_slice()) {

@@ -3,9 +3,9 @@ ghost use Rattle.std.specs.Prelude.{◌≡◌, ◌++◌, ℤ, [], List as Seq, O
 ghost use Rattle.mo_syntax.specs.Outcome.{Outcome, and_then};
 ghost use Rattle.mo_syntax.specs.declared.expr.Expr.{Expr as Tree};
 ghost use Rattle.mo_scope.specs.Frames.{Scope};
-ghost use Rattle.mo_scope.specs.Sights.{picked_in};
-ghost use Rattle.mo_scope.specs.Worlds.{Grows, IsFrame, frames_of, table_in, scope_in};
-ghost use Rattle.mo_names.specs.Sights.{IsMember, member_of};
+ghost use Rattle.mo_scope.specs.Sights.{picked_in, scope_at, member_at};
+ghost use Rattle.mo_scope.specs.Worlds.{Grows, IsFrame, frames_of, table_in};
+ghost use Rattle.mo_names.specs.Sights.{IsMember};
 ghost use Rattle.mo_typing.specs.Dims.{size};
 ghost use Rattle.mo_typing.specs.Outcome.{Gives};
 ghost use Rattle.mo_eval.specs.Keeping.{IsKept};
@@ -60,7 +60,7 @@ fn written_dim<'t>(
     requires kept { IsKept s.old reader.old }
     ensures grows { Grows s.old s.new }
     ensures kept { IsKept s.new reader.new }
-    ensures exact { Gives result (written_dim (table_in s.old) (reading (table_in s.old) left) (scope_in (frames_of s.old) scope.now.frame.0 scope.now.iters) e.now) }
+    ensures exact { Gives result (written_dim (table_in s.old) (reading (table_in s.old) left) (scope_at s.old scope.now) e.now) }
 {
     let site = Site {
         at: scope,
@@ -193,7 +193,7 @@ fn dim_at<'t>(
     requires kept { IsKept s.old reader.old }
     ensures grows { Grows s.old s.new }
     ensures kept { IsKept s.new reader.new }
-    ensures exact { Gives result (dim_at (table_in s.old) (reading (table_in s.old) of.now.left) (bound_in s.old of.now) (scope_in (frames_of s.old) scope.now.frame.0 scope.now.iters) place sub.now) }
+    ensures exact { Gives result (dim_at (table_in s.old) (reading (table_in s.old) of.now.left) (bound_in s.old of.now) (scope_at s.old scope.now) place sub.now) }
 {
     match sub {
         Some(e) => written_dim(reader, s, of.left, scope, e),
@@ -221,7 +221,7 @@ fn put_dims<'t>(
     requires kept { IsKept s.old reader.old }
     ensures grows { Grows s.old s.new }
     ensures kept { IsKept s.new reader.new }
-    ensures exact { (others : Seq (Scope × Optional Tree)) → GoesOn result (dims_more (table_in s.old) (reading (table_in s.old) of.now.left) (bound_in s.old of.now) made.old (scoped (scope_in (frames_of s.old) sizes.now.scope.frame.0 sizes.now.scope.iters) sizes.now.subscripts.now ++ others)) (λ _. dims_more (table_in s.old) (reading (table_in s.old) of.now.left) (bound_in s.old of.now) made.new others) }
+    ensures exact { (others : Seq (Scope × Optional Tree)) → GoesOn result (dims_more (table_in s.old) (reading (table_in s.old) of.now.left) (bound_in s.old of.now) made.old (scoped (scope_at s.old sizes.now.scope) sizes.now.subscripts.now ++ others)) (λ _. dims_more (table_in s.old) (reading (table_in s.old) of.now.left) (bound_in s.old of.now) made.new others) }
 {
     for sub in sizes.subscripts {
         let n = dim_at(reader, s, of, &sizes.scope, made.len(), sub)?;
@@ -264,7 +264,7 @@ pub(crate) fn dims<'t>(
     requires kept { IsKept s.old reader.old }
     ensures grows { Grows s.old s.new }
     ensures kept { IsKept s.new reader.new }
-    ensures exact { Gives result (component_dims (table_in s.old) left (member_of (frames_of s.old) member.now)) }
+    ensures exact { Gives result (component_dims (table_in s.old) left (member_at s.old member.now)) }
 {
     if let Some(known) = dims_kept(reader, left, member)? {
         return Ok(known);

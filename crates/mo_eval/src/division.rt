@@ -6,7 +6,7 @@ ghost use Rattle.mo_eval.specs.Keeping.{IsKept};
 ghost use Rattle.mo_eval.specs.Virtuals.{Division};
 ghost use Rattle.mo_eval.specs.Contexts.{Part as PartOf};
 ghost use Rattle.mo_eval.specs.Calls.{known_of_operands, value_of_division, division_variable, made_division};
-ghost use Rattle.mo_eval.specs.Seen.{AreThere, virtuals_seen};
+ghost use Rattle.mo_eval.specs.Seen.{AreThere, virtuals_seen, virtuals_at};
 ghost use Rattle.mo_eval.specs.steps.Dividing.{variable_of};
 ghost use Rattle.mo_eval.specs.steps.Sites.{plain_in, elements_in, IsMade};
 
@@ -45,7 +45,7 @@ fn value_of<'t>(
     requires kept { IsKept s.old reader.old }
     ensures grows { Grows s.old s.new }
     ensures kept { IsKept s.new reader.new }
-    ensures exact { Gives result (known_of_operands (elements_in s.old left) called.place called.function operands.now (virtuals_seen (frames_of s.old) virtuals.now)) }
+    ensures exact { Gives result (known_of_operands (elements_in s.old left) called.place called.function operands.now (virtuals_at s.old virtuals.now)) }
 {
     let Some((a, b)) = two_operands(operands) else {
         return Err(Stop::Broken(broken(rules::WRONG_TYPE, called.place)));
@@ -162,7 +162,7 @@ pub(crate) fn division<'t>(
     ensures grows { Grows s.old s.new }
     ensures kept { IsKept s.new reader.new }
     ensures there { AreThere s.new virtuals.new }
-    ensures exact { (parts : Seq PartOf) → plain_in s.old site.now args.now ≡ Some parts → IsMade s.new result virtuals.new (made_division (elements_in s.old site.now.left) site.now.context called.place called.function parts (virtuals_seen (frames_of s.old) virtuals.old)) }
+    ensures exact { (parts : Seq PartOf) → plain_in s.old site.now args.now ≡ Some parts → IsMade s.new result virtuals.new (made_division (elements_in s.old site.now.left) site.now.context called.place called.function parts (virtuals_at s.old virtuals.old)) }
 {
     if site.context.flat {
         return in_flat(reader, s, site, called, args);

@@ -5,7 +5,7 @@ ghost use Rattle.std.specs.Prelude.{◌≡◌, ◌<◌, Ok, Some, IfOk, length, 
 ghost use Rattle.mo_scope.specs.Frames.{Frame};
 ghost use Rattle.mo_scope.specs.Outcome.{Gives as GivesSeen};
 ghost use Rattle.mo_scope.specs.Worlds.{World, Grows, IsFrame, frames_of, table_in};
-ghost use Rattle.mo_eval.specs.Ends.{Selected as SelectedFrom, IsEnded, ended_by, ended_in, ended_of, ended_seen, first_identifier, unless_removed};
+ghost use Rattle.mo_eval.specs.Ends.{Selected as SelectedFrom, IsEnded, ended_by, ended_in, ended_of, ended_seen, first_identifier, unless_removed, ended_at};
 ghost use Rattle.mo_eval.specs.Keeping.{IsKept};
 ghost use Rattle.mo_eval.specs.References.{Components};
 ghost use Rattle.mo_eval.specs.steps.Sites.{part_in, scope_of};
@@ -116,7 +116,7 @@ fn with_components<'t>(
     ensures grows { Grows s.old s.new }
     ensures kept { IsKept s.new reader.new }
     ensures there { IfOk result (IsEnded s.new) }
-    ensures exact { GivesSeen (ended_seen (frames_of s.new)) result (ended_in (table_in s.old) place (Components (names_seen (part_in s.old site.now) (frames_of s.old) names.now))) }
+    ensures exact { GivesSeen (ended_at s.new) result (ended_in (table_in s.old) place (Components (names_seen (part_in s.old site.now) (frames_of s.old) names.now))) }
 {
     if names.is_empty() {
         return Ok(Ended::Other);
@@ -137,7 +137,7 @@ pub(crate) fn end_named<'t>(
     ensures grows { Grows s.old s.new }
     ensures kept { IsKept s.new reader.new }
     ensures there { IfOk result (IsEnded s.new) }
-    ensures exact { GivesSeen (ended_seen (frames_of s.new)) result (ended_of (table_in s.old) (scope_of s.old site.now) reference.now) }
+    ensures exact { GivesSeen (ended_at s.new) result (ended_of (table_in s.old) (scope_of s.old site.now) reference.now) }
 {
     let place = place_of(reference);
     let names = named(reader.alloc, s, site, reference)?;

@@ -1,16 +1,17 @@
 //! What the names of references find (Modelica Language Specification 3.5, sections 4.4.5 and 5.3).
 #![tactic(auto, using(mo_names::proofs::Later::later))]
 
-ghost use Rattle.std.specs.Prelude.{◌≡◌, ◌∷◌, IfOk, OnOk, List as Seq, map};
+ghost use Rattle.std.specs.Prelude.{◌≡◌, ◌∷◌, [], IfOk, OnOk, List as Seq, Ok, map};
 ghost use Rattle.mo_syntax.specs.declared.expr.PartOf.{PartOf as PartTree};
 ghost use Rattle.mo_syntax.specs.declared.expr.Expr.{Expr as Tree};
+ghost use Rattle.mo_scope.specs.Sights.{member_at};
 ghost use Rattle.mo_scope.specs.Frames.{Frame};
 ghost use Rattle.mo_scope.specs.Outcome.{Gives as GivesSeen};
 ghost use Rattle.mo_scope.specs.Worlds.{World, Grows, IsFrame, frames_of, table_in};
-ghost use Rattle.mo_names.specs.Sights.{IsFound, IsMember, found_in, member_of};
+ghost use Rattle.mo_names.specs.Sights.{IsFound, IsMember, found_in, found_at};
 ghost use Rattle.mo_typing.specs.Outcome.{Gives};
 ghost use Rattle.mo_eval.specs.Contexts.{Part as PartOf};
-ghost use Rattle.mo_eval.specs.References.{Named as NamedTree, counted_subscripts, named, named_before, named_last};
+ghost use Rattle.mo_eval.specs.References.{Named as NamedTree, counted_subscripts, named, named_before, named_from, named_last};
 ghost use Rattle.mo_eval.specs.steps.Sites.{part_in, scope_of};
 ghost use Rattle.mo_eval.specs.steps.Parts.{as_identifier, as_reference};
 ghost use Rattle.mo_eval.specs.steps.Measuring.{GoesOn};
@@ -55,7 +56,7 @@ fn counted_in<'t>(
 ) -> Result<(), Stop>
     requires member { IsMember s.old member.now }
     ensures grows { Grows s.old s.new }
-    ensures exact { Gives result (counted_in (table_in s.old) (member_of (frames_of s.old) member.now) part.now) }
+    ensures exact { Gives result (counted_in (table_in s.old) (member_at s.old member.now) part.now) }
 {
     let n = count_of_dims(alloc, s, member)?;
     if n == part.subs.len() {
@@ -69,7 +70,7 @@ fn counted_in<'t>(
 fn counted<'t>(alloc: Global, s: &mut Scopes<'t>, at: &Latest<'_, 't>) -> Result<(), Stop>
     requires found { IsFound s.old at.now.found }
     ensures grows { Grows s.old s.new }
-    ensures exact { (f : Tree → PartOf) → Gives result (counted_subscripts (table_in s.old) (found_in (frames_of s.old) at.now.found) (as_identifier f at.now.part.now)) }
+    ensures exact { (f : Tree → PartOf) → Gives result (counted_subscripts (table_in s.old) (found_at s.old at.now.found) (as_identifier f at.now.part.now)) }
 {
     let part = at.part;
     if part.subs.is_empty() {
@@ -120,21 +121,23 @@ fn step<'a, 't>(
     ensures found { IfOk result (λ at. IsFound s.new at.found) }
     ensures names { OnOk result (AreNames s.new names.new) }
     ensures part { IfOk result (λ at. at.part.now ≡ next.now) }
-    ensures exact { (f : Tree → PartOf) (others : Seq (PartTree PartOf)) → GoesOn result (named_on (table_in s.old) (names_seen f (frames_of s.old) names.old) (found_in (frames_of s.old) at.now.found) (as_identifier f at.now.part.now) (as_identifier f next.now ∷ others)) (λ at. named_on (table_in s.old) (names_seen f (frames_of s.new) names.new) (found_in (frames_of s.new) at.found) (as_identifier f at.part.now) others) }
+    ensures exact { (f : Tree → PartOf) (others : Seq (PartTree PartOf)) → GoesOn result (named_on (table_in s.old) (names_seen f (frames_of s.old) names.old) (found_at s.old at.now.found) (as_identifier f at.now.part.now) (as_identifier f next.now ∷ others)) (λ at. named_on (table_in s.old) (names_seen f (frames_of s.new) names.new) (found_at s.new at.found) (as_identifier f at.part.now) others) }
 {
     counted(alloc, s, at)?;
     put(names, at)?;
-    let found = find_behind(alloc, s, &at.found, &next.name, next.place)?;
-    Ok(Latest { found, part: next })
+    match find_behind(alloc, s, &at.found, &next.name, next.place) {
+        Ok(found) => Ok(Latest { found, part: next }),
+        Err(stop) => Err(stop),
+    }
 }
 
 /// What a reference names by its last identifier and the components before.
 fn last_named<'a, 't>(
     names: List<Name<'a, 't>>,
     at: &Latest<'a, 't>,
-) -> Result<Referred<'a, 't>, NoMemory>
+) -> Result<Referred<'a, 't>, Stop>
     ensures there { (world : World) → IsFound world at.now.found → AreNames world names.entry → IfOk result (IsReferred world) }
-    ensures exact { IfOk result (λ named. (f : Tree → PartOf) (frames : Seq Frame) → referred_seen f frames named ≡ named_behind (names_seen f frames names.entry) (named_last (found_in frames at.now.found) (as_identifier f at.now.part.now))) }
+    ensures exact { (f : Tree → PartOf) (frames : Seq Frame) → GivesSeen (referred_seen f frames) result (Ok (named_behind (names_seen f frames names.entry) (named_last (found_in frames at.now.found) (as_identifier f at.now.part.now)))) }
 {
     let mut names = names;
     let part = at.part;
@@ -151,6 +154,48 @@ fn last_named<'a, 't>(
     }
 }
 
+/// What a reference names by its last identifier, which is counted first, and the components before.
+fn last_counted<'a, 't>(
+    alloc: Global,
+    s: &mut Scopes<'t>,
+    names: List<Name<'a, 't>>,
+    at: &Latest<'a, 't>,
+) -> Result<Referred<'a, 't>, Stop>
+    requires found { IsFound s.old at.now.found }
+    requires names { AreNames s.old names }
+    ensures grows { Grows s.old s.new }
+    ensures there { IfOk result (IsReferred s.new) }
+    ensures exact { (f : Tree → PartOf) → GivesSeen (referred_seen f (frames_of s.new)) result (named_on (table_in s.old) (names_seen f (frames_of s.old) names.entry) (found_at s.old at.now.found) (as_identifier f at.now.part.now) []) }
+{
+    match counted(alloc, s, at) {
+        Ok(()) => last_named(names, at),
+        Err(stop) => Err(stop),
+    }
+}
+
+/// What identifiers find behind what the first one found.
+fn parts_behind<'a, 't>(
+    alloc: Global,
+    s: &mut Scopes<'t>,
+    first: &Latest<'a, 't>,
+    others: &'a [Part],
+) -> Result<Referred<'a, 't>, Stop>
+    requires found { IsFound s.old first.now.found }
+    ensures grows { Grows s.old s.new }
+    ensures there { IfOk result (IsReferred s.new) }
+    ensures exact { (f : Tree → PartOf) → GivesSeen (referred_seen f (frames_of s.new)) result (named_from (table_in s.old) (found_at s.old first.now.found) (as_identifier f first.now.part.now) (map (as_identifier f) others.now)) }
+{
+    let mut names = List::new(alloc);
+    let mut at = *first;
+    for next in others {
+        match step(alloc, s, &mut names, &at, next) {
+            Ok(latest) => at = latest,
+            Err(stop) => return Err(stop),
+        }
+    }
+    last_counted(alloc, s, names, &at)
+}
+
 /// What identifiers find, each behind those before.
 fn named_parts<'a, 't>(
     alloc: Global,
@@ -165,14 +210,10 @@ fn named_parts<'a, 't>(
     ensures there { IfOk result (IsReferred s.new) }
     ensures exact { GivesSeen (referred_seen (part_in s.old site.now) (frames_of s.new)) result (named (table_in s.old) (scope_of s.old site.now) (record { top = top; parts = as_identifier (part_in s.old site.now) part.now ∷ map (as_identifier (part_in s.old site.now)) others.now })) }
 {
-    let found = find_first(alloc, s, site.at, top, &part.name, part.place)?;
-    let mut names = List::new(alloc);
-    let mut at = Latest { found, part };
-    for next in others {
-        at = step(alloc, s, &mut names, &at, next)?;
+    match find_first(alloc, s, site.at, top, &part.name, part.place) {
+        Ok(found) => parts_behind(alloc, s, &Latest { found, part }, others),
+        Err(stop) => Err(stop),
     }
-    counted(alloc, s, &at)?;
-    Ok(last_named(names, &at)?)
 }
 
 /// What the identifiers of a reference find, each behind those before. Where one has subscripts, it is a component with as many

@@ -1,12 +1,14 @@
 //! The values and the sizes of expressions, and what of components they are read from.
 ghost use Rattle.std.specs.Prelude.{◌≡◌, IfOk};
 ghost use Rattle.mo_scope.specs.Outcome.{Gives as GivesSeen};
-ghost use Rattle.mo_scope.specs.Worlds.{World, Grows, IsFrame, frames_of, table_in, scope_in};
-ghost use Rattle.mo_names.specs.Sights.{IsMember, member_of};
+ghost use Rattle.mo_scope.specs.Sights.{member_at};
+ghost use Rattle.mo_scope.specs.Worlds.{World, Grows, IsFrame, table_in};
+ghost use Rattle.mo_names.specs.Sights.{IsMember};
 ghost use Rattle.mo_typing.specs.Outcome.{Gives};
-ghost use Rattle.mo_eval.specs.Ends.{IsEnded, ended_of, ended_seen};
-ghost use Rattle.mo_eval.specs.Seen.{AreThere, element_seen, resolved_seen, sides_seen};
-ghost use Rattle.mo_eval.specs.Values.{most_references, value_of, value_of_element, sizes_of, sides_of, resolved, resolved_for_value, known_of, there_of, component_dims};
+ghost use Rattle.mo_eval.specs.Ends.{IsEnded, ended_at};
+ghost use Rattle.mo_eval.specs.InScope.{ended_in_scope, resolved_for_value_in_scope, resolved_in_scope, sides_in_scope, sizes_in_scope, value_in_scope};
+ghost use Rattle.mo_eval.specs.Seen.{AreThere, element_at, resolved_at, sides_at};
+ghost use Rattle.mo_eval.specs.Values.{most_references, value_of_element, known_of, there_of, component_dims};
 ghost use Rattle.mo_eval.specs.Keeping.{IsKept};
 ghost use Rattle.mo_eval.specs.steps.Sites.{elements_in};
 ghost use Rattle.mo_eval.specs.steps.Asking.{value_in};
@@ -88,7 +90,7 @@ fn value_of<'t>(
     requires kept { IsKept s.old reader.old }
     ensures grows { Grows s.old s.new }
     ensures kept { IsKept s.new reader.new }
-    ensures exact { Gives result (value_in (elements_in s.old most_references) place index.now (resolved_seen (frames_of s.old) resolved.now)) }
+    ensures exact { Gives result (value_in (elements_in s.old most_references) place index.now (resolved_at s.old resolved.now)) }
 {
     fitting(reader.alloc, place, index, &resolved.expression)?;
     let kind = answer(kind_of(&resolved.expression))?;
@@ -164,7 +166,7 @@ impl<'t> Reader<'t> {
         requires kept { IsKept s.old self.old }
         ensures grows { Grows s.old s.new }
         ensures kept { IsKept s.new self.new }
-        ensures exact { Gives result (value_of (table_in s.old) most_references (scope_in (frames_of s.old) at.now.frame.0 at.now.iters) e.now index.now) }
+        ensures exact { Gives result (value_in_scope s.old at.now e.now index.now) }
     {
         let site = Site {
             at,
@@ -182,7 +184,7 @@ impl<'t> Reader<'t> {
         requires kept { IsKept s.old self.old }
         ensures grows { Grows s.old s.new }
         ensures kept { IsKept s.new self.new }
-        ensures exact { Gives result (sizes_of (table_in s.old) most_references (scope_in (frames_of s.old) at.now.frame.0 at.now.iters) e.now) }
+        ensures exact { Gives result (sizes_in_scope s.old at.now e.now) }
     {
         let site = Site {
             at,
@@ -208,7 +210,7 @@ impl<'t> Reader<'t> {
         ensures grows { Grows s.old s.new }
         ensures kept { IsKept s.new self.new }
         ensures there { IfOk result (λ resolved. AreThere s.new resolved.virtuals) }
-        ensures exact { GivesSeen (resolved_seen (frames_of s.new)) result (resolved (table_in s.old) left (scope_in (frames_of s.old) at.now.frame.0 at.now.iters) e.now) }
+        ensures exact { GivesSeen (resolved_at s.new) result (resolved_in_scope s.old left at.now e.now) }
     {
         let site = Site {
             at,
@@ -233,7 +235,7 @@ impl<'t> Reader<'t> {
         ensures grows { Grows s.old s.new }
         ensures kept { IsKept s.new self.new }
         ensures there { IfOk result (λ resolved. AreThere s.new resolved.virtuals) }
-        ensures exact { GivesSeen (resolved_seen (frames_of s.new)) result (resolved_for_value (table_in s.old) left (scope_in (frames_of s.old) at.now.frame.0 at.now.iters) e.now) }
+        ensures exact { GivesSeen (resolved_at s.new) result (resolved_for_value_in_scope s.old left at.now e.now) }
     {
         let site = Site {
             at,
@@ -258,7 +260,7 @@ impl<'t> Reader<'t> {
         ensures grows { Grows s.old s.new }
         ensures kept { IsKept s.new self.new }
         ensures there { IfOk result (λ sides. AreThere s.new sides.virtuals) }
-        ensures exact { GivesSeen (sides_seen (frames_of s.new)) result (sides_of (table_in s.old) (scope_in (frames_of s.old) at.now.frame.0 at.now.iters) left.now right.now) }
+        ensures exact { GivesSeen (sides_at s.new) result (sides_in_scope s.old at.now left.now right.now) }
     {
         let site = Site {
             at,
@@ -289,7 +291,7 @@ impl<'t> Reader<'t> {
         ensures grows { Grows s.old s.new }
         ensures kept { IsKept s.new self.new }
         ensures there { IfOk result (IsEnded s.new) }
-        ensures exact { GivesSeen (ended_seen (frames_of s.new)) result (ended_of (table_in s.old) (scope_in (frames_of s.old) at.now.frame.0 at.now.iters) reference.now) }
+        ensures exact { GivesSeen (ended_at s.new) result (ended_in_scope s.old at.now reference.now) }
     {
         let site = Site {
             at,
@@ -312,7 +314,7 @@ impl<'t> Reader<'t> {
         requires kept { IsKept s.old self.old }
         ensures grows { Grows s.old s.new }
         ensures kept { IsKept s.new self.new }
-        ensures exact { Gives result (value_of_element (table_in s.old) left (element_seen (frames_of s.old) element.now)) }
+        ensures exact { Gives result (value_of_element (table_in s.old) left (element_at s.old element.now)) }
     {
         components::element_value(self, s, left, element)
     }
@@ -330,7 +332,7 @@ impl<'t> Reader<'t> {
         requires kept { IsKept s.old self.old }
         ensures grows { Grows s.old s.new }
         ensures kept { IsKept s.new self.new }
-        ensures exact { Gives result (known_of (table_in s.old) left (resolved_seen (frames_of s.old) resolved.now) index.now) }
+        ensures exact { Gives result (known_of (table_in s.old) left (resolved_at s.old resolved.now) index.now) }
     {
         known_in(
             self,
@@ -349,7 +351,7 @@ impl<'t> Reader<'t> {
         requires kept { IsKept s.old self.old }
         ensures grows { Grows s.old s.new }
         ensures kept { IsKept s.new self.new }
-        ensures exact { Gives result (there_of (table_in s.old) most_references (member_of (frames_of s.old) member.now)) }
+        ensures exact { Gives result (there_of (table_in s.old) most_references (member_at s.old member.now)) }
     {
         components::is_there(self, s, MOST_REFERENCES, member)
     }
@@ -361,7 +363,7 @@ impl<'t> Reader<'t> {
         requires kept { IsKept s.old self.old }
         ensures grows { Grows s.old s.new }
         ensures kept { IsKept s.new self.new }
-        ensures exact { Gives result (component_dims (table_in s.old) most_references (member_of (frames_of s.old) member.now)) }
+        ensures exact { Gives result (component_dims (table_in s.old) most_references (member_at s.old member.now)) }
     {
         dimensions::dims(self, s, MOST_REFERENCES, member)
     }

@@ -1,13 +1,12 @@
 //! How the variables of a resolved expression are read one after another, only where they are needed.
-ghost use Rattle.std.specs.Prelude.{◌≡◌, ◌-◌, [], ℕ, List, MatchOption, IfOk, Some, length, slice_get, set};
+ghost use Rattle.std.specs.Prelude.{◌≡◌, ◌-◌, [], ℕ, List, MatchOption, IfOk, Some, set};
 ghost use Rattle.mo_scope.specs.Frames.{Frame};
 ghost use Rattle.mo_syntax.specs.Outcome.{Outcome, and_then};
 ghost use Rattle.mo_values.specs.Scalars.{Known, division};
 ghost use Rattle.mo_eval.specs.Virtuals.{Element, numbered, known_of_virtual, known_of_virtuals};
-ghost use Rattle.mo_values.specs.Walk.{known_by};
 ghost use Rattle.mo_values.specs.Told.{Reads, AreRead, IsUnread, Tells};
 ghost use Rattle.mo_eval.specs.Seen.{virtual_seen, virtuals_seen};
-ghost use Rattle.mo_eval.specs.Sequence.{IsComponent, IsStep};
+ghost use Rattle.mo_eval.specs.Sequence.{AreUnread, IsComponent, IsNextStep, IsStep, ReadsOneMore};
 
 use crate::virtuals::Virtual;
 use mo_flat::ArrayExpr;
@@ -90,7 +89,7 @@ pub fn next<'t>(
     virtuals: &[Virtual<'t>],
     reads: &[Told],
 ) -> Result<Step, Stop>
-    ensures { (frames : List Frame) (read : Element → Outcome Known) → AreRead reads.now (numbered (known_of_virtuals read (virtuals_seen frames virtuals.now))) → IsStep read (virtuals_seen frames virtuals.now) reads.now result (known_by (numbered (known_of_virtuals read (virtuals_seen frames virtuals.now))) e.now index.now) }
+    ensures { IsNextStep virtuals.now reads.now result e.now index.now }
 {
     match known(alloc, e, index, reads) {
         Ok(known) => Ok(Step::Known(known)),
@@ -102,7 +101,7 @@ pub fn next<'t>(
 
 /// What is read of so many variables before any of them is. `NoMemory` is the only other answer.
 pub fn unread(alloc: Global, count: usize) -> Result<Vec<Told>, NoMemory>
-    ensures { IfOk result (λ reads. (known : List (Outcome Known)) → length known ≡ count → AreRead reads.items (numbered known)) }
+    ensures { IfOk result (λ reads. AreUnread reads.items count) }
 {
     let mut made = Vec::new(alloc);
     for _k in 0..count {
@@ -115,7 +114,7 @@ pub fn unread(alloc: Global, count: usize) -> Result<Vec<Told>, NoMemory>
 pub fn mark(reads: &mut Vec<Told>, n: u32, outcome: Result<Option<Scalar>, Broken>)
     requires { IsUnread reads.old.items n }
     ensures put { reads.new.items ≡ set reads.old.items (n - 1) (Some outcome) }
-    ensures read { (known : List (Outcome Known)) → AreRead reads.old.items (numbered known) → slice_get known (n - 1) ≡ Some outcome → AreRead reads.new.items (numbered known) }
+    ensures read { ReadsOneMore reads.old.items reads.new.items n outcome }
 {
     reads[n.saturating_sub(1) as usize] = Some(outcome);
 }

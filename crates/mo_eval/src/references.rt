@@ -6,9 +6,9 @@ ghost use Rattle.mo_scope.specs.Frames.{Frame};
 ghost use Rattle.mo_scope.specs.Outcome.{Gives as GivesSeen};
 ghost use Rattle.mo_scope.specs.Places.{Every};
 ghost use Rattle.mo_scope.specs.Rows.{is_constant, is_constant_prefix as constant_prefix};
-ghost use Rattle.mo_scope.specs.Sights.{declares_seen};
+ghost use Rattle.mo_scope.specs.Sights.{declares_seen, member_at};
 ghost use Rattle.mo_scope.specs.Worlds.{World, Grows, IsFrame, frames_of, table_in};
-ghost use Rattle.mo_names.specs.Sights.{IsFound, IsMember, found_in, member_of};
+ghost use Rattle.mo_names.specs.Sights.{IsFound, IsMember, found_at};
 ghost use Rattle.mo_typing.specs.Dims.{subscripted};
 ghost use Rattle.mo_typing.specs.Outcome.{Gives};
 ghost use Rattle.mo_typing.specs.Subscripts.{subscripts};
@@ -17,7 +17,7 @@ ghost use Rattle.mo_eval.specs.Contexts.{Part as PartOf};
 ghost use Rattle.mo_eval.specs.References.{Components, elements_selected, every, handed_in, is_inside, kept_dims, kind_accepted, kind_among, kind_of_class, leaf_kind};
 ghost use Rattle.mo_values.specs.Selected.{emptied};
 ghost use Rattle.mo_eval.specs.Resolving.{made_name, made_named, made_found};
-ghost use Rattle.mo_eval.specs.Seen.{AreThere, virtuals_seen};
+ghost use Rattle.mo_eval.specs.Seen.{AreThere, virtuals_seen, virtuals_at};
 ghost use Rattle.mo_eval.specs.steps.Sites.{IsMade, ask_of, part_in, scope_of};
 ghost use Rattle.mo_eval.specs.Virtuals.{numbers_behind};
 ghost use Rattle.mo_eval.specs.steps.Absence.{Removal, as_stopped};
@@ -129,7 +129,7 @@ pub(crate) fn elements_selected<'t>(
     ensures grows { Grows s.old s.new }
     ensures kept { IsKept s.new reader.new }
     ensures there { IfOk result (Every (λ element. IsMember s.new element.0)) }
-    ensures exact { (asking : Removal) → GivesSeen (elements_seen (frames_of s.new)) (as_stopped asking result) (elements_selected (table_in s.old) (reading_in asking s.old deeper) place (member_of (frames_of s.old) member.now) (selections_seen chosen.now)) }
+    ensures exact { (asking : Removal) → GivesSeen (elements_seen (frames_of s.new)) (as_stopped asking result) (elements_selected (table_in s.old) (reading_in asking s.old deeper) place (member_at s.old member.now) (selections_seen chosen.now)) }
 {
     let mut made = List::new(reader.alloc);
     if chosen.len() > MOST_PARTS {
@@ -163,7 +163,7 @@ fn leaf_kind<'t>(
 ) -> Result<Option<Kind>, Stop>
     requires member { IsMember s.old member.now }
     ensures grows { Grows s.old s.new }
-    ensures exact { Gives result (leaf_kind (table_in s.old) (member_of (frames_of s.old) member.now) index.now) }
+    ensures exact { Gives result (leaf_kind (table_in s.old) (member_at s.old member.now) index.now) }
 {
     let frame = enter_component(alloc, s, member, index)?;
     let walk = walk_of(alloc, s, frame)?;
@@ -183,7 +183,7 @@ fn kind_among<'t>(
     requires member { IsMember s.old member.now }
     requires there { Every (λ element. IsMember s.old element.0) elements.now }
     ensures grows { Grows s.old s.new }
-    ensures exact { Gives result (kind_among (table_in s.old) (member_of (frames_of s.old) member.now) (elements_seen (frames_of s.old) elements.now)) }
+    ensures exact { Gives result (kind_among (table_in s.old) (member_at s.old member.now) (elements_seen (frames_of s.old) elements.now)) }
 {
     match elements {
         [] => leaf_kind(alloc, s, member, &[]),
@@ -297,7 +297,7 @@ fn kind_of_elements<'t>(
     requires member { IsMember s.old member.now }
     requires there { Every (λ element. IsMember s.old element.0) elements.now }
     ensures grows { Grows s.old s.new }
-    ensures exact { Gives result (kind_of_elements (table_in s.old) context place (member_of (frames_of s.old) member.now) (elements_seen (frames_of s.old) elements.now)) }
+    ensures exact { Gives result (kind_of_elements (table_in s.old) context place (member_at s.old member.now) (elements_seen (frames_of s.old) elements.now)) }
 {
     let kind = kind_among(alloc, s, member, elements)?;
     answer(kind_accepted(context, place, kind))
@@ -321,7 +321,7 @@ fn components<'t>(
     ensures grows { Grows s.old s.new }
     ensures kept { IsKept s.new reader.new }
     ensures there { AreThere s.new virtuals.new }
-    ensures exact { IsMade s.new result virtuals.new (made_named (table_in s.old) (ask_of s.old site.now) site.now.context place (Components (names_seen (part_in s.old site.now) (frames_of s.old) names.now)) (virtuals_seen (frames_of s.old) virtuals.old)) }
+    ensures exact { IsMade s.new result virtuals.new (made_named (table_in s.old) (ask_of s.old site.now) site.now.context place (Components (names_seen (part_in s.old site.now) (frames_of s.old) names.now)) (virtuals_at s.old virtuals.old)) }
 {
     if names.is_empty() {
         return Err(Stop::Broken(broken(rules::NAME_NOT_FOUND, place)));
@@ -367,7 +367,7 @@ fn components<'t>(
 /// What a name stands for that is no component; a class or a function breaks rule 13 at its identifier.
 fn other(alloc: Global, s: &Scopes, place: Place, found: &Found) -> Result<ArrayNode, Stop>
     requires found { IsFound s.now found.now }
-    ensures { Gives result (made_found (table_in s.now) place (found_in (frames_of s.now) found.now)) }
+    ensures { Gives result (made_found (table_in s.now) place (found_at s.now found.now)) }
 {
     match found {
         Found::Literal(class, n) => {
@@ -398,7 +398,7 @@ pub(crate) fn name<'t>(
     ensures grows { Grows s.old s.new }
     ensures kept { IsKept s.new reader.new }
     ensures there { AreThere s.new virtuals.new }
-    ensures exact { IsMade s.new result virtuals.new (made_name (table_in s.old) (ask_of s.old site.now) (scope_of s.old site.now) site.now.context place (as_reference (part_in s.old site.now) reference.now) (virtuals_seen (frames_of s.old) virtuals.old)) }
+    ensures exact { IsMade s.new result virtuals.new (made_name (table_in s.old) (ask_of s.old site.now) (scope_of s.old site.now) site.now.context place (as_reference (part_in s.old site.now) reference.now) (virtuals_at s.old virtuals.old)) }
 {
     match named(reader.alloc, s, site, reference)? {
         Referred::Components(names) => {

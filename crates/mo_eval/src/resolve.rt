@@ -3,7 +3,7 @@ ghost use Rattle.std.specs.Prelude.{◌≡◌, map, Bool, Ok, List as Seq};
 ghost use Rattle.mo_flat.specs.declared.array.ArrayExpr.{ArrayExpr, roll-ArrayExpr};
 ghost use Rattle.mo_flat.specs.declared.array.ArrayNode.{ArrayNode};
 ghost use Rattle.mo_flat.specs.declared.array.ArrayNode.TheVariants.{Decimal, Str, Not, All, Any, Array, Relation, Product};
-ghost use Rattle.mo_scope.specs.Worlds.{World, Grows, IsFrame, frames_of, table_in};
+ghost use Rattle.mo_scope.specs.Worlds.{World, Grows, IsFrame, table_in};
 ghost use Rattle.mo_syntax.specs.Outcome.{Outcome, and_then};
 ghost use Rattle.mo_typing.specs.Outcome.{Gives};
 ghost use Rattle.mo_eval.specs.Keeping.{IsKept};
@@ -11,7 +11,7 @@ ghost use Rattle.mo_eval.specs.declared.virtuals.Virtual.{Virtual as VirtualAt};
 ghost use Rattle.mo_eval.specs.Virtuals.{Virtual as VirtualSeen, make_each};
 ghost use Rattle.mo_values.specs.Made.{Choice, chosen, power_of, sum_of};
 ghost use Rattle.mo_eval.specs.Resolving.{make_part, make_parts};
-ghost use Rattle.mo_eval.specs.Seen.{AreThere, virtuals_seen};
+ghost use Rattle.mo_eval.specs.Seen.{AreThere, virtuals_at};
 ghost use Rattle.mo_eval.specs.steps.Sites.{scope_of, ask_of, part_in, IsMade};
 ghost use Rattle.mo_eval.specs.steps.Parts.{made_below, made_two, as_term, as_factor, made_term, made_factor};
 
@@ -151,7 +151,7 @@ pub(crate) fn resolve<'t>(
     ensures grows { Grows s.old s.new }
     ensures kept { IsKept s.new reader.new }
     ensures there { AreThere s.new virtuals.new }
-    ensures exact { IsMade s.new result virtuals.new ((part_in s.old site.now e.now).1 site.now.context (virtuals_seen (frames_of s.old) virtuals.old)) }
+    ensures exact { IsMade s.new result virtuals.new ((part_in s.old site.now e.now).1 site.now.context (virtuals_at s.old virtuals.old)) }
 {
     if site.room == 0 {
         return Err(Stop::NoMemory);
@@ -183,7 +183,7 @@ pub(crate) fn operand<'t>(
     ensures grows { Grows s.old s.new }
     ensures kept { IsKept s.new reader.new }
     ensures there { AreThere s.new virtuals.new }
-    ensures exact { IsMade s.new result virtuals.new (make_part site.now.context (part_in s.old site.now e.now) (virtuals_seen (frames_of s.old) virtuals.old)) }
+    ensures exact { IsMade s.new result virtuals.new (make_part site.now.context (part_in s.old site.now e.now) (virtuals_at s.old virtuals.old)) }
 {
     let inner = Site {
         at: site.at,
@@ -210,7 +210,7 @@ pub(crate) fn two<'t>(
     ensures grows { Grows s.old s.new }
     ensures kept { IsKept s.new reader.new }
     ensures there { AreThere s.new virtuals.new }
-    ensures exact { IsMade s.new result virtuals.new (made_two site.now.context (part_in s.old site.now a.now) (part_in s.old site.now b.now) (virtuals_seen (frames_of s.old) virtuals.old)) }
+    ensures exact { IsMade s.new result virtuals.new (made_two site.now.context (part_in s.old site.now a.now) (part_in s.old site.now b.now) (virtuals_at s.old virtuals.old)) }
 {
     let first = operand(reader, s, site, a, virtuals)?;
     let second = operand(reader, s, site, b, virtuals)?;
@@ -232,7 +232,7 @@ fn operands<'t>(
     ensures grows { Grows s.old s.new }
     ensures kept { IsKept s.new reader.new }
     ensures there { AreThere s.new virtuals.new }
-    ensures exact { IsMade s.new result virtuals.new (make_parts site.now.context (map (part_in s.old site.now) parts.now) (virtuals_seen (frames_of s.old) virtuals.old)) }
+    ensures exact { IsMade s.new result virtuals.new (make_parts site.now.context (map (part_in s.old site.now) parts.now) (virtuals_at s.old virtuals.old)) }
 {
     let mut made = List::new(reader.alloc);
     for part in parts {
@@ -257,7 +257,7 @@ fn terms<'t>(
     ensures grows { Grows s.old s.new }
     ensures kept { IsKept s.new reader.new }
     ensures there { AreThere s.new virtuals.new }
-    ensures exact { IsMade s.new result virtuals.new (make_each (made_term site.now.context) (map (as_term (part_in s.old site.now)) terms.now) (virtuals_seen (frames_of s.old) virtuals.old)) }
+    ensures exact { IsMade s.new result virtuals.new (make_each (made_term site.now.context) (map (as_term (part_in s.old site.now)) terms.now) (virtuals_at s.old virtuals.old)) }
 {
     let mut made = List::new(reader.alloc);
     for term in terms {
@@ -282,7 +282,7 @@ fn factors<'t>(
     ensures grows { Grows s.old s.new }
     ensures kept { IsKept s.new reader.new }
     ensures there { AreThere s.new virtuals.new }
-    ensures exact { IsMade s.new result virtuals.new (make_each (made_factor site.now.context) (map (as_factor (part_in s.old site.now)) factors.now) (virtuals_seen (frames_of s.old) virtuals.old)) }
+    ensures exact { IsMade s.new result virtuals.new (make_each (made_factor site.now.context) (map (as_factor (part_in s.old site.now)) factors.now) (virtuals_at s.old virtuals.old)) }
 {
     let mut made = List::new(reader.alloc);
     for factor in factors {
@@ -308,7 +308,7 @@ fn resolve_node<'t>(
     ensures grows { Grows s.old s.new }
     ensures kept { IsKept s.new reader.new }
     ensures there { AreThere s.new virtuals.new }
-    ensures exact { IsMade s.new result virtuals.new (made_below (table_in s.old) (ask_of s.old site.now) (scope_of s.old site.now) node.now place site.now.context (virtuals_seen (frames_of s.old) virtuals.old)) }
+    ensures exact { IsMade s.new result virtuals.new (made_below (table_in s.old) (ask_of s.old site.now) (scope_of s.old site.now) node.now place site.now.context (virtuals_at s.old virtuals.old)) }
 {
     match node {
         Node::Whole(n) => at_place(reader.alloc, place, Ok(ArrayNode::Whole(*n))),

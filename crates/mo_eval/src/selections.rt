@@ -3,9 +3,10 @@
 
 ghost use Rattle.std.specs.Prelude.{◌≡◌, ◌<◌, Some, option_map, replicate, IfOk, IfSome};
 ghost use Rattle.mo_syntax.specs.declared.expr.Expr.{Expr as Tree};
+ghost use Rattle.mo_scope.specs.Sights.{member_at};
 ghost use Rattle.mo_scope.specs.Outcome.{Gives as GivesSeen};
 ghost use Rattle.mo_scope.specs.Worlds.{Grows, IsFrame, frame_at, frames_of, table_in};
-ghost use Rattle.mo_names.specs.Sights.{IsMember, member_of};
+ghost use Rattle.mo_names.specs.Sights.{IsMember};
 ghost use Rattle.mo_typing.specs.Outcome.{Gives};
 ghost use Rattle.mo_eval.specs.Keeping.{IsKept};
 ghost use Rattle.mo_eval.specs.Contexts.{Part as PartOf};
@@ -54,7 +55,7 @@ pub(crate) fn there<'t>(
     requires kept { IsKept s.old reader.old }
     ensures grows { Grows s.old s.new }
     ensures kept { IsKept s.new reader.new }
-    ensures exact { (asking : Removal) → Gives (as_stopped asking result) (there (reading_in asking s.old deeper) place (member_of (frames_of s.old) member.now)) }
+    ensures exact { (asking : Removal) → Gives (as_stopped asking result) (there (reading_in asking s.old deeper) place (member_at s.old member.now)) }
 {
     let there = is_there(reader, s, deeper, member)?;
     if !there {
@@ -76,7 +77,7 @@ pub(crate) fn dims_there<'t>(
     requires kept { IsKept s.old reader.old }
     ensures grows { Grows s.old s.new }
     ensures kept { IsKept s.new reader.new }
-    ensures exact { (asking : Removal) → Gives (as_stopped asking result) (dims_there (reading_in asking s.old deeper) place (member_of (frames_of s.old) member.now)) }
+    ensures exact { (asking : Removal) → Gives (as_stopped asking result) (dims_there (reading_in asking s.old deeper) place (member_at s.old member.now)) }
 {
     there(reader, s, deeper, place, member)?;
     Ok(dims(reader, s, deeper, member)?)
@@ -107,7 +108,7 @@ fn dims_at<'t>(
     requires kept { IsKept s.old reader.old }
     ensures grows { Grows s.old s.new }
     ensures kept { IsKept s.new reader.new }
-    ensures exact { (asking : Removal) (f : Tree → PartOf) → Gives (as_stopped asking result) (dims_at (table_in s.old) (reading_in asking s.old deeper) (option_map (member_of (frames_of s.old)) member.now) (name_seen f (frames_of s.old) name.now)) }
+    ensures exact { (asking : Removal) (f : Tree → PartOf) → Gives (as_stopped asking result) (dims_at (table_in s.old) (reading_in asking s.old deeper) (option_map (member_at s.old) member.now) (name_seen f (frames_of s.old) name.now)) }
 {
     match member {
         Some(member) => dims_there(reader, s, deeper, name.part.place, member),
@@ -135,7 +136,7 @@ fn selection_at<'a, 't>(
     requires kept { IsKept s.old reader.old }
     ensures grows { Grows s.old s.new }
     ensures kept { IsKept s.new reader.new }
-    ensures exact { (asking : Removal) → GivesSeen selection_seen (as_stopped asking result) (selection_at (table_in s.old) (reading_in asking s.old deeper) (elements_in s.old site.now.left) (option_map (member_of (frames_of s.old)) member.now) (name_seen (part_in s.old site.now) (frames_of s.old) name.now)) }
+    ensures exact { (asking : Removal) → GivesSeen selection_seen (as_stopped asking result) (selection_at (table_in s.old) (reading_in asking s.old deeper) (elements_in s.old site.now.left) (option_map (member_at s.old) member.now) (name_seen (part_in s.old site.now) (frames_of s.old) name.now)) }
 {
     let part = name.part;
     let dims = dims_at(reader, s, deeper, member, name)?;
@@ -160,7 +161,7 @@ fn standing<'t>(
     requires part { IsMember s.old part.now }
     ensures grows { Grows s.old s.new }
     ensures there { IfOk result (IsMember s.new) }
-    ensures exact { GivesSeen (member_of (frames_of s.new)) result (component_standing (table_in s.old) place (frame_at s.old frame.0) (member_of (frames_of s.old) part.now)) }
+    ensures exact { GivesSeen (member_at s.new) result (component_standing (table_in s.old) place (frame_at s.old frame.0) (member_at s.old part.now)) }
 {
     match stands_for(alloc, s, &Found::Component(frame, *part), place) {
         Ok(Found::Component(_, member)) => Ok(member),
@@ -184,7 +185,7 @@ fn component_in<'t>(
     requires frame { IsFrame s.old frame.0 }
     ensures grows { Grows s.old s.new }
     ensures there { IfOk result (IsMember s.new) }
-    ensures exact { GivesSeen (member_of (frames_of s.new)) result (component_in (table_in s.old) place (frame_at s.old frame.0) name.now) }
+    ensures exact { GivesSeen (member_at s.new) result (component_in (table_in s.old) place (frame_at s.old frame.0) name.now) }
 {
     match find_element(alloc, s, frame, name, place) {
         Ok(Reached::Element(part)) => standing(alloc, s, place, frame, &part),
@@ -206,7 +207,7 @@ pub(crate) fn component_behind<'t>(
     requires member { IsMember s.old member.now }
     ensures grows { Grows s.old s.new }
     ensures there { IfOk result (IsMember s.new) }
-    ensures exact { GivesSeen (member_of (frames_of s.new)) result (component_behind (table_in s.old) place (member_of (frames_of s.old) member.now) index.now name.now) }
+    ensures exact { GivesSeen (member_at s.new) result (component_behind (table_in s.old) place (member_at s.old member.now) index.now name.now) }
 {
     let frame = enter_component(alloc, s, member, index)?;
     component_in(alloc, s, place, frame, name)
@@ -223,7 +224,7 @@ fn next_selected<'t>(
     requires member { IsMember s.old member.now }
     ensures grows { Grows s.old s.new }
     ensures there { IfOk result (λ behind. IfSome behind (IsMember s.new)) }
-    ensures exact { (f : Tree → PartOf) → GivesSeen (option_map (member_of (frames_of s.new))) result (next_selected (table_in s.old) (member_of (frames_of s.old) member.now) (selection_seen selection.now) (as_identifier f next.now)) }
+    ensures exact { (f : Tree → PartOf) → GivesSeen (option_map (member_at s.new)) result (next_selected (table_in s.old) (member_at s.old member.now) (selection_seen selection.now) (as_identifier f next.now)) }
 {
     let indices = selected(alloc, selection.dims.as_slice(), selection.subs.as_slice())?;
     let Some(index) = indices.get(0) else {
@@ -244,7 +245,7 @@ fn next_behind<'t>(
     requires member { IfSome member.now (IsMember s.old) }
     ensures grows { Grows s.old s.new }
     ensures there { IfOk result (λ behind. IfSome behind (IsMember s.new)) }
-    ensures exact { (f : Tree → PartOf) → GivesSeen (option_map (member_of (frames_of s.new))) result (next_behind (table_in s.old) (option_map (member_of (frames_of s.old)) member.now) (selection_seen selection.now) (as_identifier f next.now)) }
+    ensures exact { (f : Tree → PartOf) → GivesSeen (option_map (member_at s.new)) result (next_behind (table_in s.old) (option_map (member_at s.old) member.now) (selection_seen selection.now) (as_identifier f next.now)) }
 {
     answer(within(selection.dims.as_slice(), selection.subs.as_slice()))?;
     match member {
@@ -264,7 +265,7 @@ fn member_behind<'t>(
     requires member { IfSome member.now (IsMember s.old) }
     ensures grows { Grows s.old s.new }
     ensures there { IfOk result (λ behind. IfSome behind (IsMember s.new)) }
-    ensures exact { (f : Tree → PartOf) → GivesSeen (option_map (member_of (frames_of s.new))) result (member_behind (table_in s.old) (option_map (member_of (frames_of s.old)) member.now) (selection_seen selection.now) (names_seen f (frames_of s.old) names.now)) }
+    ensures exact { (f : Tree → PartOf) → GivesSeen (option_map (member_at s.new)) result (member_behind (table_in s.old) (option_map (member_at s.old) member.now) (selection_seen selection.now) (names_seen f (frames_of s.old) names.now)) }
 {
     match names {
         [] => Ok(None),
@@ -289,7 +290,7 @@ pub(crate) fn selections<'a, 't>(
     requires kept { IsKept s.old reader.old }
     ensures grows { Grows s.old s.new }
     ensures kept { IsKept s.new reader.new }
-    ensures exact { (asking : Removal) → GivesSeen selections_seen (as_stopped asking result) (selections (table_in s.old) (reading_in asking s.old deeper) (elements_in s.old site.now.left) (Some (member_of (frames_of s.old) first.entry)) (names_seen (part_in s.old site.now) (frames_of s.old) names.now)) }
+    ensures exact { (asking : Removal) → GivesSeen selections_seen (as_stopped asking result) (selections (table_in s.old) (reading_in asking s.old deeper) (elements_in s.old site.now.left) (Some (member_at s.old first.entry)) (names_seen (part_in s.old site.now) (frames_of s.old) names.now)) }
 {
     let mut made = List::new(reader.alloc);
     let mut member = Some(first);

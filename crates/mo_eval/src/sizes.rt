@@ -3,7 +3,7 @@ ghost use Rattle.std.specs.Prelude.{◌≡◌, ◌++◌, [], List as Seq, option
 ghost use Rattle.mo_scope.specs.Frames.{Frame};
 ghost use Rattle.mo_scope.specs.Outcome.{Gives as GivesSeen};
 ghost use Rattle.mo_scope.specs.Rows.{component_of};
-ghost use Rattle.mo_scope.specs.Sights.{declares_seen, redeclaration_in};
+ghost use Rattle.mo_scope.specs.Sights.{declares_seen, redeclaration_in, member_at};
 ghost use Rattle.mo_scope.specs.Sizes.{count_sizes, declared_sizes, is_nothing, sizes_if, sizes_in, type_sizes};
 ghost use Rattle.mo_scope.specs.Worlds.{World, Grows, IsFrame, frame_at, frames_of, scope_in, table_in};
 ghost use Rattle.mo_names.specs.Sights.{IsMember, member_of};
@@ -153,7 +153,7 @@ pub(crate) fn all_sizes<'t>(
     requires member { IsMember s.old member.now }
     ensures grows { Grows s.old s.new }
     ensures there { IfOk result (AreSized s.new) }
-    ensures exact { GivesSeen (sizes_seen (frames_of s.new)) result (all_sizes (table_in s.old) (member_of (frames_of s.old) member.now)) }
+    ensures exact { GivesSeen (sizes_seen (frames_of s.new)) result (all_sizes (table_in s.old) (member_at s.old member.now)) }
 {
     let child = child_of_member(alloc, s, member, &[])?;
     let mut made = declared(alloc, member, &child.redeclared)?;
@@ -180,7 +180,7 @@ pub(crate) fn count_of_dims<'t>(
 ) -> Result<usize, Stop>
     requires member { IsMember s.old member.now }
     ensures grows { Grows s.old s.new }
-    ensures exact { Gives result (number_of_dims (table_in s.old) (member_of (frames_of s.old) member.now)) }
+    ensures exact { Gives result (number_of_dims (table_in s.old) (member_at s.old member.now)) }
 {
     let sizes = all_sizes(alloc, s, member)?;
     Ok(count_of(sizes.as_slice())?)

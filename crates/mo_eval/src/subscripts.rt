@@ -2,14 +2,14 @@
 ghost use Rattle.std.specs.Prelude.{◌≡◌, ◌<◌, Ok, drop, get_or, length, map};
 ghost use Rattle.mo_flat.specs.declared.array.Subscript.TheVariants.{One};
 ghost use Rattle.std.specs.Option.{option_map};
-ghost use Rattle.mo_scope.specs.Worlds.{Grows, IsFrame, frames_of};
+ghost use Rattle.mo_scope.specs.Worlds.{Grows, IsFrame};
 ghost use Rattle.mo_syntax.specs.Outcome.{and_then};
 ghost use Rattle.mo_typing.specs.Outcome.{Gives};
 ghost use Rattle.mo_eval.specs.Keeping.{IsKept};
 ghost use Rattle.mo_values.specs.Asked.{must_be_whole};
 ghost use Rattle.mo_eval.specs.References.{numbers_of, read_subscript, read_subscripts};
 ghost use Rattle.mo_eval.specs.Virtuals.{known_at};
-ghost use Rattle.mo_eval.specs.Seen.{AreThere, resolved_seen};
+ghost use Rattle.mo_eval.specs.Seen.{AreThere, resolved_at};
 ghost use Rattle.mo_eval.specs.steps.Sites.{part_in, elements_in};
 ghost use Rattle.mo_eval.specs.steps.Subscripting.{subscript_at, subscript_in};
 
@@ -39,7 +39,7 @@ fn numbers_of<'t>(
     requires kept { IsKept s.old reader.old }
     ensures grows { Grows s.old s.new }
     ensures kept { IsKept s.new reader.new }
-    ensures exact { Gives result (numbers_of (known_at (elements_in s.old left) (resolved_seen (frames_of s.old) resolved.now)) place size) }
+    ensures exact { Gives result (numbers_of (known_at (elements_in s.old left) (resolved_at s.old resolved.now)) place size) }
 {
     let mut reads = unread(reader.alloc, resolved.virtuals.len())?;
     let mut made = List::new(reader.alloc);
@@ -80,7 +80,7 @@ fn subscript_in<'t>(
     requires kept { IsKept s.old reader.old }
     ensures grows { Grows s.old s.new }
     ensures kept { IsKept s.new reader.new }
-    ensures exact { Gives result (subscript_in (elements_in s.old left) place (resolved_seen (frames_of s.old) resolved.now)) }
+    ensures exact { Gives result (subscript_in (elements_in s.old left) place (resolved_at s.old resolved.now)) }
 {
     let dims = whole_vector(reader.alloc, place, &resolved.expression)?;
     let Some(size) = dims.get(0) else {

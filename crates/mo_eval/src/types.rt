@@ -5,9 +5,9 @@ ghost use Rattle.std.specs.Prelude.{◌≡◌, [], option_map, IfOk, IfSome};
 ghost use Rattle.mo_syntax.specs.declared.class.Body.{out-Body};
 ghost use Rattle.mo_scope.specs.Frames.{class_of};
 ghost use Rattle.mo_scope.specs.Names.{clauses_of};
-ghost use Rattle.mo_scope.specs.Rows.{form_in, row_at};
+ghost use Rattle.mo_scope.specs.Rows.{form_in};
 ghost use Rattle.mo_scope.specs.Sizes.{first_base as base_first};
-ghost use Rattle.mo_scope.specs.Worlds.{Grows, IsFrame, frame_at, frames_of, table_in};
+ghost use Rattle.mo_scope.specs.Worlds.{Grows, IsFrame, frame_at, frames_of, table_in, row_of_frame};
 ghost use Rattle.mo_eval.specs.steps.Types.{onward_seen, step_of, step_of_long, step_of_short, way_of_form, way_of_row, way_seen};
 
 use mo_bases::{first_base, is_leaf, leaf_base};
@@ -105,7 +105,7 @@ fn way_in(body: &Body) -> Way<'_>
 /// What the dimensions of the class of a frame are found in.
 fn way_of<'t>(s: &Scopes<'t>, frame: FrameId) -> Way<'t>
     requires { IsFrame s.now frame.0 }
-    ensures { way_seen result ≡ way_of_row (row_at (table_in s.now) (class_of (frame_at s.now frame.0))) }
+    ensures { way_seen result ≡ way_of_row (row_of_frame s.now frame.0) }
 {
     match s.row(s.class_of(frame)) {
         Some(row) => way_in(&row.class.body),

@@ -1,6 +1,6 @@
 //! What is known of a resolved expression, its variables being read where they are needed.
 ghost use Rattle.std.specs.Prelude.{◌≡◌, ◌-◌, ◌||◌, IfOk, Some, slice_get};
-ghost use Rattle.mo_scope.specs.Worlds.{Grows, frames_of};
+ghost use Rattle.mo_scope.specs.Worlds.{Grows};
 ghost use Rattle.mo_names.specs.Sights.{IsMember};
 ghost use Rattle.mo_syntax.specs.Outcome.{Outcome};
 ghost use Rattle.mo_typing.specs.Outcome.{Gives};
@@ -10,7 +10,7 @@ ghost use Rattle.mo_eval.specs.References.{is_replaced};
 ghost use Rattle.mo_values.specs.Walk.{known_by};
 ghost use Rattle.mo_eval.specs.Virtuals.{known_of_virtuals};
 ghost use Rattle.mo_values.specs.Told.{AreRead};
-ghost use Rattle.mo_eval.specs.Seen.{AreThere, element_seen, virtuals_seen};
+ghost use Rattle.mo_eval.specs.Seen.{AreThere, element_at, virtuals_at};
 ghost use Rattle.mo_eval.specs.Sequence.{IsElement};
 ghost use Rattle.mo_eval.specs.steps.Sites.{elements_in, variables_in};
 
@@ -28,7 +28,7 @@ use mo_values::{Scalar, Told, has_values};
 /// Whether an element is a constant that is replaced: it has no instance.
 pub(crate) fn is_replaced<'t>(s: &Scopes<'t>, element: &Element<'t>) -> bool
     requires { IsMember s.now element.now.member }
-    ensures { result ≡ is_replaced (element_seen (frames_of s.now) element.now) }
+    ensures { result ≡ is_replaced (element_at s.now element.now) }
 {
     element.constant && s.path(element.member.home).is_none()
 }
@@ -36,7 +36,7 @@ pub(crate) fn is_replaced<'t>(s: &Scopes<'t>, element: &Element<'t>) -> bool
 /// Whether an element is read.
 fn is_read<'t>(s: &Scopes<'t>, element: &Element<'t>) -> bool
     requires { IsMember s.now element.now.member }
-    ensures { result ≡ (has_values element.now.kind || is_replaced (element_seen (frames_of s.now) element.now)) }
+    ensures { result ≡ (has_values element.now.kind || is_replaced (element_at s.now element.now)) }
 {
     has_values(element.kind) || is_replaced(s, element)
 }
@@ -54,7 +54,7 @@ fn element_known<'t>(
     requires kept { IsKept s.old reader.old }
     ensures grows { Grows s.old s.new }
     ensures kept { IsKept s.new reader.new }
-    ensures exact { Gives result (elements_in s.old left (element_seen (frames_of s.old) element.now)) }
+    ensures exact { Gives result (elements_in s.old left (element_at s.old element.now)) }
 {
     if !is_read(s, element) {
         return Ok(None);
@@ -91,11 +91,11 @@ fn variable_known<'t>(
     n: u32,
 ) -> Result<Result<Option<Scalar>, Broken>, NoMemory>
     requires there { AreThere s.old virtuals.now }
-    requires element { IsElement (virtuals_seen (frames_of s.old) virtuals.now) n }
+    requires element { IsElement (virtuals_at s.old virtuals.now) n }
     requires kept { IsKept s.old reader.old }
     ensures grows { Grows s.old s.new }
     ensures kept { IsKept s.new reader.new }
-    ensures exact { IfOk result (λ outcome. slice_get (known_of_virtuals (elements_in s.old left) (virtuals_seen (frames_of s.old) virtuals.now)) (n - 1) ≡ Some outcome) }
+    ensures exact { IfOk result (λ outcome. slice_get (known_of_virtuals (elements_in s.old left) (virtuals_at s.old virtuals.now)) (n - 1) ≡ Some outcome) }
 {
     match virtuals.get(n.saturating_sub(1) as usize) {
         Some(Virtual::Component(element)) => outcome_of(element_known(reader, s, left, element)),

@@ -9,7 +9,7 @@ ghost use Rattle.mo_front.specs.Run.{IsNamedFault};
 
 use crate::refusal::refusal_text;
 use mo_ports::{ReadStop, Shelf, read_all};
-use mo_syntax::{List, NoMemory, Place, Text, broken};
+use mo_syntax::{List, NoMemory, Place, Text, broken, rules};
 use std::alloc::Global;
 
 /// The most bytes that a file may have.
@@ -88,7 +88,7 @@ fn read_file<S: Shelf>(
 {
     match read_all(alloc, shelf, name, FILE_LIMIT.min(left)) {
         Ok(bytes) => text_of(alloc, name, number, bytes.as_slice()),
-        Err(ReadStop::TooLong) => Err(refused(alloc, name, number, &[], 1, 0)),
+        Err(ReadStop::TooLong) => Err(refused(alloc, name, number, &[], rules::FILE_TOO_LONG, 0)),
         Err(ReadStop::ReadFault) => Err(Unread::Fault),
         Err(ReadStop::NoMemory) => Err(Unread::NoMemory),
     }
@@ -104,7 +104,7 @@ fn text_of(alloc: Global, name: &str, number: u32, bytes: &[u8]) -> Result<Text,
         Ok(text) => Ok(Text::from_str(alloc, text)?),
         Err(error) => {
             let byte = error.valid_up_to() as u32;
-            Err(refused(alloc, name, number, bytes, 2, byte))
+            Err(refused(alloc, name, number, bytes, rules::NOT_UTF_8, byte))
         }
     }
 }

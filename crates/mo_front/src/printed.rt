@@ -16,7 +16,7 @@ use crate::status::Status;
 use crate::verified::judged;
 use crate::words::Emit;
 use mo_ports::{ReadStop, Shelf, Sink, put_all, read_all};
-use mo_syntax::{List, NoMemory, Path, Stop, Text};
+use mo_syntax::{List, NoMemory, Path, Stop, Text, rules};
 use std::alloc::Global;
 
 /// The most bytes that a printed report may have.
@@ -120,7 +120,7 @@ fn read_printed<S: Shelf>(
 {
     match read_all(alloc, shelf, name, PRINTED_LIMIT) {
         Ok(bytes) => Ok(bytes),
-        Err(ReadStop::TooLong) => Err(refused(alloc, name, number, &[], 1, 0)),
+        Err(ReadStop::TooLong) => Err(refused(alloc, name, number, &[], rules::FILE_TOO_LONG, 0)),
         Err(ReadStop::ReadFault) => Err(Unread::Fault),
         Err(ReadStop::NoMemory) => Err(Unread::NoMemory),
     }

@@ -2,19 +2,21 @@
 --
 -- A component is asked for its condition, its prefixes, its type, its dimensions and its depth; then each of its elements, the last index
 -- fastest, is entered, and the parts of an element before the next one.
-use Rattle.std.specs.Prelude.{ℕ, zero, suc, Bool, true, false, ◌&&◌, List, [], ◌∷◌, ◌++◌, find, Option, Some, None, Ok, if◌then◌else◌}
+use Rattle.std.specs.Prelude.{◌≡◌, ℕ, zero, suc, Bool, true, false, ◌&&◌, List, [], ◌∷◌, ◌++◌, find, Option, Some, None, Ok, if◌then◌else◌}
 use Rattle.std.specs.Str.{bytes_eq}
 use Rattle.mo_syntax.specs.Outcome.{Outcome, and_then, breaks}
+use Rattle.mo_syntax.specs.declared.class.FileTree.{FileTree}
 use Rattle.mo_syntax.specs.declared.class.Vary.TheVariants.{Free}
 use Rattle.mo_syntax.specs.declared.place.Place.{Place}
 use Rattle.mo_syntax.specs.Classes.{Home, Under}
 use Rattle.mo_syntax.specs.ClassTable.{path_eq}
-use Rattle.mo_scope.specs.Rows.{Table, Row, row_at, is_class}
+use Rattle.mo_syntax.specs.SoundTree.{any_name}
+use Rattle.mo_scope.specs.Rows.{Table, Row, row_at, is_class, table_of}
 use Rattle.mo_scope.specs.Frames.{Frame, Top, In, No_source, Member, looked_up}
 use Rattle.mo_scope.specs.Lookup.{Walked, members_in}
 use Rattle.mo_scope.specs.Names.{child_of_member, component_frame}
 use Rattle.mo_scope.specs.Compatible.{prefix_of}
-use Rattle.mo_scope.specs.Instances.{Instance}
+use Rattle.mo_scope.specs.Instances.{Instance, IsInstanceTree}
 use Rattle.mo_syntax.specs.declared.rules.TheConstants.{INSTANCE_TOO_DEEP}
 use Rattle.mo_typing.specs.Dims.{Dims}
 use Rattle.mo_typing.specs.Indices.{Index, indices}
@@ -128,3 +130,7 @@ instances_by table (Some row) = instances_in table row
 -- The instances of the class with that number: the class itself, then its components, each before its parts.
 abbrev pub instances_of : Table → (class : ℕ) → Outcome (List Instance)
 instances_of table class = instances_by table (row_at table class)
+
+-- of a class that has a row, these are a tree of instances with any names
+abbrev pub AreTreeOf : List FileTree → (class : ℕ) → List Instance → Type 0
+AreTreeOf files class instances = (row : Row) → row_at (table_of files) class ≡ Some row → IsInstanceTree any_name (table_of files) instances

@@ -2,13 +2,12 @@
 #![tactic(auto, using(crate::proofs::Later::later))]
 
 ghost use Rattle.std.specs.Prelude.{◌≡◌, ◌<◌, Some, option_map, IfOk};
-ghost use Rattle.mo_syntax.specs.SoundTree.{IsSoundTree, any_name};
-ghost use Rattle.mo_scope.specs.Instances.{IsInstanceTree};
+ghost use Rattle.mo_syntax.specs.SoundTree.{IsSoundTree};
 ghost use Rattle.mo_scope.specs.Outcome.{Gives};
 ghost use Rattle.mo_scope.specs.Places.{Every};
-ghost use Rattle.mo_scope.specs.Rows.{Row, number_of_classes, row_at, table_of};
+ghost use Rattle.mo_scope.specs.Rows.{number_of_classes, row_at, table_of};
 ghost use Rattle.mo_scope.specs.Worlds.{Grows, IsFrame, frame_at, table_in};
-ghost use Rattle.mo_instance.specs.Instances.{instances_of as instances_of_class};
+ghost use Rattle.mo_instance.specs.Instances.{AreTreeOf, instances_of as instances_of_class};
 ghost use Rattle.mo_instance.specs.steps.Instances.{instances_made, root_alone};
 ghost use Rattle.mo_scope.specs.Trees.{IsInstance, instances_in as instances_seen, tree_seen};
 ghost use Rattle.mo_instance.specs.steps.Sights.{IsEntered};
@@ -123,7 +122,7 @@ pub fn instantiate<'t>(
     ensures exact { Gives tree_seen result (instances_of_class (table_of tree.now.files) class.0) }
     ensures files { IfOk result (λ made. made.scopes.files ≡ tree.now.files) }
     ensures exist { IfOk result (λ made. Every (IsInstance made.scopes) made.instances) }
-    ensures sound { IfOk result (λ made. (row : Row) → row_at (table_of tree.now.files) class.0 ≡ Some row → IsInstanceTree any_name (table_of tree.now.files) (tree_seen made)) }
+    ensures sound { IfOk result (λ made. AreTreeOf tree.now.files class.0 (tree_seen made)) }
 {
     let mut scopes = Scopes::new(alloc, tree)?;
     let instances = instances_of(alloc, &mut scopes, class)?;

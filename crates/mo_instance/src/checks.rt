@@ -9,7 +9,7 @@ ghost use Rattle.mo_scope.specs.Outcome.{Gives};
 ghost use Rattle.mo_scope.specs.Places.{Every};
 ghost use Rattle.mo_scope.specs.Redeclarations.{each_checked};
 ghost use Rattle.mo_scope.specs.Worlds.{Grows, IsFrame, frame_at, frames_of, table_in};
-ghost use Rattle.mo_names.specs.Sights.{IsBase, IsWalk, frames_through, walk_seen};
+ghost use Rattle.mo_names.specs.Sights.{IsBase, IsWalk, frames_through, walk_at};
 ghost use Rattle.mo_instance.specs.Checks.{base_passed as base_has_passed, frame_checked as frame_is_checked, frame_passed as frame_has_passed};
 ghost use Rattle.mo_instance.specs.steps.Checks.{frame_passes, through_passed as through_has_passed};
 ghost use Rattle.mo_instance.specs.steps.FirstPass.{is_replaced_by};
@@ -46,7 +46,7 @@ fn passes<'t>(
     requires replaced { IsWalkOrNone s.old (option_copied replaced) }
     requires walk { IsWalk s.old walk.now }
     ensures grows { Grows s.old s.new }
-    ensures value { Gives (λ _. tt) result (frame_passes (table_in s.old) (is_replaced_by (walk_or_none (frames_of s.old) (option_copied replaced.entry))) (drop passed (sources_of (frame_at s.old frame.0))) (frame_at s.old frame.0) (walk_seen (frames_of s.old) walk.now)) }
+    ensures value { Gives (λ _. tt) result (frame_passes (table_in s.old) (is_replaced_by (walk_or_none (frames_of s.old) (option_copied replaced.entry))) (drop passed (sources_of (frame_at s.old frame.0))) (frame_at s.old frame.0) (walk_at s.old walk.now)) }
 {
     in_profile(s, frame)?;
     first_pass(alloc, s, frame, replaced, walk, passed)?;
@@ -66,7 +66,7 @@ fn frame_passed<'t>(
     requires frame { IsFrame s.old frame.0 }
     requires replaced { IsWalkOrNone s.old (option_copied replaced) }
     ensures grows { Grows s.old s.new }
-    ensures value { Gives (walk_seen (frames_of s.new)) result (frame_has_passed (table_in s.old) (is_replaced_by (walk_or_none (frames_of s.old) (option_copied replaced.entry))) (drop passed (sources_of (frame_at s.old frame.0))) (frame_at s.old frame.0)) }
+    ensures value { Gives (walk_at s.new) result (frame_has_passed (table_in s.old) (is_replaced_by (walk_or_none (frames_of s.old) (option_copied replaced.entry))) (drop passed (sources_of (frame_at s.old frame.0))) (frame_at s.old frame.0)) }
     ensures stand { IfOk result (IsWalk s.new) }
 {
     let walk = walk_of(alloc, s, frame)?;
@@ -152,7 +152,7 @@ pub(crate) fn frame_checked<'t>(
 ) -> Result<Walk<'t>, Stop>
     requires { IsFrame s.old frame.0 }
     ensures grows { Grows s.old s.new }
-    ensures value { Gives (walk_seen (frames_of s.new)) result (frame_is_checked (table_in s.old) place (frame_at s.old frame.0)) }
+    ensures value { Gives (walk_at s.new) result (frame_is_checked (table_in s.old) place (frame_at s.old frame.0)) }
     ensures stand { IfOk result (IsWalk s.new) }
 {
     whole_class(s, place, frame)?;

@@ -2,10 +2,11 @@
 #![tactic(auto, using(crate::proofs::Later::later))]
 
 ghost use Rattle.std.specs.Prelude.{◌≡◌, ◌||◌, if◌then◌else◌, IfOk, OnOk};
+ghost use Rattle.mo_scope.specs.Sights.{member_at};
 ghost use Rattle.mo_scope.specs.Outcome.{Gives};
 ghost use Rattle.mo_scope.specs.Rows.{number_of_classes};
-ghost use Rattle.mo_scope.specs.Worlds.{Grows, IsFrame, frame_at, frames_of, table_in};
-ghost use Rattle.mo_names.specs.Sights.{IsMember, member_of};
+ghost use Rattle.mo_scope.specs.Worlds.{Grows, IsFrame, frame_at, table_in};
+ghost use Rattle.mo_names.specs.Sights.{IsMember};
 ghost use Rattle.mo_eval.specs.Keeping.{IsKept};
 ghost use Rattle.mo_instance.specs.Elements.{around_parts as around_below};
 ghost use Rattle.mo_instance.specs.Prefixes.{input_from, is_input as causal_is_input};
@@ -30,7 +31,7 @@ fn component_class<'t>(
 ) -> Result<FrameId, Stop>
     requires { IsMember s.old member.now }
     ensures grows { Grows s.old s.new }
-    ensures value { Gives (λ class. frame_at s.new class.0) result (class_of_component (table_in s.old) (member_of (frames_of s.old) member.now)) }
+    ensures value { Gives (λ class. frame_at s.new class.0) result (class_of_component (table_in s.old) (member_at s.old member.now)) }
     ensures stand { IfOk result (λ class. IsFrame s.new class.0) }
 {
     let prefix = prefix_of(alloc, s, member)?;
@@ -68,7 +69,7 @@ fn around_parts<'t>(
     requires member { IsMember s.old member.now }
     requires class { IsFrame s.old class.0 }
     ensures grows { Grows s.old s.new }
-    ensures value { IfOk result (λ made. around_seen made ≡ around_below (table_in s.old) (around_seen around.now) (member_of (frames_of s.old) member.now) (frame_at s.old class.0)) }
+    ensures value { IfOk result (λ made. around_seen made ≡ around_below (table_in s.old) (around_seen around.now) (member_at s.old member.now) (frame_at s.old class.0)) }
 {
     let prefix = prefix_of(alloc, s, member)?;
     let given = given_below(alloc, s, around, prefix.causal, class)?;
@@ -92,7 +93,7 @@ pub(crate) fn component_asked<'t>(
     requires kept { IsKept s.old reader.old }
     ensures grows { Grows s.old s.new }
     ensures kept { OnOk result (IsKept s.new reader.new) }
-    ensures value { Gives (λ asked. (around_seen asked.0, asked.1)) result (asked_of_component (table_in s.old) (around_seen around.now) (member_of (frames_of s.old) member.now)) }
+    ensures value { Gives (λ asked. (around_seen asked.0, asked.1)) result (asked_of_component (table_in s.old) (around_seen around.now) (member_at s.old member.now)) }
 {
     let class = component_class(alloc, s, member)?;
     let dims = reader.dims(s, member)?;
@@ -111,7 +112,7 @@ pub(crate) fn is_entered<'t>(
     requires kept { IsKept s.old reader.old }
     ensures grows { Grows s.old s.new }
     ensures kept { OnOk result (IsKept s.new reader.new) }
-    ensures value { Gives (λ is. is) result (enters (table_in s.old) (member_of (frames_of s.old) member.now)) }
+    ensures value { Gives (λ is. is) result (enters (table_in s.old) (member_at s.old member.now)) }
 {
     if is_class(&member.declares) {
         return Ok(false);

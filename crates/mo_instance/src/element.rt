@@ -6,9 +6,9 @@ ghost use Rattle.std.specs.Prelude.{◌≡◌, List as Seq, option_map, IfOk};
 ghost use Rattle.mo_scope.specs.Frames.{Frame};
 ghost use Rattle.mo_scope.specs.Lookup.{last_place as place_of_last};
 ghost use Rattle.mo_scope.specs.Outcome.{Gives};
-ghost use Rattle.mo_scope.specs.Sights.{declares_seen, redeclaration_in};
+ghost use Rattle.mo_scope.specs.Sights.{declares_seen, redeclaration_in, member_at};
 ghost use Rattle.mo_scope.specs.Worlds.{Grows, IsFrame, frame_at, frames_of, table_in};
-ghost use Rattle.mo_names.specs.Sights.{IsMember, IsWalk, member_of, walk_seen};
+ghost use Rattle.mo_names.specs.Sights.{IsMember, IsWalk, member_of, walk_at};
 ghost use Rattle.mo_instance.specs.Elements.{class_place as place_of_class, instance_of as instance_for, place_of_type as type_place};
 ghost use Rattle.mo_scope.specs.Trees.{IsLeaf, instance_in, leaf_in};
 ghost use Rattle.mo_instance.specs.steps.Sights.{IsEntered, around_seen};
@@ -76,7 +76,7 @@ fn element_frame<'t>(
 ) -> Result<(Place, FrameId), Stop>
     requires { IsMember s.old member.now }
     ensures grows { Grows s.old s.new }
-    ensures value { Gives (λ at. (at.0, frame_at s.new at.1.0)) result (frame_of_element (table_in s.old) (member_of (frames_of s.old) member.now) index.now) }
+    ensures value { Gives (λ at. (at.0, frame_at s.new at.1.0)) result (frame_of_element (table_in s.old) (member_at s.old member.now) index.now) }
     ensures stand { IfOk result (λ at. IsFrame s.new at.1.0) }
 {
     let child = child_of_member(alloc, s, member, index)?;
@@ -95,7 +95,7 @@ fn instance_of<'t>(
     leaf: Option<Leaf<'t>>,
 ) -> Result<Instance<'t>, NoMemory>
     requires { IsFrame s.now frame.0 }
-    ensures is { IfOk result (λ made. instance_in (frames_of s.now) made ≡ instance_for (member_of (frames_of s.now) member.now) dims.now (frame_at s.now frame.0) (option_map (leaf_in (frames_of s.now)) leaf.entry)) }
+    ensures is { IfOk result (λ made. instance_in (frames_of s.now) made ≡ instance_for (member_at s.now member.now) dims.now (frame_at s.now frame.0) (option_map (leaf_in (frames_of s.now)) leaf.entry)) }
     ensures exists { IfSome leaf.entry (IsLeaf s.now) → IfOk result (IsEntered s.now) }
 {
     // The class exists.
@@ -123,7 +123,7 @@ fn instance_at<'t>(
 ) -> Result<Instance<'t>, Stop>
     requires frame { IsFrame s.now frame.0 }
     requires walk { IsWalk s.now walk.now }
-    ensures value { Gives (instance_in (frames_of s.now)) result (instance_made (table_in s.now) (around_seen around.now) (member_of (frames_of s.now) member.now) dims.now (frame_at s.now frame.0) (walk_seen (frames_of s.now) walk.now)) }
+    ensures value { Gives (instance_in (frames_of s.now)) result (instance_made (table_in s.now) (around_seen around.now) (member_at s.now member.now) dims.now (frame_at s.now frame.0) (walk_at s.now walk.now)) }
     ensures stand { IfOk result (IsEntered s.now) }
 {
     let leaf = leaf_of(alloc, s, around, member, frame, walk)?;
@@ -143,7 +143,7 @@ fn element_in_frame<'t>(
     requires member { IsMember s.old member.now }
     requires frame { IsFrame s.old frame.0 }
     ensures grows { Grows s.old s.new }
-    ensures value { Gives (λ made. (instance_in (frames_of s.new) made.0, walk_seen (frames_of s.new) made.1)) result (made_in_frame (table_in s.old) (around_seen around.now) (member_of (frames_of s.old) member.now) dims.now place (frame_at s.old frame.0)) }
+    ensures value { Gives (λ made. (instance_in (frames_of s.new) made.0, walk_at s.new made.1)) result (made_in_frame (table_in s.old) (around_seen around.now) (member_at s.old member.now) dims.now place (frame_at s.old frame.0)) }
     ensures stand { IfOk result (λ made. IsEntered s.new made.0 × IsWalk s.new made.1) }
 {
     let walk = frame_checked(alloc, s, place, frame)?;
@@ -164,7 +164,7 @@ pub(crate) fn element_made<'t>(
 ) -> Result<(Instance<'t>, Walk<'t>), Stop>
     requires { IsMember s.old member.now }
     ensures grows { Grows s.old s.new }
-    ensures value { Gives (λ made. (instance_in (frames_of s.new) made.0, walk_seen (frames_of s.new) made.1)) result (made_of_element (table_in s.old) (around_seen around.now) (member_of (frames_of s.old) member.now) dims.now index.now count) }
+    ensures value { Gives (λ made. (instance_in (frames_of s.new) made.0, walk_at s.new made.1)) result (made_of_element (table_in s.old) (around_seen around.now) (member_at s.old member.now) dims.now index.now count) }
     ensures stand { IfOk result (λ made. IsEntered s.new made.0 × IsWalk s.new made.1) }
 {
     room_for_one(around.asked, count)?;

@@ -5,9 +5,9 @@ ghost use Rattle.std.specs.List.{list_any};
 ghost use Rattle.mo_syntax.specs.ClassTable.{path_eq};
 ghost use Rattle.mo_scope.specs.Frames.{sources_of};
 ghost use Rattle.mo_scope.specs.Outcome.{Gives};
-ghost use Rattle.mo_scope.specs.Sights.{source_seen};
-ghost use Rattle.mo_scope.specs.Worlds.{IsFrame, frame_at, frames_of, source_in, sources_in, table_in};
-ghost use Rattle.mo_names.specs.Sights.{IsWalk, walk_seen};
+ghost use Rattle.mo_scope.specs.Sights.{source_at, sources_at};
+ghost use Rattle.mo_scope.specs.Worlds.{IsFrame, frame_at, frames_of, table_in};
+ghost use Rattle.mo_names.specs.Sights.{IsWalk, walk_at};
 ghost use Rattle.mo_mods.specs.PathSights.{claim_seen};
 ghost use Rattle.mo_instance.specs.steps.FirstPass.{broken_source as source_breaks, broken_speech as speech_breaks, first_repeated as repeated_first, is_in as is_among, is_known_speech, is_replaced_by, least_of_member, least_of_none};
 ghost use Rattle.mo_instance.specs.Passes.{first_of_all, first_pass as pass_first, inherits as walk_inherits};
@@ -79,7 +79,7 @@ fn is_inherited(members: &[Inherited], name: &Text) -> bool
 /// Whether an element that is inherited from one of the bases, or an attribute, has the name.
 fn inherits(s: &Scopes, walk: &Walk, name: &Text) -> bool
     requires { IsWalk s.now walk.now }
-    ensures { result ≡ walk_inherits (walk_seen (frames_of s.now) walk.now) name.now }
+    ensures { result ≡ walk_inherits (walk_at s.now walk.now) name.now }
 {
     if is_inherited(walk.members.as_slice(), name) {
         return true;
@@ -102,7 +102,7 @@ fn is_replaced(s: &Scopes, replaced: Option<&Walk>, name: &Text) -> bool
 fn is_known(s: &Scopes, replaced: Option<&Walk>, walk: &Walk, spoken: &Spoken) -> bool
     requires replaced { IsWalkOrNone s.now (option_copied replaced) }
     requires walk { IsWalk s.now walk.now }
-    ensures { result ≡ is_known_speech (is_replaced_by (walk_or_none (frames_of s.now) (option_copied replaced.entry))) (walk_seen (frames_of s.now) walk.now) (speech_seen spoken.now) }
+    ensures { result ≡ is_known_speech (is_replaced_by (walk_or_none (frames_of s.now) (option_copied replaced.entry))) (walk_at s.now walk.now) (speech_seen spoken.now) }
 {
     if spoken.replacing {
         is_replaced(s, replaced, spoken.name)
@@ -167,7 +167,7 @@ fn broken_spoken<'t>(
     requires replaced { IsWalkOrNone s.now (option_copied replaced) }
     requires walk { IsWalk s.now walk.now }
     requires table { table.now ≡ members_held walk.now.members }
-    ensures { result ≡ speech_breaks (is_replaced_by (walk_or_none (frames_of s.now) (option_copied replaced.entry))) (walk_seen (frames_of s.now) walk.now) (map claim_seen own.now) (speech_seen spoken.now) }
+    ensures { result ≡ speech_breaks (is_replaced_by (walk_or_none (frames_of s.now) (option_copied replaced.entry))) (walk_at s.now walk.now) (map claim_seen own.now) (speech_seen spoken.now) }
 {
     let repeated = first_repeated(own, spoken.claims.as_slice());
     match table.find(spoken.name) {
@@ -188,7 +188,7 @@ fn first_broken<'t>(
     requires replaced { IsWalkOrNone s.now (option_copied replaced) }
     requires walk { IsWalk s.now walk.now }
     requires table { table.now ≡ members_held walk.now.members }
-    ensures { result ≡ first_of_all (speech_breaks (is_replaced_by (walk_or_none (frames_of s.now) (option_copied replaced.entry))) (walk_seen (frames_of s.now) walk.now) (map claim_seen own.now)) (map speech_seen spoken.now) }
+    ensures { result ≡ first_of_all (speech_breaks (is_replaced_by (walk_or_none (frames_of s.now) (option_copied replaced.entry))) (walk_at s.now walk.now) (map claim_seen own.now)) (map speech_seen spoken.now) }
 {
     for one in spoken {
         match broken_spoken(s, replaced, walk, table, own, one) {
@@ -213,7 +213,7 @@ fn broken_source<'t>(
     requires replaced { IsWalkOrNone s.now (option_copied replaced) }
     requires walk { IsWalk s.now walk.now }
     requires table { table.now ≡ members_held walk.now.members }
-    ensures { IfOk result (λ found. found ≡ source_breaks (table_in s.now) (frame_at s.now frame.0) (is_replaced_by (walk_or_none (frames_of s.now) (option_copied replaced.entry))) (walk_seen (frames_of s.now) walk.now) (source_in (frames_of s.now) (source_seen source.now))) }
+    ensures { IfOk result (λ found. found ≡ source_breaks (table_in s.now) (frame_at s.now frame.0) (is_replaced_by (walk_or_none (frames_of s.now) (option_copied replaced.entry))) (walk_at s.now walk.now) (source_at s.now source.now)) }
 {
     let own = claims_against(alloc, s, frame, source.origin)?;
     let spoken = spoken_of(alloc, s, source)?;
@@ -244,7 +244,7 @@ fn broken_sources<'t>(
     requires frame { IsFrame s.now frame.0 }
     requires replaced { IsWalkOrNone s.now (option_copied replaced) }
     requires walk { IsWalk s.now walk.now }
-    ensures { IfOk result (λ found. found ≡ first_of_all (source_breaks (table_in s.now) (frame_at s.now frame.0) (is_replaced_by (walk_or_none (frames_of s.now) (option_copied replaced.entry))) (walk_seen (frames_of s.now) walk.now)) (sources_in (frames_of s.now) (map source_seen sources.now))) }
+    ensures { IfOk result (λ found. found ≡ first_of_all (source_breaks (table_in s.now) (frame_at s.now frame.0) (is_replaced_by (walk_or_none (frames_of s.now) (option_copied replaced.entry))) (walk_at s.now walk.now)) (sources_at s.now sources.now)) }
 {
     let table = elements_by_name(alloc, walk)?;
     for source in sources {
@@ -269,7 +269,7 @@ pub(crate) fn first_pass<'t>(
     requires frame { IsFrame s.now frame.0 }
     requires replaced { IsWalkOrNone s.now (option_copied replaced) }
     requires walk { IsWalk s.now walk.now }
-    ensures { Gives (λ _. tt) result (pass_first (table_in s.now) (frame_at s.now frame.0) (is_replaced_by (walk_or_none (frames_of s.now) (option_copied replaced.entry))) (walk_seen (frames_of s.now) walk.now) (drop passed (sources_of (frame_at s.now frame.0)))) }
+    ensures { Gives (λ _. tt) result (pass_first (table_in s.now) (frame_at s.now frame.0) (is_replaced_by (walk_or_none (frames_of s.now) (option_copied replaced.entry))) (walk_at s.now walk.now) (drop passed (sources_of (frame_at s.now frame.0)))) }
 {
     let sources = s.sources(frame).as_slice();
     if passed >= sources.len() {

@@ -6,9 +6,9 @@ ghost use Rattle.std.specs.Prelude.{◌≡◌, ◌||◌, IfOk};
 ghost use Rattle.mo_syntax.specs.declared.class.Body.{out-Body};
 ghost use Rattle.mo_scope.specs.Frames.{class_of};
 ghost use Rattle.mo_scope.specs.Names.{walk_of as walk_of_frame};
-ghost use Rattle.mo_scope.specs.Rows.{form_in, number_of_classes, row_at};
+ghost use Rattle.mo_scope.specs.Rows.{form_in, number_of_classes};
 ghost use Rattle.mo_scope.specs.Sizes.{is_leaf as is_leaf_walk};
-ghost use Rattle.mo_scope.specs.Worlds.{Grows, IsFrame, frame_at, frames_of, table_in};
+ghost use Rattle.mo_scope.specs.Worlds.{Grows, IsFrame, frame_at, frames_of, table_in, row_of_frame};
 ghost use Rattle.mo_instance.specs.Prefixes.{input_from, is_input as causal_is_input};
 ghost use Rattle.mo_instance.specs.steps.Ways.{IsStep, input_way, long_way, short_way, step_seen, way_of_form, way_of_row};
 
@@ -66,7 +66,7 @@ fn way_in(body: &Body) -> Way
 /// Where `input` is looked for in the class of a frame.
 fn way_of(s: &Scopes, frame: FrameId) -> Way
     requires { IsFrame s.now frame.0 }
-    ensures { result ≡ way_of_row (row_at (table_in s.now) (class_of (frame_at s.now frame.0))) }
+    ensures { result ≡ way_of_row (row_of_frame s.now frame.0) }
 {
     match s.row(s.class_of(frame)) {
         Some(row) => way_in(&row.class.body),

@@ -2,12 +2,13 @@
 //! 4.8). Values are those of the modifiers of a frame, merged into one table.
 ghost use Rattle.std.specs.Prelude.{◌≡◌, ◌&&◌, ◌∷◌, ◌++◌, [], List as Seq, not, map, option_map, IfOk, IfSome, OnOk};
 ghost use Rattle.mo_flat.specs.Text.{attribute_name};
+ghost use Rattle.mo_scope.specs.Sights.{member_at};
 ghost use Rattle.mo_scope.specs.Frames.{Frame, sources_of};
 ghost use Rattle.mo_scope.specs.Outcome.{Gives};
 ghost use Rattle.mo_scope.specs.Parts.{picked};
 ghost use Rattle.mo_scope.specs.Places.{Every};
 ghost use Rattle.mo_scope.specs.Worlds.{IsFrame, World, frame_at, frames_of, table_in};
-ghost use Rattle.mo_names.specs.Sights.{IsWalk, member_of, walk_seen};
+ghost use Rattle.mo_names.specs.Sights.{IsWalk, walk_at};
 ghost use Rattle.mo_mods.specs.Merged.{StandsFor, binding};
 ghost use Rattle.mo_mods.specs.Scopes.{ScopesExist};
 ghost use Rattle.mo_mods.specs.Sights.{merged_in, value_in};
@@ -185,7 +186,7 @@ fn leaf_by<'t>(
 ) -> Result<Option<Leaf<'t>>, Stop>
     requires frame { IsFrame s.now frame.0 }
     requires leaf { IsFrame s.now leaf.0 }
-    ensures value { Gives (option_map (leaf_in (frames_of s.now))) result (leaf_decided (table_in s.now) (around_seen around.now) (member_of (frames_of s.now) member.now) (frame_at s.now frame.0) (frame_at s.now leaf.0)) }
+    ensures value { Gives (option_map (leaf_in (frames_of s.now))) result (leaf_decided (table_in s.now) (around_seen around.now) (member_at s.now member.now) (frame_at s.now frame.0) (frame_at s.now leaf.0)) }
     ensures stand { IfOk result (λ made. IfSome made (IsLeaf s.now)) }
 {
     let kind = kind_of_leaf(s, leaf);
@@ -221,7 +222,7 @@ pub(crate) fn leaf_of<'t>(
 ) -> Result<Option<Leaf<'t>>, Stop>
     requires frame { IsFrame s.now frame.0 }
     requires walk { IsWalk s.now walk.now }
-    ensures value { Gives (option_map (leaf_in (frames_of s.now))) result (leaf_of_frame (table_in s.now) (around_seen around.now) (member_of (frames_of s.now) member.now) (frame_at s.now frame.0) (walk_seen (frames_of s.now) walk.now)) }
+    ensures value { Gives (option_map (leaf_in (frames_of s.now))) result (leaf_of_frame (table_in s.now) (around_seen around.now) (member_at s.now member.now) (frame_at s.now frame.0) (walk_at s.now walk.now)) }
     ensures stand { IfOk result (λ made. IfSome made (IsLeaf s.now)) }
 {
     match walk.leaf {

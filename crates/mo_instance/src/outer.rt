@@ -9,10 +9,10 @@ ghost use Rattle.mo_scope.specs.Outcome.{Gives};
 ghost use Rattle.mo_scope.specs.Parts.{is_nothing as holds_nothing};
 ghost use Rattle.mo_scope.specs.Redeclarations.{Checked};
 ghost use Rattle.mo_scope.specs.Rows.{component_of as component_declared};
-ghost use Rattle.mo_scope.specs.Sights.{declares_seen, modifiers_seen};
+ghost use Rattle.mo_scope.specs.Sights.{declares_seen, modifiers_seen, member_at};
 ghost use Rattle.mo_scope.specs.Sizes.{is_nothing as is_empty};
-ghost use Rattle.mo_scope.specs.Worlds.{Grows, IsFrame, frames_of, table_in};
-ghost use Rattle.mo_names.specs.Children.{IsChild, child_seen};
+ghost use Rattle.mo_scope.specs.Worlds.{Grows, IsFrame, table_in};
+ghost use Rattle.mo_names.specs.Children.{IsChild, child_at};
 ghost use Rattle.mo_names.specs.Sights.{IsMember, member_of};
 ghost use Rattle.mo_instance.specs.Outer.{as_differing as taken_for_differing, condition_in, is_alike as has_alike, is_matched as matches, is_wrongly_outer as is_outer_wrongly, outer_checked as checked_outer};
 ghost use Rattle.mo_instance.specs.steps.Speeches.{speech_seen};
@@ -78,7 +78,7 @@ fn is_given_for(spoken: &[Spoken], name: &Text) -> bool
 /// Whether one of the sources of the frame of an element speaks of it.
 fn is_modified<'t>(alloc: Global, s: &Scopes<'t>, member: &Member<'t>) -> Result<bool, NoMemory>
     requires { IsFrame s.now member.now.home.0 }
-    ensures { IfOk result (λ is. is ≡ is_spoken_of (table_in s.now) (member_of (frames_of s.now) member.now)) }
+    ensures { IfOk result (λ is. is ≡ is_spoken_of (table_in s.now) (member_at s.now member.now)) }
 {
     let sources = s.sources(member.home).as_slice();
     let spoken = all_spoken(alloc, s, sources)?;
@@ -102,7 +102,7 @@ fn is_wrongly_outer<'t>(
     member: &Member<'t>,
 ) -> Result<bool, NoMemory>
     requires { IsFrame s.now member.now.home.0 }
-    ensures { IfOk result (λ is. is ≡ is_outer_wrongly (table_in s.now) (member_of (frames_of s.now) member.now)) }
+    ensures { IfOk result (λ is. is ≡ is_outer_wrongly (table_in s.now) (member_at s.now member.now)) }
 {
     if is_declared_wrongly(member) {
         return Ok(true);
@@ -124,7 +124,7 @@ fn is_alike<'t>(
     requires outer { IsMember s.old outer.0.now × IsChild s.old outer.1.now }
     requires inner { IsMember s.old inner.0.now × IsChild s.old inner.1.now }
     ensures grows { Grows s.old s.new }
-    ensures value { IfOk result (λ is. is ≡ has_alike (table_in s.old) (member_of (frames_of s.old) outer.entry.0.now) (child_seen (frames_of s.old) outer.entry.1.now) (member_of (frames_of s.old) inner.entry.0.now) (child_seen (frames_of s.old) inner.entry.1.now)) }
+    ensures value { IfOk result (λ is. is ≡ has_alike (table_in s.old) (member_at s.old outer.entry.0.now) (child_at s.old outer.entry.1.now) (member_at s.old inner.entry.0.now) (child_at s.old inner.entry.1.now)) }
 {
     let flow = prefix_of(alloc, s, inner.0)?.flow;
     let other = prefix_of(alloc, s, outer.0)?.flow;
@@ -140,7 +140,7 @@ fn as_differing(compared: Result<(), Stop>, place: Place) -> Result<(), Stop>
     match compared {
         Err(Stop::Broken(broken)) => {
             let number = broken.rule.number();
-            if number == 25 {
+            if number == rules::NOT_COMPATIBLE {
                 Err(stop(rules::INNER_DIFFERS, place))
             } else {
                 Err(Stop::Broken(broken))
@@ -162,7 +162,7 @@ fn compared_frames<'t>(
     requires outer { IsMember s.old outer.0.now × IsChild s.old outer.1 }
     requires inner { IsMember s.old inner.0.now × IsChild s.old inner.1 }
     ensures grows { Grows s.old s.new }
-    ensures value { Gives (λ _. tt) result (frames_compared (table_in s.old) place (component_frame (member_of (frames_of s.old) inner.entry.0.now) [] (child_seen (frames_of s.old) inner.entry.1)) (component_frame (member_of (frames_of s.old) outer.entry.0.now) [] (child_seen (frames_of s.old) outer.entry.1))) }
+    ensures value { Gives (λ _. tt) result (frames_compared (table_in s.old) place (component_frame (member_at s.old inner.entry.0.now) [] (child_at s.old inner.entry.1)) (component_frame (member_at s.old outer.entry.0.now) [] (child_at s.old outer.entry.1))) }
 {
     let (member, child) = outer;
     let (other, other_child) = inner;
@@ -182,7 +182,7 @@ fn is_matched_by<'t>(
     requires outer { IsMember s.old outer.0.now × IsChild s.old outer.1 }
     requires inner { IsMember s.old inner.0.now × IsChild s.old inner.1 }
     ensures grows { Grows s.old s.new }
-    ensures value { Gives (λ _. tt) result (matched_children (table_in s.old) (member_of (frames_of s.old) outer.entry.0.now) (child_seen (frames_of s.old) outer.entry.1) (member_of (frames_of s.old) inner.entry.0.now) (child_seen (frames_of s.old) inner.entry.1)) }
+    ensures value { Gives (λ _. tt) result (matched_children (table_in s.old) (member_at s.old outer.entry.0.now) (child_at s.old outer.entry.1) (member_at s.old inner.entry.0.now) (child_at s.old inner.entry.1)) }
 {
     let place = outer.0.declares.place;
     let alike = is_alike(alloc, s, (outer.0, &outer.1), (inner.0, &inner.1))?;
@@ -202,7 +202,7 @@ fn is_matched<'t>(
     requires outer { IsMember s.old outer.now }
     requires inner { IsMember s.old inner.now }
     ensures grows { Grows s.old s.new }
-    ensures value { Gives (λ _. tt) result (matches (table_in s.old) (member_of (frames_of s.old) outer.now) (member_of (frames_of s.old) inner.now)) }
+    ensures value { Gives (λ _. tt) result (matches (table_in s.old) (member_at s.old outer.now) (member_at s.old inner.now)) }
 {
     let child = child_of_member(alloc, s, outer, &[])?;
     let other = child_of_member(alloc, s, inner, &[])?;
@@ -219,7 +219,7 @@ fn inner_checked<'t>(
     requires outer { IsMember s.old outer.now }
     requires inner { IsMember s.old inner.now }
     ensures grows { Grows s.old s.new }
-    ensures value { Gives (λ _. tt) result (inner_asked (table_in s.old) (member_of (frames_of s.old) outer.now) (member_of (frames_of s.old) inner.now)) }
+    ensures value { Gives (λ _. tt) result (inner_asked (table_in s.old) (member_at s.old outer.now) (member_at s.old inner.now)) }
 {
     if has_condition(&inner.declares) {
         return Err(stop(rules::OUTSIDE_PROFILE, outer.declares.place));
@@ -236,7 +236,7 @@ pub(crate) fn outer_checked<'t>(
 ) -> Result<(), Stop>
     requires { IsMember s.old member.now }
     ensures grows { Grows s.old s.new }
-    ensures value { Gives (λ _. tt) result (checked_outer (table_in s.old) (member_of (frames_of s.old) member.now)) }
+    ensures value { Gives (λ _. tt) result (checked_outer (table_in s.old) (member_at s.old member.now)) }
 {
     let place = member.declares.place;
     let wrongly = is_wrongly_outer(alloc, s, member)?;

@@ -1,9 +1,9 @@
 //! The paths of the own modifiers of a declaration, which its constraining clause may not have too.
 ghost use Rattle.std.specs.Prelude.{◌≡◌, ◌++◌, List as Seq, if◌then◌else◌, [], flat_map, map, IfOk, OnOk};
 ghost use Rattle.mo_scope.specs.Frames.{Frame, class_of, sources_of};
-ghost use Rattle.mo_scope.specs.Rows.{place_eq, row_at, short_modifiers};
+ghost use Rattle.mo_scope.specs.Rows.{place_eq, short_modifiers};
 ghost use Rattle.mo_scope.specs.Sights.{origin_seen, row_seen, source_seen};
-ghost use Rattle.mo_scope.specs.Worlds.{IsFrame, frame_at, source_in, table_in};
+ghost use Rattle.mo_scope.specs.Worlds.{IsFrame, frame_at, source_in, table_in, row_of_frame};
 ghost use Rattle.mo_mods.specs.PathSights.{claim_seen};
 ghost use Rattle.mo_instance.specs.steps.FirstPass.{against};
 ghost use Rattle.mo_instance.specs.Passes.{argument_claims, is_own_of as origin_is_own, own_claims as claims_of_own, short_claims, source_claims};
@@ -154,7 +154,7 @@ fn put_class<'t>(
     made: &mut List<Claim<'t>>,
 ) -> Result<(), NoMemory>
     requires { IsFrame s.now frame.0 }
-    ensures { OnOk result (map claim_seen made.new ≡ map claim_seen made.old ++ short_claims place (row_at (table_in s.now) (class_of (frame_at s.now frame.0)))) }
+    ensures { OnOk result (map claim_seen made.new ≡ map claim_seen made.old ++ short_claims place (row_of_frame s.now frame.0)) }
 {
     match s.row(s.class_of(frame)) {
         Some(row) => put_short(alloc, place, row, made),

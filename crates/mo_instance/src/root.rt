@@ -5,8 +5,8 @@ ghost use Rattle.std.specs.Prelude.{◌≡◌, ◌<◌, ◌+◌, [], find, optio
 ghost use Rattle.mo_scope.specs.Entries.{number_of};
 ghost use Rattle.mo_scope.specs.Frames.{Top};
 ghost use Rattle.mo_scope.specs.Rows.{Row as RowOf, number_of_classes, row_at};
-ghost use Rattle.mo_scope.specs.Sights.{row_seen};
-ghost use Rattle.mo_scope.specs.Worlds.{Grows, IsFrame, IsFrameOrNone, frame_at, frame_or_top, frames_of, table_in};
+ghost use Rattle.mo_scope.specs.Sights.{row_seen, frame_at_or_top};
+ghost use Rattle.mo_scope.specs.Worlds.{Grows, IsFrame, IsFrameOrNone, frame_at, table_in};
 ghost use Rattle.mo_instance.specs.Instances.{enclosing, inside, is_placed as places, root_frame as frame_of_root};
 ghost use Rattle.mo_instance.specs.steps.Roots.{names_seen, path_of_home, row_if};
 
@@ -95,7 +95,7 @@ fn inside_frame(
 ) -> Result<Option<FrameId>, NoMemory>
     requires { IsFrameOrNone s.old (option_map number_of outer) }
     ensures grows { Grows s.old s.new }
-    ensures is { IfOk result (λ made. frame_or_top (frames_of s.new) (option_map number_of made) ≡ inside (frame_or_top (frames_of s.old) (option_map number_of outer)) (find (places (names_seen before.now) name.now) (table_in s.old))) }
+    ensures is { IfOk result (λ made. frame_at_or_top s.new made ≡ inside (frame_at_or_top s.old outer) (find (places (names_seen before.now) name.now) (table_in s.old))) }
     ensures exists { IfOk result (λ made. IsFrameOrNone s.new (option_map number_of made)) }
 {
     let found = placed_class(s, before, name)?;
@@ -115,7 +115,7 @@ fn enclosing_frame(
     path: &[&Text],
 ) -> Result<Option<FrameId>, NoMemory>
     ensures grows { Grows s.old s.new }
-    ensures is { IfOk result (λ outer. frame_or_top (frames_of s.new) (option_map number_of outer) ≡ enclosing (table_in s.old) Top [] (names_seen path.now)) }
+    ensures is { IfOk result (λ outer. frame_at_or_top s.new outer ≡ enclosing (table_in s.old) Top [] (names_seen path.now)) }
     ensures exists { IfOk result (λ outer. IsFrameOrNone s.new (option_map number_of outer)) }
 {
     let mut outer = None;

@@ -3,10 +3,11 @@
 
 ghost use Rattle.std.specs.Prelude.{◌≡◌, ◌++◌, ◌∷◌, [], drop, length, map, nat_eq, IfOk, OnOk};
 ghost use Rattle.std.specs.List.{list_any};
+ghost use Rattle.mo_scope.specs.Sights.{member_at};
 ghost use Rattle.mo_scope.specs.Outcome.{Gives};
 ghost use Rattle.mo_scope.specs.Places.{Every};
 ghost use Rattle.mo_scope.specs.Worlds.{Grows, frames_of, table_in};
-ghost use Rattle.mo_names.specs.Sights.{IsInherited, IsMember, inherited_seen, member_of};
+ghost use Rattle.mo_names.specs.Sights.{IsInherited, IsMember, inherited_seen};
 ghost use Rattle.mo_eval.specs.Keeping.{IsKept};
 ghost use Rattle.mo_instance.specs.Instances.{component_entered as component_added, deeper, element_entered as element_added, member_entered as member_added, parts_entered as parts_added};
 ghost use Rattle.mo_scope.specs.Trees.{instances_in};
@@ -80,7 +81,7 @@ fn element_entered<'t>(
     ensures grows { Grows s.old s.new }
     ensures kept { OnOk result (IsKept s.new work.new.reader) }
     ensures are { OnOk result (Every (IsEntered s.new) work.new.instances) }
-    ensures value { Gives (λ _. instances_in s.new work.new.instances) result (element_added (table_in s.old) (parts_added (table_in s.old) (deeper (table_in s.old) level.now.left)) (around_seen level.now.around) (member_of (frames_of s.old) member.now) dims.now index.now (instances_in s.old work.old.instances)) }
+    ensures value { Gives (λ _. instances_in s.new work.new.instances) result (element_added (table_in s.old) (parts_added (table_in s.old) (deeper (table_in s.old) level.now.left)) (around_seen level.now.around) (member_at s.old member.now) dims.now index.now (instances_in s.old work.old.instances)) }
 {
     let count = work.instances.len();
     let made = element_made(alloc, s, &level.around, member, dims, index, count)?;
@@ -106,7 +107,7 @@ fn elements_under<'t>(
     ensures grows { Grows s.old s.new }
     ensures kept { OnOk result (IsKept s.new work.new.reader) }
     ensures are { OnOk result (Every (IsEntered s.new) work.new.instances) }
-    ensures value { Gives (λ _. instances_in s.new work.new.instances) result (elements_added (table_in s.old) (parts_added (table_in s.old) (deeper (table_in s.old) level.now.left)) (around_seen level.now.around) (member_of (frames_of s.old) member.now) dims.now before.now (drop (length before.now) dims.now) (instances_in s.old work.old.instances)) }
+    ensures value { Gives (λ _. instances_in s.new work.new.instances) result (elements_added (table_in s.old) (parts_added (table_in s.old) (deeper (table_in s.old) level.now.left)) (around_seen level.now.around) (member_at s.old member.now) dims.now before.now (drop (length before.now) dims.now) (instances_in s.old work.old.instances)) }
 {
     let at = before.len();
     if at >= dims.len() {
@@ -135,7 +136,7 @@ fn component_entered<'t>(
     ensures grows { Grows s.old s.new }
     ensures kept { OnOk result (IsKept s.new work.new.reader) }
     ensures are { OnOk result (Every (IsEntered s.new) work.new.instances) }
-    ensures value { Gives (λ _. instances_in s.new work.new.instances) result (component_added (table_in s.old) (deeper (table_in s.old) level.now.left) (around_seen level.now.around) (member_of (frames_of s.old) member.now) (instances_in s.old work.old.instances)) }
+    ensures value { Gives (λ _. instances_in s.new work.new.instances) result (component_added (table_in s.old) (deeper (table_in s.old) level.now.left) (around_seen level.now.around) (member_at s.old member.now) (instances_in s.old work.old.instances)) }
 {
     let asked = component_asked(alloc, s, &mut work.reader, &level.around, member)?;
     let (around, dims) = asked;
@@ -167,7 +168,7 @@ fn member_entered<'t>(
     ensures grows { Grows s.old s.new }
     ensures kept { OnOk result (IsKept s.new work.new.reader) }
     ensures are { OnOk result (Every (IsEntered s.new) work.new.instances) }
-    ensures value { Gives (λ _. instances_in s.new work.new.instances) result (member_added (table_in s.old) (deeper (table_in s.old) level.now.left) (around_seen level.now.around) (member_of (frames_of s.old) member.now) (instances_in s.old work.old.instances)) }
+    ensures value { Gives (λ _. instances_in s.new work.new.instances) result (member_added (table_in s.old) (deeper (table_in s.old) level.now.left) (around_seen level.now.around) (member_at s.old member.now) (instances_in s.old work.old.instances)) }
 {
     let enters = is_entered(alloc, s, &mut work.reader, member)?;
     if enters {

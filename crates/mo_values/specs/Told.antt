@@ -6,7 +6,10 @@ use Rattle.std.specs.Prelude.{◌≡◌, ℕ, ◌-◌, List, Option, Some, None,
 use Rattle.mo_syntax.specs.Outcome.{Outcome}
 use Rattle.mo_values.specs.declared.halt.Halt.{Halt}
 use Rattle.mo_values.specs.declared.halt.Halt.TheVariants.{Broken as broken_by, NoMemory as no_memory, Unread}
+use Rattle.mo_flat.specs.declared.array.ArrayExpr.{ArrayExpr}
+use Rattle.mo_typing.specs.Indices.{Index}
 use Rattle.mo_values.specs.Scalars.{Known}
+use Rattle.mo_values.specs.Walk.{known_by}
 
 -- what is read of each variable, none where it is not read yet
 abbrev pub Reads : Type 0
@@ -35,3 +38,7 @@ IsAnswer read (Err (Unread n)) told = IsUnread read n
 -- The answer is this outcome, or a variable that is not read yet; want of memory says nothing.
 pub record Tells {T : Type 0} (read : Reads) (answer : Result T Halt) (told : Outcome T) : Type 0 where
   pub answers : IsAnswer read answer told
+
+-- What is told of an element of an expression, whatever the variables have of which so much is read.
+abbrev pub TellsElement : Reads → Result Known Halt → ArrayExpr → Index → Type 0
+TellsElement read answer e index = (variable : ℕ → Outcome Known) → AreRead read variable → Tells read answer (known_by variable e index)

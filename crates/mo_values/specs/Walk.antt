@@ -2,7 +2,7 @@
 --
 -- Operands are read from left to right, before their operation, and only the elements that the index needs. An operation acts on what
 -- they give; Integer arithmetic that leaves 64 bits breaks rule 30 at the operation.
-use Rattle.std.specs.Prelude.{ℕ, ◌-◌, ℤ, pos, Bool, true, false, ◌&&◌, ◌||◌, List, [], ◌∷◌, ◌++◌, map, fold, length, take, drop, Option, Some, None, Ok, Err, if◌then◌else◌, nat_eq, slice_get}
+use Rattle.std.specs.Prelude.{◌≡◌, ℕ, ◌-◌, ℤ, pos, Bool, true, false, ◌&&◌, ◌||◌, List, [], ◌∷◌, ◌++◌, map, fold, length, take, drop, Option, Some, None, Ok, Err, if◌then◌else◌, nat_eq, slice_get}
 use Rattle.mo_syntax.specs.Outcome.{Outcome, and_then}
 use Rattle.mo_syntax.specs.declared.meaning.Kind.{Kind}
 use Rattle.mo_syntax.specs.declared.meaning.Kind.TheVariants.{Real}
@@ -198,6 +198,10 @@ known_part e index = and_then (e.node.1 index) (settled e.place (kind_or_real (k
 -- what is known of the element of an expression at an index
 abbrev pub known_by : (ℕ → Outcome Known) → ArrayExpr → Index → Outcome Known
 known_by variable = para-ArrayExpr (Index → Outcome Reckoned) (Index → Outcome Known) (result_node variable) known_part
+
+-- the same is known of two elements, whatever is known of variables
+abbrev pub AreKnownAlike : ArrayExpr → Index → ArrayExpr → Index → Type 0
+AreKnownAlike e index other rest = (variable : ℕ → Outcome Known) → known_by variable e index ≡ known_by variable other rest
 
 -- the element of a node
 abbrev pub result_of_node : (ℕ → Outcome Known) → ArrayNode → Index → Outcome Reckoned

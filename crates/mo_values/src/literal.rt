@@ -3,7 +3,7 @@ ghost use Rattle.std.specs.Prelude.{◌≡◌, ℕ, IfSome, Ok, map};
 ghost use Rattle.mo_syntax.specs.Outcome.{Outcome};
 ghost use Rattle.mo_typing.specs.Kinds.{kind_of};
 ghost use Rattle.mo_values.specs.Scalars.{Known, of_known};
-ghost use Rattle.mo_values.specs.Walk.{element_among, known_by, part_of, read_as};
+ghost use Rattle.mo_values.specs.Walk.{AreKnownAlike, element_among, known_by, part_of, read_as};
 
 use crate::operations::has_values;
 use mo_flat::{ArrayExpr, ArrayNode};
@@ -29,7 +29,7 @@ fn part_among<'a>(parts: &'a [ArrayExpr], index: &'a [u32]) -> Option<(&'a Array
 /// its part, so that the kind of the literal is not asked for each of its elements; else the expression itself.
 pub fn part_at<'a>(e: &'a ArrayExpr, kind: Kind, index: &'a [u32]) -> (&'a ArrayExpr, &'a [u32])
     requires { kind_of e.now ≡ Ok kind }
-    ensures { (variable : ℕ → Outcome Known) → known_by variable result.0.now result.1.now ≡ known_by variable e.now index.now }
+    ensures { AreKnownAlike result.0.now result.1.now e.now index.now }
 {
     if !has_values(kind) {
         return (e, index);

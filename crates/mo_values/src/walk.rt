@@ -7,7 +7,7 @@ ghost use Rattle.mo_values.specs.declared.value.Reckoned.{Reckoned};
 ghost use Rattle.mo_values.specs.declared.value.Reckoned.TheVariants.{Unknown};
 ghost use Rattle.mo_values.specs.Scalars.{Known, of_known, read_all, chained};
 ghost use Rattle.mo_values.specs.Walk.{known_by, result_of_node, part_of, signed_of, branch_of, at, number, sum_at, branch_reads, read_as, result_at, crossed, crossed_at, call, call_of_one, call_of_two, element_among, sized_element, undecided_behind};
-ghost use Rattle.mo_values.specs.Told.{AreRead, Tells};
+ghost use Rattle.mo_values.specs.Told.{AreRead, Tells, TellsElement};
 ghost use Rattle.mo_values.specs.steps.Chains.{chain_before, begun_by, behind_last, acting, inner_term, inner_sum, gathered, product_of_two};
 
 use crate::answers::{
@@ -32,7 +32,7 @@ use std::alloc::Global;
 /// not read yet halts it, and so does want of memory.
 #[cycle(walk)]
 pub fn known(alloc: Global, e: &ArrayExpr, index: &[u32], read: &[Told]) -> Answer
-    ensures { (variable : ℕ → Outcome Known) → AreRead read.now variable → Tells read.now result (known_by variable e.now index.now) }
+    ensures { TellsElement read.now result e.now index.now }
 {
     let given = result_of_node(alloc, e.node.get(), index, read);
     settle(e.place, kind_or_real(e), given)

@@ -1,12 +1,13 @@
 -- What the counted equations of the code stand for.
-use Rattle.std.specs.Prelude.{◌≡◌, ℕ, ◌+◌, ◌≤◌, ◌<◌, List, length, sum_by, Option, Some, None}
+use Rattle.std.specs.Prelude.{◌≡◌, ℕ, ◌+◌, ◌≤◌, ◌<◌, List, [], ◌∷◌, length, sum_by, Option, Some, None}
 use Rattle.mo_syntax.specs.declared.place.Place.{Place}
+use Rattle.mo_flat.specs.declared.connect.Connect.{Connect}
 use Rattle.mo_flat.specs.declared.expr.FlatExpr.{FlatExpr}
 use Rattle.mo_flat.specs.declared.model.FlatAssert.{FlatAssert}
 use Rattle.mo_flat.specs.declared.model.FlatEquation.{FlatEquation}
 use Rattle.mo_equations.specs.declared.flat.Flat.{Flat}
 use Rattle.mo_equations.specs.declared.made.Made.{Made as MadeAt}
-use Rattle.mo_equations.specs.Gathering.{Made}
+use Rattle.mo_equations.specs.Gathering.{Made, beside, made_connects, made_equations}
 use Rattle.mo_equations.specs.Size.{most_nodes, nodes_of_assert, nodes_of_equation}
 use Rattle.mo_equations.specs.steps.Flats.{IsFlat, capped}
 
@@ -33,6 +34,19 @@ pub record IsSettled (old new : MadeAt) : Type 0 where
   pub connects : new.connects ≡ old.connects
   pub equations : old.nodes ≤ most_nodes → new.equations ≡ old.equations
   pub asserts : old.nodes ≤ most_nodes → new.asserts ≡ old.asserts
+
+-- an equation of these sides stands behind what was made
+abbrev pub HasEquation : (old new : MadeAt) (left right : Flat) → Place → Type 0
+HasEquation old new left right place =
+    (made : Made) (l r : FlatExpr) → IsMade old made → IsFlat left l → IsFlat right r → IsMade new (beside made (made_equations (record { left = l; right = r; place = place } ∷ [])))
+
+-- a connect stands behind what was made
+abbrev pub HasConnect : (old new : MadeAt) → Connect → Type 0
+HasConnect old new connect = (made : Made) → IsMade old made → IsMade new (beside made (made_connects (connect ∷ [])))
+
+-- what comes of other equations stands behind what was made
+abbrev pub HasAll : (old new more : MadeAt) → Type 0
+HasAll old new more = (made others : Made) → IsMade old made → IsMade more others → IsMade new (beside made others)
 
 -- ---- parts that are built
 

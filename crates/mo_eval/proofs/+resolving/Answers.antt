@@ -834,3 +834,312 @@ references::elements_selected-returns-clause-exact = references.elements_selecte
 
 pub selections::selections-selection_at-requires : goal.selections::selections-selection_at-requires
 selections::selections-selection_at-requires = selections.selections-selection_at-requires
+
+pub alone::end_of-returns-in_err-whole_scalar-clause-grows : goal.alone::end_of-returns-in_err-whole_scalar-clause-grows
+alone::end_of-returns-in_err-whole_scalar-clause-grows = alone.end_of-returns-in_err-whole_scalar-clause-grows
+
+pub alone::truth_of-returns-in_err-truth_scalar-clause-grows : goal.alone::truth_of-returns-in_err-truth_scalar-clause-grows
+alone::truth_of-returns-in_err-truth_scalar-clause-grows = alone.truth_of-returns-in_err-truth_scalar-clause-grows
+
+pub alone::read_end-returns-clause-grows : goal.alone::read_end-returns-clause-grows
+alone::read_end-returns-clause-grows = alone.read_end-returns-clause-grows
+
+pub alone::read_size-returns-clause-grows : goal.alone::read_size-returns-clause-grows
+alone::read_size-returns-clause-grows = alone.read_size-returns-clause-grows
+
+pub alone::read_condition-returns-clause-grows : goal.alone::read_condition-returns-clause-grows
+alone::read_condition-returns-clause-grows = alone.read_condition-returns-clause-grows
+
+pub below::below-returns-in_default-clause-grows : goal.below::below-returns-in_default-clause-grows
+below::below-returns-in_default-clause-grows = below.below-returns-in_default-clause-grows
+
+pub below::below-returns-clause-grows : goal.below::below-returns-clause-grows
+below::below-returns-clause-grows = below.below-returns-clause-grows
+
+pub below::below_each-returns-in_err-part-clause-grows : goal.below::below_each-returns-in_err-part-clause-grows
+below::below_each-returns-in_err-part-clause-grows = below.below_each-returns-in_err-part-clause-grows
+
+pub below::below_each-returns-in_err-below-clause-grows : goal.below::below_each-returns-in_err-below-clause-grows
+below::below_each-returns-in_err-below-clause-grows = below.below_each-returns-in_err-below-clause-grows
+
+pub calls::arguments-returns-in_err-one-clause-grows : goal.calls::arguments-returns-in_err-one-clause-grows
+calls::arguments-returns-in_err-one-clause-grows = calls.arguments-returns-in_err-one-clause-grows
+
+pub calls::arguments-returns-in_err-push-clause-grows : goal.calls::arguments-returns-in_err-push-clause-grows
+calls::arguments-returns-in_err-push-clause-grows = calls.arguments-returns-in_err-push-clause-grows
+
+pub calls::sizes-returns-in_err-one-clause-grows : goal.calls::sizes-returns-in_err-one-clause-grows
+calls::sizes-returns-in_err-one-clause-grows = calls.sizes-returns-in_err-one-clause-grows
+
+pub calls::sizes-returns-in_err-push-clause-grows : goal.calls::sizes-returns-in_err-push-clause-grows
+calls::sizes-returns-in_err-push-clause-grows = calls.sizes-returns-in_err-push-clause-grows
+
+pub calls::number-returns-in_default-clause-grows : goal.calls::number-returns-in_default-clause-grows
+calls::number-returns-in_default-clause-grows = calls.number-returns-in_default-clause-grows
+
+pub calls::number-returns-in_err-arguments-in-Some-split-clause-grows : goal.calls::number-returns-in_err-arguments-in-Some-split-clause-grows
+calls::number-returns-in_err-arguments-in-Some-split-clause-grows = calls.number-returns-in_err-arguments-in-Some-split-clause-grows
+
+pub calls::number-returns-in_ok-arguments-in-Some-split-clause-grows : goal.calls::number-returns-in_ok-arguments-in-Some-split-clause-grows
+calls::number-returns-in_ok-arguments-in-Some-split-clause-grows = calls.number-returns-in_ok-arguments-in-Some-split-clause-grows
+
+pub calls::size-returns-in_default-clause-grows : goal.calls::size-returns-in_default-clause-grows
+calls::size-returns-in_default-clause-grows = calls.size-returns-in_default-clause-grows
+
+pub calls::size-returns-in_err-at-clause-grows : goal.calls::size-returns-in_err-at-clause-grows
+calls::size-returns-in_err-at-clause-grows = calls.size-returns-in_err-at-clause-grows
+
+pub calls::size-returns-clause-grows : goal.calls::size-returns-clause-grows
+calls::size-returns-clause-grows = calls.size-returns-clause-grows
+
+pub calls::fill-returns-in_default-clause-grows : goal.calls::fill-returns-in_default-clause-grows
+calls::fill-returns-in_default-clause-grows = calls.fill-returns-in_default-clause-grows
+
+pub calls::fill-returns-in_err-numbers-clause-grows : goal.calls::fill-returns-in_err-numbers-clause-grows
+calls::fill-returns-in_err-numbers-clause-grows = calls.fill-returns-in_err-numbers-clause-grows
+
+pub calls::fill-returns-clause-grows : goal.calls::fill-returns-clause-grows
+calls::fill-returns-clause-grows = calls.fill-returns-clause-grows
+
+pub calls::call-returns-else-not-are_plain-clause-grows : goal.calls::call-returns-else-not-are_plain-clause-grows
+calls::call-returns-else-not-are_plain-clause-grows = calls.call-returns-else-not-are_plain-clause-grows
+
+pub calls::call-returns-then-not-are_plain-2-clause-grows : goal.calls::call-returns-then-not-are_plain-2-clause-grows
+calls::call-returns-then-not-are_plain-2-clause-grows = calls.call-returns-then-not-are_plain-2-clause-grows
+
+pub calls::call-returns-in-Initial-clause-grows : goal.calls::call-returns-in-Initial-clause-grows
+calls::call-returns-in-Initial-clause-grows = calls.call-returns-in-Initial-clause-grows
+
+pub calls::call-returns-in-Pure-clause-grows : goal.calls::call-returns-in-Pure-clause-grows
+calls::call-returns-in-Pure-clause-grows = calls.call-returns-in-Pure-clause-grows
+
+pub choice::read_step-returns-in-None-clause-grows : goal.choice::read_step-returns-in-None-clause-grows
+choice::read_step-returns-in-None-clause-grows = choice.read_step-returns-in-None-clause-grows
+
+pub choice::range-returns-in_err-b-clause-grows : goal.choice::range-returns-in_err-b-clause-grows
+choice::range-returns-in_err-b-clause-grows = choice.range-returns-in_err-b-clause-grows
+
+pub choice::range-returns-in_err-c-clause-grows : goal.choice::range-returns-in_err-c-clause-grows
+choice::range-returns-in_err-c-clause-grows = choice.range-returns-in_err-c-clause-grows
+
+pub choice::range-returns-clause-grows : goal.choice::range-returns-clause-grows
+choice::range-returns-clause-grows = choice.range-returns-clause-grows
+
+pub choice::made_branch-returns-in-Some-true-clause-grows : goal.choice::made_branch-returns-in-Some-true-clause-grows
+choice::made_branch-returns-in-Some-true-clause-grows = choice.made_branch-returns-in-Some-true-clause-grows
+
+pub choice::made_branch-returns-in-None-clause-grows : goal.choice::made_branch-returns-in-None-clause-grows
+choice::made_branch-returns-in-None-clause-grows = choice.made_branch-returns-in-None-clause-grows
+
+pub choice::choice-returns-in_err-step-clause-grows : goal.choice::choice-returns-in_err-step-clause-grows
+choice::choice-returns-in_err-step-clause-grows = choice.choice-returns-in_err-step-clause-grows
+
+pub choice::choice-returns-in_err-value-clause-grows : goal.choice::choice-returns-in_err-value-clause-grows
+choice::choice-returns-in_err-value-clause-grows = choice.choice-returns-in_err-value-clause-grows
+
+pub choice::choice-returns-in-Some-clause-grows : goal.choice::choice-returns-in-Some-clause-grows
+choice::choice-returns-in-Some-clause-grows = choice.choice-returns-in-Some-clause-grows
+
+pub choice::choice-returns-in_err-rest-clause-grows : goal.choice::choice-returns-in_err-rest-clause-grows
+choice::choice-returns-in_err-rest-clause-grows = choice.choice-returns-in_err-rest-clause-grows
+
+pub choice::choice-returns-clause-grows : goal.choice::choice-returns-clause-grows
+choice::choice-returns-clause-grows = choice.choice-returns-clause-grows
+
+pub components::condition_in-returns-in_err-known-clause-grows : goal.components::condition_in-returns-in_err-known-clause-grows
+components::condition_in-returns-in_err-known-clause-grows = components.condition_in-returns-in_err-known-clause-grows
+
+pub components::condition_in-returns-clause-grows : goal.components::condition_in-returns-clause-grows
+components::condition_in-returns-clause-grows = components.condition_in-returns-clause-grows
+
+pub components::is_there-returns-in-Class-clause-grows : goal.components::is_there-returns-in-Class-clause-grows
+components::is_there-returns-in-Class-clause-grows = components.is_there-returns-in-Class-clause-grows
+
+pub components::is_there-returns-in-None-clause-grows : goal.components::is_there-returns-in-None-clause-grows
+components::is_there-returns-in-None-clause-grows = components.is_there-returns-in-None-clause-grows
+
+pub components::is_there-returns-in-Some-there_kept-clause-grows : goal.components::is_there-returns-in-Some-there_kept-clause-grows
+components::is_there-returns-in-Some-there_kept-clause-grows = components.is_there-returns-in-Some-there_kept-clause-grows
+
+pub components::bound_value-returns-in_err-fits-clause-grows : goal.components::bound_value-returns-in_err-fits-clause-grows
+components::bound_value-returns-in_err-fits-clause-grows = components.bound_value-returns-in_err-fits-clause-grows
+
+pub components::resolved_binding-returns-in-Some-clause-grows : goal.components::resolved_binding-returns-in-Some-clause-grows
+components::resolved_binding-returns-in-Some-clause-grows = components.resolved_binding-returns-in-Some-clause-grows
+
+pub components::value_in-returns-in_err-known-clause-grows : goal.components::value_in-returns-in_err-known-clause-grows
+components::value_in-returns-in_err-known-clause-grows = components.value_in-returns-in_err-known-clause-grows
+
+pub components::value_in-returns-in_err-keep_binding-clause-grows : goal.components::value_in-returns-in_err-keep_binding-clause-grows
+components::value_in-returns-in_err-keep_binding-clause-grows = components.value_in-returns-in_err-keep_binding-clause-grows
+
+pub components::value_in-returns-clause-grows : goal.components::value_in-returns-clause-grows
+components::value_in-returns-clause-grows = components.value_in-returns-clause-grows
+
+pub components::element_value-returns-clause-grows : goal.components::element_value-returns-clause-grows
+components::element_value-returns-clause-grows = components.element_value-returns-clause-grows
+
+pub dimensions::written_dim-returns-clause-grows : goal.dimensions::written_dim-returns-clause-grows
+dimensions::written_dim-returns-clause-grows = dimensions.written_dim-returns-clause-grows
+
+pub dimensions::binding_dims-returns-clause-grows : goal.dimensions::binding_dims-returns-clause-grows
+dimensions::binding_dims-returns-clause-grows = dimensions.binding_dims-returns-clause-grows
+
+pub dimensions::put_dims-returns-in_err-n-clause-grows : goal.dimensions::put_dims-returns-in_err-n-clause-grows
+dimensions::put_dims-returns-in_err-n-clause-grows = dimensions.put_dims-returns-in_err-n-clause-grows
+
+pub dimensions::put_dims-returns-in_err-push-clause-grows : goal.dimensions::put_dims-returns-in_err-push-clause-grows
+dimensions::put_dims-returns-in_err-push-clause-grows = dimensions.put_dims-returns-in_err-push-clause-grows
+
+pub dimensions::all_dims-returns-in_err-put_dims-clause-grows : goal.dimensions::all_dims-returns-in_err-put_dims-clause-grows
+dimensions::all_dims-returns-in_err-put_dims-clause-grows = dimensions.all_dims-returns-in_err-put_dims-clause-grows
+
+pub dimensions::dims-returns-in_err-known-clause-grows : goal.dimensions::dims-returns-in_err-known-clause-grows
+dimensions::dims-returns-in_err-known-clause-grows = dimensions.dims-returns-in_err-known-clause-grows
+
+pub dimensions::dims-returns-in-Some-clause-grows : goal.dimensions::dims-returns-in-Some-clause-grows
+dimensions::dims-returns-in-Some-clause-grows = dimensions.dims-returns-in-Some-clause-grows
+
+pub dimensions::dims-returns-in_err-dims-clause-grows : goal.dimensions::dims-returns-in_err-dims-clause-grows
+dimensions::dims-returns-in_err-dims-clause-grows = dimensions.dims-returns-in_err-dims-clause-grows
+
+pub dimensions::dims-returns-in_err-keep_dims-clause-grows : goal.dimensions::dims-returns-in_err-keep_dims-clause-grows
+dimensions::dims-returns-in_err-keep_dims-clause-grows = dimensions.dims-returns-in_err-keep_dims-clause-grows
+
+pub dimensions::dims-returns-clause-grows : goal.dimensions::dims-returns-clause-grows
+dimensions::dims-returns-clause-grows = dimensions.dims-returns-clause-grows
+
+pub division::value_of-returns-in_default-clause-grows : goal.division::value_of-returns-in_default-clause-grows
+division::value_of-returns-in_default-clause-grows = division.value_of-returns-in_default-clause-grows
+
+pub division::value_of-returns-in_err-n-clause-grows : goal.division::value_of-returns-in_err-n-clause-grows
+division::value_of-returns-in_err-n-clause-grows = division.value_of-returns-in_err-n-clause-grows
+
+pub division::value_of-returns-clause-grows : goal.division::value_of-returns-clause-grows
+division::value_of-returns-clause-grows = division.value_of-returns-clause-grows
+
+pub division::in_flat-returns-in_err-known-clause-grows : goal.division::in_flat-returns-in_err-known-clause-grows
+division::in_flat-returns-in_err-known-clause-grows = division.in_flat-returns-in_err-known-clause-grows
+
+pub division::in_flat-returns-clause-grows : goal.division::in_flat-returns-clause-grows
+division::in_flat-returns-clause-grows = division.in_flat-returns-clause-grows
+
+pub references::components-returns-then-site-eq0-clause-grows : goal.references::components-returns-then-site-eq0-clause-grows
+references::components-returns-then-site-eq0-clause-grows = references.components-returns-then-site-eq0-clause-grows
+
+pub references::components-returns-in_err-elements-clause-grows : goal.references::components-returns-in_err-elements-clause-grows
+references::components-returns-in_err-elements-clause-grows = references.components-returns-in_err-elements-clause-grows
+
+pub references::name-returns-in-Components-clause-grows : goal.references::name-returns-in-Components-clause-grows
+references::name-returns-in-Components-clause-grows = references.name-returns-in-Components-clause-grows
+
+pub resolve::two-returns-in_err-second-clause-grows : goal.resolve::two-returns-in_err-second-clause-grows
+resolve::two-returns-in_err-second-clause-grows = resolve.two-returns-in_err-second-clause-grows
+
+pub resolve::two-returns-clause-grows : goal.resolve::two-returns-clause-grows
+resolve::two-returns-clause-grows = resolve.two-returns-clause-grows
+
+pub resolve::operands-returns-in_err-one-clause-grows : goal.resolve::operands-returns-in_err-one-clause-grows
+resolve::operands-returns-in_err-one-clause-grows = resolve.operands-returns-in_err-one-clause-grows
+
+pub resolve::operands-returns-in_err-push-clause-grows : goal.resolve::operands-returns-in_err-push-clause-grows
+resolve::operands-returns-in_err-push-clause-grows = resolve.operands-returns-in_err-push-clause-grows
+
+pub resolve::terms-returns-in_err-one-clause-grows : goal.resolve::terms-returns-in_err-one-clause-grows
+resolve::terms-returns-in_err-one-clause-grows = resolve.terms-returns-in_err-one-clause-grows
+
+pub resolve::terms-returns-in_err-push-clause-grows : goal.resolve::terms-returns-in_err-push-clause-grows
+resolve::terms-returns-in_err-push-clause-grows = resolve.terms-returns-in_err-push-clause-grows
+
+pub resolve::factors-returns-in_err-one-clause-grows : goal.resolve::factors-returns-in_err-one-clause-grows
+resolve::factors-returns-in_err-one-clause-grows = resolve.factors-returns-in_err-one-clause-grows
+
+pub resolve::factors-returns-in_err-push-clause-grows : goal.resolve::factors-returns-in_err-push-clause-grows
+resolve::factors-returns-in_err-push-clause-grows = resolve.factors-returns-in_err-push-clause-grows
+
+pub resolve::resolve_node-returns-in-Whole-clause-grows : goal.resolve::resolve_node-returns-in-Whole-clause-grows
+resolve::resolve_node-returns-in-Whole-clause-grows = resolve.resolve_node-returns-in-Whole-clause-grows
+
+pub resolve::resolve_node-returns-in-Decimal-clause-grows : goal.resolve::resolve_node-returns-in-Decimal-clause-grows
+resolve::resolve_node-returns-in-Decimal-clause-grows = resolve.resolve_node-returns-in-Decimal-clause-grows
+
+pub resolve::resolve_node-returns-in-Str-clause-grows : goal.resolve::resolve_node-returns-in-Str-clause-grows
+resolve::resolve_node-returns-in-Str-clause-grows = resolve.resolve_node-returns-in-Str-clause-grows
+
+pub resolve::resolve_node-returns-in-Truth-clause-grows : goal.resolve::resolve_node-returns-in-Truth-clause-grows
+resolve::resolve_node-returns-in-Truth-clause-grows = resolve.resolve_node-returns-in-Truth-clause-grows
+
+pub resolve::resolve_node-returns-in-EndMark-clause-grows : goal.resolve::resolve_node-returns-in-EndMark-clause-grows
+resolve::resolve_node-returns-in-EndMark-clause-grows = resolve.resolve_node-returns-in-EndMark-clause-grows
+
+pub resolve::resolve_node-returns-in-Tuple-clause-grows : goal.resolve::resolve_node-returns-in-Tuple-clause-grows
+resolve::resolve_node-returns-in-Tuple-clause-grows = resolve.resolve_node-returns-in-Tuple-clause-grows
+
+pub resolve::resolve_node-returns-in-ArrayFor-clause-grows : goal.resolve::resolve_node-returns-in-ArrayFor-clause-grows
+resolve::resolve_node-returns-in-ArrayFor-clause-grows = resolve.resolve_node-returns-in-ArrayFor-clause-grows
+
+pub resolve::resolve_node-returns-in-Matrix-clause-grows : goal.resolve::resolve_node-returns-in-Matrix-clause-grows
+resolve::resolve_node-returns-in-Matrix-clause-grows = resolve.resolve_node-returns-in-Matrix-clause-grows
+
+pub selections::selection_at-returns-in_err-subs-clause-grows : goal.selections::selection_at-returns-in_err-subs-clause-grows
+selections::selection_at-returns-in_err-subs-clause-grows = selections.selection_at-returns-in_err-subs-clause-grows
+
+pub selections::selection_at-returns-clause-grows : goal.selections::selection_at-returns-clause-grows
+selections::selection_at-returns-clause-grows = selections.selection_at-returns-clause-grows
+
+pub selections::selections-returns-in_err-selection-clause-grows : goal.selections::selections-returns-in_err-selection-clause-grows
+selections::selections-returns-in_err-selection-clause-grows = selections.selections-returns-in_err-selection-clause-grows
+
+pub selections::selections-returns-in_err-member-clause-grows : goal.selections::selections-returns-in_err-member-clause-grows
+selections::selections-returns-in_err-member-clause-grows = selections.selections-returns-in_err-member-clause-grows
+
+pub selections::selections-returns-in_err-push-clause-grows : goal.selections::selections-returns-in_err-push-clause-grows
+selections::selections-returns-in_err-push-clause-grows = selections.selections-returns-in_err-push-clause-grows
+
+pub subscripts::numbers_of-returns-in_err-reads-clause-grows : goal.subscripts::numbers_of-returns-in_err-reads-clause-grows
+subscripts::numbers_of-returns-in_err-reads-clause-grows = subscripts.numbers_of-returns-in_err-reads-clause-grows
+
+pub subscripts::numbers_of-returns-in_err-known-clause-grows : goal.subscripts::numbers_of-returns-in_err-known-clause-grows
+subscripts::numbers_of-returns-in_err-known-clause-grows = subscripts.numbers_of-returns-in_err-known-clause-grows
+
+pub subscripts::numbers_of-returns-in_err-n-clause-grows : goal.subscripts::numbers_of-returns-in_err-n-clause-grows
+subscripts::numbers_of-returns-in_err-n-clause-grows = subscripts.numbers_of-returns-in_err-n-clause-grows
+
+pub subscripts::numbers_of-returns-in_err-push-clause-grows : goal.subscripts::numbers_of-returns-in_err-push-clause-grows
+subscripts::numbers_of-returns-in_err-push-clause-grows = subscripts.numbers_of-returns-in_err-push-clause-grows
+
+pub subscripts::subscript_in-returns-in_err-dims-clause-grows : goal.subscripts::subscript_in-returns-in_err-dims-clause-grows
+subscripts::subscript_in-returns-in_err-dims-clause-grows = subscripts.subscript_in-returns-in_err-dims-clause-grows
+
+pub subscripts::read_subscript-returns-in_default-clause-grows : goal.subscripts::read_subscript-returns-in_default-clause-grows
+subscripts::read_subscript-returns-in_default-clause-grows = subscripts.read_subscript-returns-in_default-clause-grows
+
+pub subscripts::read_subscript-returns-clause-grows : goal.subscripts::read_subscript-returns-clause-grows
+subscripts::read_subscript-returns-clause-grows = subscripts.read_subscript-returns-clause-grows
+
+pub subscripts::subscript_at-returns-in-None-clause-grows : goal.subscripts::subscript_at-returns-in-None-clause-grows
+subscripts::subscript_at-returns-in-None-clause-grows = subscripts.subscript_at-returns-in-None-clause-grows
+
+pub subscripts::read_subscripts-returns-in_err-sub-clause-grows : goal.subscripts::read_subscripts-returns-in_err-sub-clause-grows
+subscripts::read_subscripts-returns-in_err-sub-clause-grows = subscripts.read_subscripts-returns-in_err-sub-clause-grows
+
+pub subscripts::read_subscripts-returns-in_err-push-clause-grows : goal.subscripts::read_subscripts-returns-in_err-push-clause-grows
+subscripts::read_subscripts-returns-in_err-push-clause-grows = subscripts.read_subscripts-returns-in_err-push-clause-grows
+
+pub variables::element_known-returns-then-not-is_read-clause-grows : goal.variables::element_known-returns-then-not-is_read-clause-grows
+variables::element_known-returns-then-not-is_read-clause-grows = variables.element_known-returns-then-not-is_read-clause-grows
+
+pub variables::element_known-returns-then-left-eq0-clause-grows : goal.variables::element_known-returns-then-left-eq0-clause-grows
+variables::element_known-returns-then-left-eq0-clause-grows = variables.element_known-returns-then-left-eq0-clause-grows
+
+pub variables::element_known-returns-in-Some-clause-grows : goal.variables::element_known-returns-in-Some-clause-grows
+variables::element_known-returns-in-Some-clause-grows = variables.element_known-returns-in-Some-clause-grows
+
+pub variables::variable_known-returns-in-Some-Division-clause-grows : goal.variables::variable_known-returns-in-Some-Division-clause-grows
+variables::variable_known-returns-in-Some-Division-clause-grows = variables.variable_known-returns-in-Some-Division-clause-grows
+
+pub variables::variable_known-returns-in-None-clause-grows : goal.variables::variable_known-returns-in-None-clause-grows
+variables::variable_known-returns-in-None-clause-grows = variables.variable_known-returns-in-None-clause-grows
+
+pub variables::known_in-returns-in_err-reads-clause-grows : goal.variables::known_in-returns-in_err-reads-clause-grows
+variables::known_in-returns-in_err-reads-clause-grows = variables.known_in-returns-in_err-reads-clause-grows

@@ -101,7 +101,7 @@ behind_values ys (Err b) = Err b
 
 -- what comes of the files that are left comes of all files, behind what was gathered
 abbrev pub More : {A B : Type 0} → (ℕ → A → B → Type 0) → (ℕ → A → Broken → Type 0) → List A → List B → ℕ → List A → Type 0
-More {A} {B} gives breaks all gathered k rest = (r : Result (List B) Broken) → Each gives breaks k rest r → Each gives breaks FILE_TOO_LONG all (behind_values gathered r)
+More {A} {B} gives breaks all gathered k rest = (r : Result (List B) Broken) → Each gives breaks k rest r → Each gives breaks 1 all (behind_values gathered r)
 
 abbrev pub MoreFiles : Contents → List (List ℕ) → List (List ℕ) → ℕ → ℕ → List (List ℕ) → Type 0
 MoreFiles contents names gathered k left rest =

@@ -10,6 +10,7 @@ use Rattle.mo_syntax.specs.declared.expr.PartOf.{PartOf}
 use Rattle.mo_syntax.specs.declared.expr.ReferenceOf.{ReferenceOf}
 use Rattle.mo_syntax.specs.declared.meaning.Kind.TheVariants.{Whole as whole_kind}
 use Rattle.mo_syntax.specs.declared.place.Place.{Place}
+use Rattle.mo_syntax.specs.declared.rules.TheConstants.{OUTSIDE_PROFILE, WRONG_TYPE}
 use Rattle.mo_tables.specs.declared.functions.TheConstants.{DIV, FILL, IDENTITY, MOD, NDIMS, ONES, REM, SIZE, ZEROS}
 use Rattle.mo_flat.specs.declared.array.ArrayExpr.{ArrayExpr}
 use Rattle.mo_flat.specs.declared.array.ArrayNode.TheVariants.{Vars, Call, Size, Sized}
@@ -115,7 +116,7 @@ module _ (P : Written → Type 0) (descends : Descends P) (layers : LayersStand 
   -- ---- functions of arrays
 
   size_makes : (context : Context) (place : Place) → P (At place) → (arguments : List Part) → Every (PartStands P) arguments → Makes P (ArrayNodeStands P) (made_size read context place arguments)
-  size_makes context place hp [] h = broken_makes P (ArrayNodeStands P) 33 place hp
+  size_makes context place hp [] h = broken_makes P (ArrayNodeStands P) WRONG_TYPE place hp
   size_makes context place hp (array ∷ []) h =
       then_makes P (ArrayStands P) (ArrayNodeStands P) (array.1 (argument_of_size context)) _ (h.0.1 (argument_of_size context)) (λ a ha. makes P (ArrayNodeStands P) (Size a None) (size_stands P a None ha tt))
   size_makes context place hp (array ∷ number ∷ []) h =
@@ -125,26 +126,26 @@ module _ (P : Written → Type 0) (descends : Descends P) (layers : LayersStand 
   size_makes context place hp (array ∷ number ∷ other ∷ others) h =
       then_makes P (ArrayStands P) (ArrayNodeStands P) (array.1 (argument_of_size context)) _ (h.0.1 (argument_of_size context)) (λ a ha.
       then_makes P (SizeStands P) (ArrayNodeStands P) (make_from (read_size read context number)) _ (from_makes P (SizeStands P) (read_size read context number) (read_size_answers context number h.1.0)) (λ n hn.
-      then_makes P (Every (ArrayStands P)) (ArrayNodeStands P) (make_arguments context (other ∷ others)) _ (arguments_make context (other ∷ others) h.1.1) (λ made _. broken_makes P (ArrayNodeStands P) 33 place hp)))
+      then_makes P (Every (ArrayStands P)) (ArrayNodeStands P) (make_arguments context (other ∷ others)) _ (arguments_make context (other ∷ others) h.1.1) (λ made _. broken_makes P (ArrayNodeStands P) WRONG_TYPE place hp)))
 
   ndims_makes : (context : Context) (place : Place) → P (At place) → (arguments : List Part) → Every (PartStands P) arguments → Makes P (ArrayNodeStands P) (made_ndims context place arguments)
-  ndims_makes context place hp [] h = then_makes P (Every (ArrayStands P)) (ArrayNodeStands P) (make_arguments context []) _ (arguments_make context [] h) (λ made _. broken_makes P (ArrayNodeStands P) 33 place hp)
+  ndims_makes context place hp [] h = then_makes P (Every (ArrayStands P)) (ArrayNodeStands P) (make_arguments context []) _ (arguments_make context [] h) (λ made _. broken_makes P (ArrayNodeStands P) WRONG_TYPE place hp)
   ndims_makes context place hp (array ∷ []) h =
       then_makes P (ArrayStands P) (ArrayNodeStands P) (array.1 (argument_of_size context)) _ (h.0.1 (argument_of_size context)) (λ a ha. makes P (ArrayNodeStands P) (Call NDIMS (a ∷ [])) (call_stands P NDIMS (a ∷ []) (ha, tt)))
   ndims_makes context place hp (array ∷ other ∷ others) h =
-      then_makes P (Every (ArrayStands P)) (ArrayNodeStands P) (make_arguments context (array ∷ other ∷ others)) _ (arguments_make context (array ∷ other ∷ others) h) (λ made _. broken_makes P (ArrayNodeStands P) 33 place hp)
+      then_makes P (Every (ArrayStands P)) (ArrayNodeStands P) (make_arguments context (array ∷ other ∷ others)) _ (arguments_make context (array ∷ other ∷ others) h) (λ made _. broken_makes P (ArrayNodeStands P) WRONG_TYPE place hp)
 
   fill_makes : (context : Context) (place : Place) → P (At place) → (arguments : List Part) → Every (PartStands P) arguments → Makes P (ArrayNodeStands P) (made_fill read context place arguments)
-  fill_makes context place hp [] h = broken_makes P (ArrayNodeStands P) 33 place hp
+  fill_makes context place hp [] h = broken_makes P (ArrayNodeStands P) WRONG_TYPE place hp
   fill_makes context place hp (filling ∷ sizes) h =
       then_makes P (ArrayStands P) (ArrayNodeStands P) (filling.1 (operand context)) _ (h.0.1 (operand context)) (λ a ha.
       then_makes P (Every (SizeStands P)) (ArrayNodeStands P) (make_from (read_sizes read context sizes)) _ (from_makes P (Every (SizeStands P)) (read_sizes read context sizes) (read_sizes_answer context sizes h.1)) (λ ns hn.
-      if_makes P (ArrayNodeStands P) (is_nothing ns) _ _ (broken_makes P (ArrayNodeStands P) 33 place hp) (makes P (ArrayNodeStands P) (Sized FILL (Some a) ns) (sized_stands P FILL (Some a) ns ha hn))))
+      if_makes P (ArrayNodeStands P) (is_nothing ns) _ _ (broken_makes P (ArrayNodeStands P) WRONG_TYPE place hp) (makes P (ArrayNodeStands P) (Sized FILL (Some a) ns) (sized_stands P FILL (Some a) ns ha hn))))
 
   sized_makes : (context : Context) (place : Place) → P (At place) → (function : ℕ) (arguments : List Part) → Every (PartStands P) arguments → Makes P (ArrayNodeStands P) (made_sized read context place function arguments)
   sized_makes context place hp function arguments h =
       then_makes P (Every (SizeStands P)) (ArrayNodeStands P) (make_from (read_sizes read context arguments)) _ (from_makes P (Every (SizeStands P)) (read_sizes read context arguments) (read_sizes_answer context arguments h)) (λ ns hn.
-      if_makes P (ArrayNodeStands P) (takes function (length ns)) _ _ (makes P (ArrayNodeStands P) (Sized function None ns) (sized_stands P function None ns tt hn)) (broken_makes P (ArrayNodeStands P) 33 place hp))
+      if_makes P (ArrayNodeStands P) (takes function (length ns)) _ _ (makes P (ArrayNodeStands P) (Sized function None ns) (sized_stands P function None ns tt hn)) (broken_makes P (ArrayNodeStands P) WRONG_TYPE place hp))
 
   -- ---- `div`, `mod` and `rem`
 
@@ -184,12 +185,12 @@ module _ (P : Written → Type 0) (descends : Descends P) (layers : LayersStand 
       then_answers P Anything (ArrayNodeStands P) (known_of_operands read place function made.0 made.1) _ (known_of_operands_answers place hp function made.0 made.1 hm.0 hm.1) (λ known _. known_number_answers place hp known)))
 
   division_variable_makes : (place : Place) → P (At place) → (function : ℕ) (operands : List ArrayExpr) → Every (ArrayStands P) operands → Makes P (ArrayNodeStands P) (division_variable place function operands)
-  division_variable_makes place hp function [] h = broken_makes P (ArrayNodeStands P) 33 place hp
-  division_variable_makes place hp function (a ∷ []) h = broken_makes P (ArrayNodeStands P) 33 place hp
+  division_variable_makes place hp function [] h = broken_makes P (ArrayNodeStands P) WRONG_TYPE place hp
+  division_variable_makes place hp function (a ∷ []) h = broken_makes P (ArrayNodeStands P) WRONG_TYPE place hp
   division_variable_makes place hp function (a ∷ b ∷ []) h =
       then_makes P Anything (ArrayNodeStands P) (make_variables (Division place function a b ∷ [])) _ (variables_make P (Division place function a b ∷ []) ((hp, h.0, h.1.0), tt))
       (λ variables _. makes P (ArrayNodeStands P) (Vars variables whole_kind [] []) (vars_stand P variables whole_kind [] [] tt))
-  division_variable_makes place hp function (a ∷ b ∷ c ∷ more) h = broken_makes P (ArrayNodeStands P) 33 place hp
+  division_variable_makes place hp function (a ∷ b ∷ c ∷ more) h = broken_makes P (ArrayNodeStands P) WRONG_TYPE place hp
 
   division_makes : (context : Context) (place : Place) → P (At place) → (function : ℕ) (arguments : List Part) → Every (PartStands P) arguments → Makes P (ArrayNodeStands P) (made_division read context place function arguments)
   division_makes context place hp function arguments h =
@@ -225,5 +226,5 @@ module _ (P : Written → Type 0) (descends : Descends P) (layers : LayersStand 
       then_makes P (Every (PartStands P)) (ArrayNodeStands P) (make_from (plain_arguments place arguments)) _ (from_makes P (Every (PartStands P)) (plain_arguments place arguments) (plain_stand P place arguments hp h)) (λ plain hs.
       then_makes P (Every (ArrayStands P)) (ArrayNodeStands P) (make_arguments context plain) _ (arguments_make context plain hs)
       (λ made hm. from_makes P (ArrayNodeStands P) (derivative_of place made) (derivative_answers place hp made hm)))
-  call_makes table stands scope hf context place hp Initial hc arguments h = broken_makes P (ArrayNodeStands P) 34 place hp
-  call_makes table stands scope hf context place hp Pure hc arguments h = broken_makes P (ArrayNodeStands P) 34 place hp
+  call_makes table stands scope hf context place hp Initial hc arguments h = broken_makes P (ArrayNodeStands P) OUTSIDE_PROFILE place hp
+  call_makes table stands scope hf context place hp Pure hc arguments h = broken_makes P (ArrayNodeStands P) OUTSIDE_PROFILE place hp

@@ -97,8 +97,8 @@ module _ (P : Written → Type 0) (table : Table) (stands : TableStands P table)
   member_stands : (spoken : Spoken) (member : Member) → SpokenStands P spoken → AllBroken (broken_member spoken member)
   member_stands spoken member h =
       every_append (BrokenStands P) (breach_if (spoken.source.piece.outside && member.hidden) PROTECTED_ELEMENT spoken.place) (breach_if member.declares.flags.last FINAL_MODIFIED spoken.place)
-      (breach_stands (spoken.source.piece.outside && member.hidden) 17 spoken.place h.place)
-      (breach_stands member.declares.flags.last 22 spoken.place h.place)
+      (breach_stands (spoken.source.piece.outside && member.hidden) PROTECTED_ELEMENT spoken.place h.place)
+      (breach_stands member.declares.flags.last FINAL_MODIFIED spoken.place h.place)
 
   found_stands : (is_replaced : List ℕ → Bool) (walked : Walked) (spoken : Spoken) (member : Option Member) → SpokenStands P spoken → AllBroken (broken_found is_replaced walked spoken member)
   found_stands is_replaced walked spoken (Some member) h = member_stands spoken member h
@@ -107,7 +107,7 @@ module _ (P : Written → Type 0) (table : Table) (stands : TableStands P table)
   against_stands : (own claims : List Claim) → Every (ClaimStands P) claims → AllBroken (broken_against own claims)
   against_stands own claims h =
       every_flat_map (BrokenStands P) (λ (one : Claim). breach_if (list_any (λ (other : Claim). path_eq other.path one.path) own) MODIFIED_TWICE one.place) claims
-      (every_weaker (ClaimStands P) _ (λ one hp. breach_stands (list_any (λ (other : Claim). path_eq other.path one.path) own) 21 one.place hp) claims h)
+      (every_weaker (ClaimStands P) _ (λ one hp. breach_stands (list_any (λ (other : Claim). path_eq other.path one.path) own) MODIFIED_TWICE one.place hp) claims h)
 
   constraint_stands : (frame : Frame) (origin : Origin) (claims : List Claim) → Every (ClaimStands P) claims → AllBroken (broken_constraint table frame origin claims)
   constraint_stands frame Elsewhere claims h = tt

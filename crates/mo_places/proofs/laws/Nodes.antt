@@ -7,6 +7,7 @@ use Rattle.mo_syntax.specs.declared.expr.FactorOf.{FactorOf}
 use Rattle.mo_syntax.specs.declared.expr.Node.{Node, Node-F}
 use Rattle.mo_syntax.specs.declared.expr.TermOf.{TermOf}
 use Rattle.mo_syntax.specs.declared.place.Place.{Place}
+use Rattle.mo_syntax.specs.declared.rules.TheConstants.{OUTSIDE_PROFILE}
 use Rattle.mo_flat.specs.declared.array.ArrayExpr.{ArrayExpr}
 use Rattle.mo_flat.specs.declared.array.ArrayNode.TheVariants.{Whole, Decimal, Str, Truth, Not, All, Any, Array}
 use Rattle.mo_scope.specs.Frames.{Scope}
@@ -72,9 +73,9 @@ module _ (P : Written → Type 0) (descends : Descends P) (layers : LayersStand 
       (λ choice hc. makes P (ArrayStands P) (chosen place choice) (chosen_stands P descends layers (read_element ask is_replaced) (reads_stand P ask asks) place choice hp hc))
   form_makes (Node-F.Call callee arguments) h place hp context =
       at_place_makes P place _ hp (call_makes P descends layers (read_element ask is_replaced) (reads_stand P ask asks) table stands scope framed context place hp callee h.0 arguments.1 h.1)
-  form_makes (Node-F.Tuple outputs) h place hp context = broken_makes P (ArrayStands P) 34 place hp
+  form_makes (Node-F.Tuple outputs) h place hp context = broken_makes P (ArrayStands P) OUTSIDE_PROFILE place hp
   form_makes (Node-F.Array elements) h place hp context =
       at_place_makes P place _ hp (then_makes P (Every (ArrayStands P)) (ArrayNodeStands P) (make_parts context elements) _ (parts_make P context elements h) (λ es he. makes P (ArrayNodeStands P) (Array es) (array_stands P es he)))
-  form_makes (Node-F.ArrayFor element iterators) h place hp context = broken_makes P (ArrayStands P) 34 place hp
-  form_makes (Node-F.Matrix rows) h place hp context = broken_makes P (ArrayStands P) 34 place hp
+  form_makes (Node-F.ArrayFor element iterators) h place hp context = broken_makes P (ArrayStands P) OUTSIDE_PROFILE place hp
+  form_makes (Node-F.Matrix rows) h place hp context = broken_makes P (ArrayStands P) OUTSIDE_PROFILE place hp
   form_makes Node-F.EndMark h place hp context = at_place_makes P place _ hp (end_makes P context place hp)

@@ -55,7 +55,7 @@ module _ (P : Written → Type 0) (descends : Descends P) (layers : LayersStand 
   pub condition_answers : (scope : Scope) (e : Expr) → FrameStands P scope.frame → P (Valued e) → Answers P Anything (condition_in table ask scope e)
   condition_answers scope e hf he =
       then_answers P (ResolvedStands P) Anything (resolved_in table ask scope for_value e) _ (resolves scope hf for_value e he) (λ resolved hr.
-      then_answers P Anything Anything (truth_of (reader ask) CONDITION_NOT_BOOLEAN (place_of e) resolved) _ (truth_of_answers P layers (reader ask) (reads_stand P ask asks) 40 (place_of e) (value_place P descends e he) resolved hr)
+      then_answers P Anything Anything (truth_of (reader ask) CONDITION_NOT_BOOLEAN (place_of e) resolved) _ (truth_of_answers P layers (reader ask) (reads_stand P ask asks) CONDITION_NOT_BOOLEAN (place_of e) (value_place P descends e he) resolved hr)
       (λ known _. must_be_truth_answers P (place_of e) (value_place P descends e he) known))
 
   value_in_answers : (kind : Kind) (binding : Picked) → PickedStands P binding → Answers P Anything (value_in table ask kind binding)

@@ -13,7 +13,7 @@ use Rattle.mo_scope.specs.Frames.{Scope}
 use Rattle.mo_scope.specs.Lookup.{Found, Component, Class, Iteration, Function}
 use Rattle.mo_scope.specs.Lookup.{Literal as found_literal, Time as found_time}
 use Rattle.mo_scope.specs.Rows.{Table}
-use Rattle.mo_syntax.specs.declared.rules.TheConstants.{WRONG_TYPE}
+use Rattle.mo_syntax.specs.declared.rules.TheConstants.{WRONG_TYPE, NAME_NOT_FOUND}
 use Rattle.mo_typing.specs.Dims.{dims_of}
 use Rattle.mo_eval.specs.Contexts.{Part, alone, place_of, read_element, truth_of}
 use Rattle.mo_values.specs.Asked.{layered, only_scalar, only_whole, operand, read_in}
@@ -169,7 +169,7 @@ module _ (P : Written → Type 0) (descends : Descends P) (layers : LayersStand 
       then_makes P Anything (ChoiceStands P) (make_from (and_then (alone branch.condition (read_in context)) (truth_of read WRONG_TYPE (place_of branch.condition)))) (decided_by context branch (made_choice read context branches other))
       (from_makes P Anything (and_then (alone branch.condition (read_in context)) (truth_of read WRONG_TYPE (place_of branch.condition)))
       (then_answers P (ResolvedStands P) Anything (alone branch.condition (read_in context)) _ (alone_stands P branch.condition (read_in context) h.0.0)
-      (λ resolved hr. truth_of_answers P layers read reads 33 (place_of branch.condition) (part_place branch.condition h.0.0) resolved hr)))
+      (λ resolved hr. truth_of_answers P layers read reads WRONG_TYPE (place_of branch.condition) (part_place branch.condition h.0.0) resolved hr)))
       (λ known _. decided_makes context branch (made_choice read context branches other) h.0.0 h.0.1 (choice_makes context branches other h.1 ho) known)
 
   pub chosen_stands : (place : Place) (choice : Choice) → P (At place) → ChoiceStands P choice → ArrayStands P (chosen place choice)
@@ -188,7 +188,7 @@ found_answers P table place (Function code) hp = record { holds = hp }
 
 module _ (P : Written → Type 0) (descends : Descends P) (layers : LayersStand P) (table : Table) (stands : TableStands P table) (ask : Ask) (asks : AskStands P ask) where
   named_makes : (context : Context) (place : Place) (it : Named) → P (At place) → NamedStands P it → Makes P (ArrayNodeStands P) (made_named table ask context place it)
-  named_makes context place (Components []) hp h = broken_makes P (ArrayNodeStands P) 12 place hp
+  named_makes context place (Components []) hp h = broken_makes P (ArrayNodeStands P) NAME_NOT_FOUND place hp
   named_makes context place (Components (first ∷ others)) hp h =
       made_reference_makes P table stands descends layers ask asks (reads_stand P ask asks) context place hp first others h.0 h.1
   named_makes context place (Found_at found at) hp h = from_makes P (ArrayNodeStands P) (made_found table at found) (found_answers P table at found h.1)

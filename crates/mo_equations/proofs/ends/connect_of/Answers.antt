@@ -8,6 +8,7 @@ use Rattle.mo_typing.specs.Outcome.{Gives}
 use Rattle.mo_equations.specs.Ends.{end_of}
 use Rattle.mo_equations.specs.steps.Desks.{tree_in}
 use Rattle.mo_equations.proofs.Ended.{both_made, left_removed, left_stops, right_removed, right_stops, told_later}
+use Rattle.mo_equations.proofs.Staying.{stays_on}
 use Rattle.mo_equations.proofs.ends.connect_of.Goals as goal
 
 pub returns-in_err-left-clause-exact : goal.returns-in_err-left-clause-exact
@@ -62,3 +63,20 @@ returns-in-None-clause-exact c =
     let later = told_later (λ tree scope. end_of tree scope right) u v c.args.desk.now c.end_of.new.desk at.frame.0 at.iters c.requires.desk c.in_ok-left.ensures.stays.goes c.requires.frame in
     right_removed (tree_in u c.args.desk.now.leaves) (scope_in (frames_of u) at.frame.0 at.iters) c.args.place c.args.left.now right c.in-Some.left
     (c.in_ok-left.ensures.exact ∙ ap (λ (o : Option End). Ok o) c.in-Some.is) (sym later ∙ (c.in_ok-right.ensures.exact ∙ ap (λ (o : Option End). Ok o) c.in-None.is))
+
+-- ---- what stays
+
+pub returns-in_err-left-clause-stays : goal.returns-in_err-left-clause-stays
+returns-in_err-left-clause-stays c = c.in_err-left.ensures.stays
+
+pub returns-in_default-clause-stays : goal.returns-in_default-clause-stays
+returns-in_default-clause-stays c = c.in_ok-left.ensures.stays
+
+pub returns-in_err-right-clause-stays : goal.returns-in_err-right-clause-stays
+returns-in_err-right-clause-stays c = stays_on c.args.s.now c.end_of.new.s c.end_of-2.new.s c.args.desk.now c.end_of.new.desk c.end_of-2.new.desk c.in_ok-left.ensures.stays c.in_err-right.ensures.stays
+
+pub returns-in-Some-2-clause-stays : goal.returns-in-Some-2-clause-stays
+returns-in-Some-2-clause-stays c = stays_on c.args.s.now c.end_of.new.s c.end_of-2.new.s c.args.desk.now c.end_of.new.desk c.end_of-2.new.desk c.in_ok-left.ensures.stays c.in_ok-right.ensures.stays
+
+pub returns-in-None-clause-stays : goal.returns-in-None-clause-stays
+returns-in-None-clause-stays c = stays_on c.args.s.now c.end_of.new.s c.end_of-2.new.s c.args.desk.now c.end_of.new.desk c.end_of-2.new.desk c.in_ok-left.ensures.stays c.in_ok-right.ensures.stays

@@ -14,6 +14,7 @@ use Rattle.mo_equations.specs.steps.Flats.{Answers, IsFlat}
 use Rattle.mo_equations.specs.steps.Standing.{AreReplaced}
 use Rattle.mo_equations.proofs.Replacings.{answers_as}
 use Rattle.mo_equations.proofs.Sided.{both_are, left_stops, right_stops, same_variables}
+use Rattle.mo_equations.proofs.Staying.{stays_on}
 use Rattle.mo_syntax.specs.Outcome.{Outcome}
 use Rattle.mo_equations.proofs.equalities.put_equation.Goals as goal
 
@@ -74,3 +75,17 @@ pub returns-clause-replaced : goal.returns-clause-replaced
 returns-clause-replaced c =
     let same = same_variables c.args.s.now c.flat_side.new.s c.args.desk.now c.flat_side.new.desk most_references c.args.sides.now.virtuals c.requires.desk c.in_ok-left.ensures.stays.goes c.requires.there in
     subst (λ (V : ℕ → Outcome FlatExpr). AreReplaced V c.flat_side-2.new.replaced.items) same (rw c.as_slice-virtuals.ensures at c.in_ok-right.ensures.replaced)
+
+-- ---- what stays
+
+pub returns-in_err-left-clause-stays : goal.returns-in_err-left-clause-stays
+returns-in_err-left-clause-stays c = c.in_err-left.ensures.stays
+
+pub returns-in_err-right-clause-stays : goal.returns-in_err-right-clause-stays
+returns-in_err-right-clause-stays c = stays_on c.args.s.now c.flat_side.new.s c.flat_side-2.new.s c.args.desk.now c.flat_side.new.desk c.flat_side-2.new.desk c.in_ok-left.ensures.stays c.in_err-right.ensures.stays
+
+pub returns-in_err-push_equation-clause-stays : goal.returns-in_err-push_equation-clause-stays
+returns-in_err-push_equation-clause-stays c = stays_on c.args.s.now c.flat_side.new.s c.flat_side-2.new.s c.args.desk.now c.flat_side.new.desk c.flat_side-2.new.desk c.in_ok-left.ensures.stays c.in_ok-right.ensures.stays
+
+pub returns-clause-stays : goal.returns-clause-stays
+returns-clause-stays c = stays_on c.args.s.now c.flat_side.new.s c.flat_side-2.new.s c.args.desk.now c.flat_side.new.desk c.flat_side-2.new.desk c.in_ok-left.ensures.stays c.in_ok-right.ensures.stays

@@ -608,3 +608,105 @@ choice-returns-clause-exact t c =
     let same = same_told (λ tr st. all_made_at tr others st c.loop-branch.desk.turns) s c.loop-branch.s desk c.loop-branch.desk here c.requires.desk inv.goes c.requires.frame in
     last_made tree site others c.loop-branch.desk.turns c.made_section-2.new.desk c.loop-branch.made c.in_ok-other.other inv.branches all left inv.are
     (made_as (Ok c.in_ok-other.other) c.made_section-2.new.desk _ _ same c.in_ok-other.ensures.exact)
+
+-- ---- what goes on
+
+pub made_section-returns-in_err-more-clause-goes : goal.made_section-returns-in_err-more-clause-goes
+made_section-returns-in_err-more-clause-goes t c =
+    goes_on c.args.s.now c.loop-equation.s c.made_equation.new.s c.args.desk.now c.loop-equation.desk c.made_equation.new.desk c.loop-equation.invariant.goes c.in_err-more.ensures.goes
+
+pub made_section-returns-in_err-append-clause-goes : goal.made_section-returns-in_err-append-clause-goes
+made_section-returns-in_err-append-clause-goes t c =
+    goes_on c.args.s.now c.loop-equation.s c.made_equation.new.s c.args.desk.now c.loop-equation.desk c.made_equation.new.desk c.loop-equation.invariant.goes c.in_ok-more.ensures.goes
+
+pub made_section-returns-clause-goes : goal.made_section-returns-clause-goes
+made_section-returns-clause-goes t c =
+    c.loop-equation.invariant.goes
+
+pub made_equation-returns-in-Equal-clause-goes : goal.made_equation-returns-in-Equal-clause-goes
+made_equation-returns-in-Equal-clause-goes t c =
+    c.equalities.ensures.stays.goes
+
+pub made_equation-returns-in_err-choice-in-If-clause-goes : goal.made_equation-returns-in_err-choice-in-If-clause-goes
+made_equation-returns-in_err-choice-in-If-clause-goes t c =
+    c.in_err-choice-in-If.ensures.goes
+
+pub made_equation-returns-in_ok-choice-in-If-clause-goes : goal.made_equation-returns-in_ok-choice-in-If-clause-goes
+made_equation-returns-in_ok-choice-in-If-clause-goes t c =
+    c.in_ok-choice-in-If.ensures.goes
+
+pub made_equation-returns-in-For-clause-goes : goal.made_equation-returns-in-For-clause-goes
+made_equation-returns-in-For-clause-goes t c =
+    c.looped.ensures.goes
+
+pub made_equation-returns-in-When-clause-goes : goal.made_equation-returns-in-When-clause-goes
+made_equation-returns-in-When-clause-goes t c =
+    (stays_still c.args.s.now c.args.desk.now c.requires.desk).goes
+
+pub made_equation-returns-in-Connect-clause-goes : goal.made_equation-returns-in-Connect-clause-goes
+made_equation-returns-in-Connect-clause-goes t c =
+    c.connect.ensures.stays.goes
+
+pub made_equation-returns-in-Call-clause-goes : goal.made_equation-returns-in-Call-clause-goes
+made_equation-returns-in-Call-clause-goes t c =
+    c.call.ensures.stays.goes
+
+pub looped-returns-in-empty-clause-goes : goal.looped-returns-in-empty-clause-goes
+looped-returns-in-empty-clause-goes t c =
+    c.made_section.ensures.goes
+
+pub looped-returns-in_err-numbers-in-len1-up-clause-goes : goal.looped-returns-in_err-numbers-in-len1-up-clause-goes
+looped-returns-in_err-numbers-in-len1-up-clause-goes t c =
+    c.in_err-numbers-in-len1-up.ensures.stays.goes
+
+pub looped-returns-in_ok-numbers-in-len1-up-clause-goes : goal.looped-returns-in_ok-numbers-in-len1-up-clause-goes
+looped-returns-in_ok-numbers-in-len1-up-clause-goes t c =
+    goes_on c.args.s.now c.numbers_of_index.new.s c.turns.new.s c.args.desk.now c.numbers_of_index.new.desk c.turns.new.desk c.in_ok-numbers-in-len1-up.ensures.stays.goes c.turns.ensures.goes
+
+pub turns-returns-in_err-n-clause-goes : goal.turns-returns-in_err-n-clause-goes
+turns-returns-in_err-n-clause-goes t c =
+    c.loop-k.invariant.goes
+
+pub turns-returns-clause-goes : goal.turns-returns-clause-goes
+turns-returns-clause-goes t c =
+    c.loop-k.invariant.goes
+
+pub undecided_branch-returns-in_err-condition-clause-goes : goal.undecided_branch-returns-in_err-condition-clause-goes
+undecided_branch-returns-in_err-condition-clause-goes t c =
+    c.in_err-condition.ensures.stays.goes
+
+pub undecided_branch-returns-clause-goes : goal.undecided_branch-returns-clause-goes
+undecided_branch-returns-clause-goes t c =
+    goes_on c.args.s.now c.flat_condition.new.s c.made_section-made.new.s c.args.desk.now c.flat_condition.new.desk c.made_section-made.new.desk c.in_ok-condition.ensures.stays.goes c.made_section-made.ensures.goes
+
+pub choice-returns-in_err-condition_known-clause-goes : goal.choice-returns-in_err-condition_known-clause-goes
+choice-returns-in_err-condition_known-clause-goes t c =
+    goes_on c.args.s.now c.loop-branch.s c.condition_known.new.s c.args.desk.now c.loop-branch.desk c.condition_known.new.desk c.loop-branch.invariant.goes c.in_err-condition_known.ensures.stays.goes
+
+pub choice-returns-in_err-other-in-Some-Truth-true-clause-goes : goal.choice-returns-in_err-other-in-Some-Truth-true-clause-goes
+choice-returns-in_err-other-in-Some-Truth-true-clause-goes t c =
+    let goes = goes_on c.args.s.now c.loop-branch.s c.condition_known.new.s c.args.desk.now c.loop-branch.desk c.condition_known.new.desk c.loop-branch.invariant.goes c.in_ok-condition_known.ensures.stays.goes in
+    goes_on c.args.s.now c.condition_known.new.s c.made_section.new.s c.args.desk.now c.condition_known.new.desk c.made_section.new.desk goes c.in_err-other-in-Some-Truth-true.ensures.goes
+
+pub choice-returns-in-Some-Truth-true-clause-goes : goal.choice-returns-in-Some-Truth-true-clause-goes
+choice-returns-in-Some-Truth-true-clause-goes t c =
+    let goes = goes_on c.args.s.now c.loop-branch.s c.condition_known.new.s c.args.desk.now c.loop-branch.desk c.condition_known.new.desk c.loop-branch.invariant.goes c.in_ok-condition_known.ensures.stays.goes in
+    goes_on c.args.s.now c.condition_known.new.s c.made_section.new.s c.args.desk.now c.condition_known.new.desk c.made_section.new.desk goes c.in_ok-other-in-Some-Truth-true.ensures.goes
+
+pub choice-returns-in_err-undecided_branch-in_default-clause-goes : goal.choice-returns-in_err-undecided_branch-in_default-clause-goes
+choice-returns-in_err-undecided_branch-in_default-clause-goes t c =
+    let goes = goes_on c.args.s.now c.loop-branch.s c.condition_known.new.s c.args.desk.now c.loop-branch.desk c.condition_known.new.desk c.loop-branch.invariant.goes c.in_ok-condition_known.ensures.stays.goes in
+    goes_on c.args.s.now c.condition_known.new.s c.undecided_branch.new.s c.args.desk.now c.condition_known.new.desk c.undecided_branch.new.desk goes c.in_err-undecided_branch-in_default.ensures.goes
+
+pub choice-returns-in_err-push-in_default-clause-goes : goal.choice-returns-in_err-push-in_default-clause-goes
+choice-returns-in_err-push-in_default-clause-goes t c =
+    let goes = goes_on c.args.s.now c.loop-branch.s c.condition_known.new.s c.args.desk.now c.loop-branch.desk c.condition_known.new.desk c.loop-branch.invariant.goes c.in_ok-condition_known.ensures.stays.goes in
+    goes_on c.args.s.now c.condition_known.new.s c.undecided_branch.new.s c.args.desk.now c.condition_known.new.desk c.undecided_branch.new.desk goes c.in_ok-undecided_branch-in_default.ensures.goes
+
+pub choice-returns-in_err-other-clause-goes : goal.choice-returns-in_err-other-clause-goes
+choice-returns-in_err-other-clause-goes t c =
+    goes_on c.args.s.now c.loop-branch.s c.made_section-2.new.s c.args.desk.now c.loop-branch.desk c.made_section-2.new.desk c.loop-branch.invariant.goes c.in_err-other.ensures.goes
+
+pub choice-returns-clause-goes : goal.choice-returns-clause-goes
+choice-returns-clause-goes t c =
+    goes_on c.args.s.now c.loop-branch.s c.made_section-2.new.s c.args.desk.now c.loop-branch.desk c.made_section-2.new.desk c.loop-branch.invariant.goes c.in_ok-other.ensures.goes

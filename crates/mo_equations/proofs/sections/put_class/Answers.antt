@@ -11,6 +11,7 @@ use Rattle.mo_equations.specs.Sections.{Section, Left_out, section_in, sections_
 use Rattle.mo_equations.specs.steps.Desks.{tree_in}
 use Rattle.mo_equations.specs.steps.Placing.{PutsParts, item_placed, placed_as}
 use Rattle.mo_equations.proofs.Parted.{in_class, left_out_breaks, puts_breaks, puts_nothing, puts_stop}
+use Rattle.mo_equations.proofs.Staying.{stays_still}
 use Rattle.mo_syntax.specs.declared.rules.TheConstants.{OUTSIDE_PROFILE}
 use Rattle.mo_equations.proofs.sections.put_class.Goals as goal
 
@@ -56,3 +57,23 @@ returns-else-external-clause-exact c =
     let told : sections_in (out-Body placed.class.now.body) ≡ flat_map section_in x.items ++ [] = rw (x.is, outs-Long x.extending x.items x.external, c.if-external.false) refl in
     subst (λ (ps : List Placed). PutsParts (Ok tt) c.args.parts.now c.put_items.new.parts c.put_items.new.desk (turn_each (made_placed tree) ps desk.turns))
     (sym (in_class frames placed x.items [] told ∙ append-nil (flat_map (item_placed frames placed) x.items))) (rw c.as_slice.ensures at c.in_ok-put_items-in-Long.ensures.exact)
+
+-- ---- what goes on
+
+pub returns-in_err-put_items-in-Long-clause-goes : goal.returns-in_err-put_items-in-Long-clause-goes
+returns-in_err-put_items-in-Long-clause-goes c = c.in_err-put_items-in-Long.ensures.goes
+
+pub returns-then-external-clause-goes : goal.returns-then-external-clause-goes
+returns-then-external-clause-goes c = c.in_ok-put_items-in-Long.ensures.goes
+
+pub returns-else-external-clause-goes : goal.returns-else-external-clause-goes
+returns-else-external-clause-goes c = c.in_ok-put_items-in-Long.ensures.goes
+
+pub returns-in-Short-clause-goes : goal.returns-in-Short-clause-goes
+returns-in-Short-clause-goes c = (stays_still c.args.s.now c.args.desk.now c.requires.desk).goes
+
+pub returns-in-Enumeration-clause-goes : goal.returns-in-Enumeration-clause-goes
+returns-in-Enumeration-clause-goes c = (stays_still c.args.s.now c.args.desk.now c.requires.desk).goes
+
+pub returns-in-Der-clause-goes : goal.returns-in-Der-clause-goes
+returns-in-Der-clause-goes c = (stays_still c.args.s.now c.args.desk.now c.requires.desk).goes

@@ -6,6 +6,7 @@ use Rattle.mo_equations.specs.Expansion.{Placed, made_placed}
 use Rattle.mo_equations.specs.Gathering.{turn_each}
 use Rattle.mo_equations.specs.steps.Desks.{tree_in}
 use Rattle.mo_equations.proofs.Parted.{puts_as, puts_nothing, sections_none, sections_some}
+use Rattle.mo_equations.proofs.Staying.{stays_still}
 use Rattle.mo_equations.proofs.sections.put_frame.Goals as goal
 
 pub returns-in-Some-clause-exact : goal.returns-in-Some-clause-exact
@@ -20,3 +21,11 @@ returns-in-None-clause-exact c =
     puts_as (Ok tt) c.args.parts.now c.args.parts.now c.args.desk.now _ _
     (ap (λ (ps : List Placed). turn_each (made_placed (tree_in c.args.s.now c.args.desk.now.leaves)) ps c.args.desk.now.turns) (sym (sections_none (table_in c.args.s.now) (frame_at c.args.s.now c.args.frame.0) (sym c.in-None.ensures))))
     (puts_nothing c.args.parts.now c.args.desk.now c.args.desk.now.turns refl)
+
+-- ---- what goes on
+
+pub returns-in-Some-clause-goes : goal.returns-in-Some-clause-goes
+returns-in-Some-clause-goes c = c.put_class.ensures.goes
+
+pub returns-in-None-clause-goes : goal.returns-in-None-clause-goes
+returns-in-None-clause-goes c = (stays_still c.args.s.now c.args.desk.now c.requires.desk).goes

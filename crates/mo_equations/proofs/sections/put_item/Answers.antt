@@ -8,6 +8,7 @@ use Rattle.mo_equations.specs.Sections.{Section, Equations, section_in}
 use Rattle.mo_equations.specs.steps.Desks.{tree_in}
 use Rattle.mo_equations.specs.steps.Placing.{placed_as}
 use Rattle.mo_equations.proofs.Parted.{puts_as}
+use Rattle.mo_equations.proofs.Staying.{stays_still}
 use Rattle.mo_equations.proofs.sections.put_item.Goals as goal
 
 pub returns-in-Equations-clause-exact : goal.returns-in-Equations-clause-exact
@@ -17,3 +18,11 @@ returns-in-Equations-clause-exact c =
     puts_as c.put_equations.result c.args.parts.now c.put_equations.new.parts c.put_equations.new.desk _ _
     (ap (λ (ss : List Section). turn_each (made_placed (tree_in c.args.s.now c.args.desk.now.leaves)) (map (placed_as (frames_of c.args.s.now) c.args.placed.now) ss) c.args.desk.now.turns) (sym told))
     (rw c.as_slice-equations.ensures at c.put_equations.ensures.exact)
+
+-- ---- what goes on
+
+pub returns-in-Equations-clause-goes : goal.returns-in-Equations-clause-goes
+returns-in-Equations-clause-goes c = c.put_equations.ensures.goes
+
+pub returns-in-Algorithm-clause-goes : goal.returns-in-Algorithm-clause-goes
+returns-in-Algorithm-clause-goes c = (stays_still c.args.s.now c.args.desk.now c.requires.desk).goes

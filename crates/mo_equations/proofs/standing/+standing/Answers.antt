@@ -29,8 +29,8 @@ use Rattle.mo_equations.specs.steps.Counting.{variables_in}
 use Rattle.mo_equations.specs.steps.Standing.{IsAskedAt, constant_expression, constant_known}
 use Rattle.mo_equations.proofs.InTurn.{all_still, none_replaced, now_asked, still_replaced}
 use Rattle.mo_equations.proofs.Lists.{every_all, every_taken, got, same_default}
-use Rattle.mo_equations.proofs.Replacings.{all_there, answers_as, answers_breaks, bound_is, breaks_on, child_halts, chosen_now, constant_is, constant_none, constant_some, expression_now, flat_at_then, flat_at_unlayered, flat_at_unresolved, refused_answers, same_number, standing_none, standing_some, there_at, unbound_is, value_halts, value_none, value_some, variable_now}
-use Rattle.mo_equations.proofs.Staying.{constant_now, desk_grown, desk_later, reads, same_replacing, stays_grown, stays_on}
+use Rattle.mo_equations.proofs.Replacings.{all_there, answers_as, answers_breaks, bound_is, breaks_on, child_halts, chosen_now, constant_is, constant_none, constant_some, expression_now, flat_at_then, flat_at_unlayered, flat_at_unresolved, same_number, standing_none, standing_some, there_at, unbound_is, value_halts, value_none, value_some, variable_now}
+use Rattle.mo_equations.proofs.Staying.{constant_now, desk_grown, desk_later, reads, same_replacing, stays_grown, stays_on, stays_still}
 use Rattle.mo_equations.proofs.standing.+standing.Goals as goal
 
 -- ---- flat_at
@@ -74,8 +74,8 @@ flat_at-returns-clause-exact t c =
 
 -- ---- flat_element
 
-pub flat_element-ask-requires : goal.flat_element-ask-requires
-flat_element-ask-requires t c = (
+pub flat_element-ask-asked-requires : goal.flat_element-ask-asked-requires
+flat_element-ask-asked-requires t c = (
   search rules,
   (
     rw c.as_slice-virtuals.ensures c.requires.there,
@@ -83,20 +83,11 @@ flat_element-ask-requires t c = (
   ),
 )
 
-pub flat_element-returns-in_err-ask-clause-exact : goal.flat_element-returns-in_err-ask-clause-exact
-flat_element-returns-in_err-ask-clause-exact t c =
-    let stop = c.in_err-ask.field-0.0 in
-    let p : c.from_residual-in_err-ask.result ≡ Err stop = search rules in
-    let V = of_variable (replacing_in c.args.s.now c.args.desk.now.leaves c.args.left) (virtuals_seen (frames_of c.args.s.now) c.args.resolved.now.virtuals) in
-    rw p (answers_as {T = Flat} IsFlat (Err stop) (with_variables V c.in_ok-element.element) _ (ap (with_variables V) c.in_ok-element.ensures)
-    (refused_answers (Unit {0}) IsFlat (with_variables V c.in_ok-element.element) stop (rw c.as_slice-virtuals.ensures at c.in_err-ask.ensures.refused)))
-
 pub flat_element-returns-clause-exact : goal.flat_element-returns-clause-exact
 flat_element-returns-clause-exact t c =
     let V = of_variable (replacing_in c.args.s.now c.args.desk.now.leaves c.args.left) (virtuals_seen (frames_of c.args.s.now) c.args.resolved.now.virtuals) in
-    let replaced = rw c.as_slice-virtuals.ensures at c.in_ok-ask.ensures.replaced in
-    let got = c.in_ok-put_together.ensures V (rw c.as_slice.ensures.value replaced) (rw c.as_slice.ensures.value c.in_ok-ask.ensures.asked) in
-    (got.0, ap (with_variables V) (sym c.in_ok-element.ensures) ∙ got.1, got.2)
+    answers_as IsFlat c.put_asked.result (with_variables V c.in_ok-element.element) _ (ap (with_variables V) c.in_ok-element.ensures)
+    (c.put_asked.ensures V (rw c.as_slice-virtuals.ensures at c.ask-asked.ensures.refused) (rw c.as_slice.ensures.value (rw c.as_slice-virtuals.ensures at c.ask-asked.ensures.replaced)) (rw c.as_slice.ensures.value c.ask-asked.ensures.asked))
 
 -- ---- ask
 
@@ -332,3 +323,96 @@ constant_expression-returns-in_err-child-clause-stays t c = stays_grown c.args.s
 
 pub constant_expression-returns-in-None-clause-stays : goal.constant_expression-returns-in-None-clause-stays
 constant_expression-returns-in-None-clause-stays t c = stays_grown c.args.s.now c.child_of_member.new.s c.args.desk.now c.in_ok-child.ensures.grows c.requires.desk
+
+pub flat_at-returns-clause-stays : goal.flat_at-returns-clause-stays
+flat_at-returns-clause-stays t c =
+    let desk = record c.args.desk.now { reader = c.resolved.new.self } in
+    stays_on c.args.s.now c.resolved.new.s c.flat_element.new.s c.args.desk.now desk c.flat_element.new.desk (reads c.args.s.now c.resolved.new.s c.args.desk.now c.resolved.new.self c.in_ok-resolved.ensures.grows c.in_ok-resolved.ensures.kept c.requires.desk) c.flat_element.ensures.stays
+
+pub flat_element-returns-in_err-element-clause-stays : goal.flat_element-returns-in_err-element-clause-stays
+flat_element-returns-in_err-element-clause-stays t c =
+    stays_still c.args.s.now c.args.desk.now c.requires.desk
+
+pub flat_element-returns-in_err-replaced-clause-stays : goal.flat_element-returns-in_err-replaced-clause-stays
+flat_element-returns-in_err-replaced-clause-stays t c =
+    stays_still c.args.s.now c.args.desk.now c.requires.desk
+
+pub flat_element-returns-clause-stays : goal.flat_element-returns-clause-stays
+flat_element-returns-clause-stays t c =
+    c.ask-asked.ensures.stays
+
+pub ask-returns-in_err-numbers-clause-stays : goal.ask-returns-in_err-numbers-clause-stays
+ask-returns-in_err-numbers-clause-stays t c =
+    stays_still c.args.s.now c.args.desk.now c.requires.desk
+
+pub ask-returns-in_err-flat-clause-stays : goal.ask-returns-in_err-flat-clause-stays
+ask-returns-in_err-flat-clause-stays t c =
+    stays_on c.args.s.now c.loop-n.s c.of_virtual.new.s c.args.desk.now c.loop-n.desk c.of_virtual.new.desk c.loop-n.invariant.stays c.in_err-flat.ensures.stays
+
+pub ask-returns-in_err-put_replaced-clause-stays : goal.ask-returns-in_err-put_replaced-clause-stays
+ask-returns-in_err-put_replaced-clause-stays t c =
+    stays_on c.args.s.now c.loop-n.s c.of_virtual.new.s c.args.desk.now c.loop-n.desk c.of_virtual.new.desk c.loop-n.invariant.stays c.in_ok-flat.ensures.stays
+
+pub ask-returns-clause-stays : goal.ask-returns-clause-stays
+ask-returns-clause-stays t c =
+    c.loop-n.invariant.stays
+
+pub of_virtual-returns-in-Component-clause-stays : goal.of_virtual-returns-in-Component-clause-stays
+of_virtual-returns-in-Component-clause-stays t c =
+    c.standing.ensures.stays
+
+pub of_virtual-returns-in-Division-clause-stays : goal.of_virtual-returns-in-Division-clause-stays
+of_virtual-returns-in-Division-clause-stays t c =
+    stays_still c.args.s.now c.args.desk.now c.requires.desk
+
+pub standing-returns-in_err-path-clause-stays : goal.standing-returns-in_err-path-clause-stays
+standing-returns-in_err-path-clause-stays t c =
+    stays_still c.args.s.now c.args.desk.now c.requires.desk
+
+pub standing-returns-in_err-variable_at-in-Some-clause-stays : goal.standing-returns-in_err-variable_at-in-Some-clause-stays
+standing-returns-in_err-variable_at-in-Some-clause-stays t c =
+    stays_still c.args.s.now c.args.desk.now c.requires.desk
+
+pub standing-returns-in_ok-variable_at-in-Some-clause-stays : goal.standing-returns-in_ok-variable_at-in-Some-clause-stays
+standing-returns-in_ok-variable_at-in-Some-clause-stays t c =
+    stays_still c.args.s.now c.args.desk.now c.requires.desk
+
+pub standing-returns-in-None-clause-stays : goal.standing-returns-in-None-clause-stays
+standing-returns-in-None-clause-stays t c =
+    c.constant.ensures.stays
+
+pub constant-returns-then-left-eq0-clause-stays : goal.constant-returns-then-left-eq0-clause-stays
+constant-returns-then-left-eq0-clause-stays t c =
+    stays_still c.args.s.now c.args.desk.now c.requires.desk
+
+pub constant-returns-in_err-flat-clause-stays : goal.constant-returns-in_err-flat-clause-stays
+constant-returns-in_err-flat-clause-stays t c =
+    stays_still c.args.s.now c.args.desk.now c.requires.desk
+
+pub constant-returns-in-Some-clause-stays : goal.constant-returns-in-Some-clause-stays
+constant-returns-in-Some-clause-stays t c =
+    stays_still c.args.s.now c.args.desk.now c.requires.desk
+
+pub constant-returns-in_err-flat-2-clause-stays : goal.constant-returns-in_err-flat-2-clause-stays
+constant-returns-in_err-flat-2-clause-stays t c =
+    c.in_err-flat-2.ensures.stays
+
+pub constant_by-returns-in_err-scalar-clause-stays : goal.constant_by-returns-in_err-scalar-clause-stays
+constant_by-returns-in_err-scalar-clause-stays t c =
+    c.in_err-scalar.ensures.stays
+
+pub constant_by-returns-in_err-flat_value-in-Some-clause-stays : goal.constant_by-returns-in_err-flat_value-in-Some-clause-stays
+constant_by-returns-in_err-flat_value-in-Some-clause-stays t c =
+    c.in_ok-scalar.ensures.stays
+
+pub constant_by-returns-in_ok-flat_value-in-Some-clause-stays : goal.constant_by-returns-in_ok-flat_value-in-Some-clause-stays
+constant_by-returns-in_ok-flat_value-in-Some-clause-stays t c =
+    c.in_ok-scalar.ensures.stays
+
+pub constant_by-returns-in-None-clause-stays : goal.constant_by-returns-in-None-clause-stays
+constant_by-returns-in-None-clause-stays t c =
+    stays_on c.args.s.now c.constant_known.new.s c.constant_expression.new.s c.args.desk.now c.constant_known.new.desk c.constant_expression.new.desk c.in_ok-scalar.ensures.stays c.constant_expression.ensures.stays
+
+pub constant_expression-returns-clause-stays : goal.constant_expression-returns-clause-stays
+constant_expression-returns-clause-stays t c =
+    stays_on c.args.s.now c.child_of_member.new.s c.flat_at.new.s c.args.desk.now c.args.desk.now c.flat_at.new.desk (stays_grown c.args.s.now c.child_of_member.new.s c.args.desk.now c.in_ok-child.ensures.grows c.requires.desk) c.flat_at.ensures.stays

@@ -99,3 +99,11 @@ returns-clause-exact c =
     let u = c.args.s.now in
     let before = c.loop-instance.invariant in
     (before.2, all_given (frames_of u) (declared (tree_in u c.args.desk.now.leaves)) c.args.desk.now.leaves.instances.now c.loop-instance.instance-index before.2 c.loop-instance-test.false before.4, before.3)
+
+-- ---- what stays
+
+pub returns-in_err-declare-clause-stays : goal.returns-in_err-declare-clause-stays
+returns-in_err-declare-clause-stays c = stays_on c.args.s.now c.loop-instance.s c.declare.new.s c.args.desk.now c.loop-instance.desk c.declare.new.desk c.loop-instance.invariant.0 c.in_err-declare.ensures.stays
+
+pub returns-clause-stays : goal.returns-clause-stays
+returns-clause-stays c = c.loop-instance.invariant.0

@@ -11,6 +11,7 @@ use Rattle.mo_equations.specs.steps.Makings.{IsFlatOption}
 use Rattle.mo_equations.proofs.AllDeclared.{bound_of, declared_is, option_later, refused_first, refused_then}
 use Rattle.mo_equations.proofs.Declares.{is_one_of_later, variable_later}
 use Rattle.mo_equations.proofs.Replacings.{answers_as}
+use Rattle.mo_equations.proofs.Staying.{stays_on}
 use Rattle.mo_equations.proofs.variables.declare.Goals as goal
 
 pub returns-in_err-attributes-clause-refused : goal.returns-in_err-attributes-clause-refused
@@ -49,3 +50,17 @@ returns-clause-exact c = λ before are.
       subst (λ (x : Variable). AreDeclared c.push.new.self (before ++ declared_with tree x given.0 binding.0 ∷ [])) (variable_later u w c.args.variable.now grows c.requires.variable)
           (c.in_ok-push.ensures tree before given.0 binding.0 (sym (table_later u w grows)) are given.2 binding.2 (bound_of tree variable (frames_of u) c.args.variable.now.leaf.now.binding binding.0 told)),
     )
+
+-- ---- what stays
+
+pub returns-in_err-attributes-clause-stays : goal.returns-in_err-attributes-clause-stays
+returns-in_err-attributes-clause-stays c = c.in_err-attributes.ensures.stays
+
+pub returns-in_err-binding-clause-stays : goal.returns-in_err-binding-clause-stays
+returns-in_err-binding-clause-stays c = stays_on c.args.s.now c.flat_attributes.new.s c.flat_option.new.s c.args.desk.now c.flat_attributes.new.desk c.flat_option.new.desk c.in_ok-attributes.ensures.stays c.in_err-binding.ensures.stays
+
+pub returns-in_err-push-clause-stays : goal.returns-in_err-push-clause-stays
+returns-in_err-push-clause-stays c = stays_on c.args.s.now c.flat_attributes.new.s c.flat_option.new.s c.args.desk.now c.flat_attributes.new.desk c.flat_option.new.desk c.in_ok-attributes.ensures.stays c.in_ok-binding.ensures.stays
+
+pub returns-clause-stays : goal.returns-clause-stays
+returns-clause-stays c = stays_on c.args.s.now c.flat_attributes.new.s c.flat_option.new.s c.args.desk.now c.flat_attributes.new.desk c.flat_option.new.desk c.in_ok-attributes.ensures.stays c.in_ok-binding.ensures.stays

@@ -84,3 +84,11 @@ returns-clause-exact c =
           (attributes_end F c.args.variable.now.leaf.now.attributes c.loop-attribute.attribute-index (rw c.as_slice-attribute-items.ensures at c.loop-attribute-test.false)),
       c.loop-attribute.invariant.2,
     )
+
+-- ---- what stays
+
+pub returns-in_err-push-clause-stays : goal.returns-in_err-push-clause-stays
+returns-in_err-push-clause-stays c = stays_on c.args.s.now c.loop-attribute.s c.flat_of_leaf.new.s c.args.desk.now c.loop-attribute.desk c.flat_of_leaf.new.desk c.loop-attribute.invariant.0 c.in_ok-flat.ensures.stays
+
+pub returns-clause-stays : goal.returns-clause-stays
+returns-clause-stays c = c.loop-attribute.invariant.0

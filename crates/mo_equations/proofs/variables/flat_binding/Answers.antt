@@ -13,6 +13,7 @@ use Rattle.mo_equations.specs.steps.Desks.{tree_in}
 use Rattle.mo_equations.specs.steps.Flats.{IsFlat}
 use Rattle.mo_equations.proofs.Declares.{binding_is, flat_later, is_chosen_later, is_one_of_later}
 use Rattle.mo_equations.proofs.Replacings.{answers_as, value_halts, value_none, value_some}
+use Rattle.mo_equations.proofs.Staying.{stays_on}
 use Rattle.mo_equations.proofs.variables.flat_binding.Goals as goal
 
 pub returns-in_err-known-clause-exact : goal.returns-in_err-known-clause-exact
@@ -54,3 +55,17 @@ returns-in-None-clause-exact c =
     let now = flat_later c.args.s.now c.known_binding.new.s c.args.desk.now c.known_binding.new.desk c.args.variable.now c.args.variable.now.leaf.now.kind c.args.binding.now c.requires.desk c.in_ok-known.ensures.stays.goes c.requires.variable c.requires.chosen in
     answers_as IsFlat c.flat_of_leaf.result _ _
     (now ∙ sym (binding_is tree variable binding ∙ value_none (table_in c.args.s.now) (flat_of_leaf tree variable variable.leaf.kind binding) (known_of_binding tree variable binding) told)) c.flat_of_leaf.ensures.exact
+
+-- ---- what stays
+
+pub returns-in_err-known-clause-stays : goal.returns-in_err-known-clause-stays
+returns-in_err-known-clause-stays c = c.in_err-known.ensures.stays
+
+pub returns-in_err-flat_value-in-Some-clause-stays : goal.returns-in_err-flat_value-in-Some-clause-stays
+returns-in_err-flat_value-in-Some-clause-stays c = c.in_ok-known.ensures.stays
+
+pub returns-in_ok-flat_value-in-Some-clause-stays : goal.returns-in_ok-flat_value-in-Some-clause-stays
+returns-in_ok-flat_value-in-Some-clause-stays c = c.in_ok-known.ensures.stays
+
+pub returns-in-None-clause-stays : goal.returns-in-None-clause-stays
+returns-in-None-clause-stays c = stays_on c.args.s.now c.known_binding.new.s c.flat_of_leaf.new.s c.args.desk.now c.known_binding.new.desk c.flat_of_leaf.new.desk c.in_ok-known.ensures.stays c.flat_of_leaf.ensures.stays

@@ -6,6 +6,7 @@ use Rattle.mo_typing.specs.Outcome.{Gives}
 use Rattle.mo_values.specs.Scalars.{Known}
 use Rattle.mo_equations.specs.steps.Declaring.{variable_in}
 use Rattle.mo_equations.proofs.Declares.{known_asked}
+use Rattle.mo_equations.proofs.Staying.{stays_still}
 use Rattle.mo_equations.proofs.variables.known_of_leaf.Goals as goal
 
 pub returns-clause-exact : goal.returns-clause-exact
@@ -14,3 +15,11 @@ returns-clause-exact c =
     let variable = variable_in (frames_of world) c.args.variable.now in
     subst (λ (o : Outcome Known). Gives c.known_at.result o)
     (known_asked world c.args.desk.now.leaves c.asked_of-asked.result c.args.chosen.now c.in_ok-sizes.sizes variable (rw c.as_slice.ensures at c.asked_of-asked.ensures) (c.in_ok-sizes.ensures variable refl)) c.known_at.ensures.exact
+
+-- ---- what stays
+
+pub returns-in_err-sizes-clause-stays : goal.returns-in_err-sizes-clause-stays
+returns-in_err-sizes-clause-stays c = stays_still c.args.s.now c.args.desk.now c.requires.desk
+
+pub returns-clause-stays : goal.returns-clause-stays
+returns-clause-stays c = c.known_at.ensures.stays

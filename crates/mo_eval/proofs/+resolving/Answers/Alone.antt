@@ -8,6 +8,7 @@ use Rattle.mo_scope.specs.Worlds.{frames_of}
 use Rattle.std.proofs.Common.{ap}
 use Rattle.mo_syntax.specs.declared.rules.TheConstants.{WRONG_TYPE}
 use Rattle.mo_eval.proofs.+resolving.Goals as goal
+use Rattle.mo_names.proofs.Later.{grows_refl, grows_trans}
 
 pub read_end-returns-clause-exact : goal.alone::read_end-returns-clause-exact
 read_end-returns-clause-exact t c =
@@ -37,3 +38,20 @@ read_condition-returns-clause-exact t c =
     let place = place_of_of_contexts (part_in c.args.s.now c.args.site.now c.args.e.now) in
     let same = same_elements c.args.s.now mid left c.alone.ensures.grows in
     rw (rw c.read_in.ensures at c.in_ok-resolved.ensures.exact) (gives_as c.truth_of.result (truth_of (elements_in mid left) WRONG_TYPE place asked) (truth_of (elements_in c.args.s.now left) WRONG_TYPE place asked) (ap (λ read. truth_of read WRONG_TYPE place asked) same) c.truth_of.ensures.exact)
+
+-- ---- what grows
+
+pub end_of-returns-in_err-whole_scalar-clause-grows : goal.alone::end_of-returns-in_err-whole_scalar-clause-grows
+end_of-returns-in_err-whole_scalar-clause-grows t c = grows_refl c.args.s.now
+
+pub truth_of-returns-in_err-truth_scalar-clause-grows : goal.alone::truth_of-returns-in_err-truth_scalar-clause-grows
+truth_of-returns-in_err-truth_scalar-clause-grows t c = grows_refl c.args.s.now
+
+pub read_end-returns-clause-grows : goal.alone::read_end-returns-clause-grows
+read_end-returns-clause-grows t c = grows_trans _ _ _ c.alone.ensures.grows c.end_of.ensures.grows
+
+pub read_size-returns-clause-grows : goal.alone::read_size-returns-clause-grows
+read_size-returns-clause-grows t c = grows_trans _ _ _ c.alone.ensures.grows c.whole_of.ensures.grows
+
+pub read_condition-returns-clause-grows : goal.alone::read_condition-returns-clause-grows
+read_condition-returns-clause-grows t c = grows_trans _ _ _ c.alone.ensures.grows c.truth_of.ensures.grows

@@ -149,3 +149,17 @@ pub below_each-returns-clause-exact : goal.below::below_each-returns-clause-exac
 below_each-returns-clause-exact t c = λ asking.
     each_done c.args.s.now c.loop-index.s c.loop-index.invariant.grows asking c.args.deeper c.args.place c.args.at.0.now c.requires.member c.args.chosen.now c.next-item.result (omega (arith, c.in-len1-up.len_at_least)) c.next-item.is c.args.at.1.now c.loop-index.index-index
     c.loop-index.made c.loop-index.invariant.there _ (c.loop-index.invariant.is asking) (omega arith)
+
+-- ---- what grows
+
+pub below-returns-in_default-clause-grows : goal.below::below-returns-in_default-clause-grows
+below-returns-in_default-clause-grows t c = grows_refl c.args.s.now
+
+pub below-returns-clause-grows : goal.below::below-returns-clause-grows
+below-returns-clause-grows t c = grows_trans _ _ _ c.agrees.ensures.grows c.below_each.ensures.grows
+
+pub below_each-returns-in_err-part-clause-grows : goal.below::below_each-returns-in_err-part-clause-grows
+below_each-returns-in_err-part-clause-grows t c = grows_trans _ _ _ c.loop-index.invariant.grows c.component_behind.ensures.grows
+
+pub below_each-returns-in_err-below-clause-grows : goal.below::below_each-returns-in_err-below-clause-grows
+below_each-returns-in_err-below-clause-grows t c = grows_trans _ _ _ (grows_trans _ _ _ c.loop-index.invariant.grows c.component_behind.ensures.grows) c.below.ensures.grows

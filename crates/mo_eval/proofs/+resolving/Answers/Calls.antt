@@ -18,6 +18,7 @@ use Rattle.mo_syntax.specs.declared.expr.Args.{out-Args}
 use Rattle.std.proofs.Common.{Err, None, Ok, Some, [], add-one, ap, arith, drop, false, length, refl, rules, suc, sym, true, ◌++◌, ◌∙◌, ◌∷◌, ◌≡◌}
 use Rattle.std.proofs.lemmas.List.{append-nil, drop_all}
 use Rattle.mo_eval.proofs.+resolving.Goals as goal
+use Rattle.mo_names.proofs.Later.{grows_refl, grows_trans}
 
 pub arguments-returns-in_err-one-clause-exact : goal.calls::arguments-returns-in_err-one-clause-exact
 arguments-returns-in_err-one-clause-exact t c = λ parts all.
@@ -446,3 +447,56 @@ call-returns-else-not-are_plain-2-clause-exact t c =
     rw c.in-Der.is
     (made_as _ _ _ _ _ (sym (derived_plain table scope (elements_in c.args.s.now c.args.site.now.left) c.args.site.now.context c.args.place (made_arguments table ask scope c.args.args.now) plain.parts (virtuals_seen (frames_of c.args.s.now) c.args.virtuals.now) plain.made))
     ((rw c.as_slice-in-Der.ensures at c.derivative.ensures.exact) plain.parts plain.is))
+
+-- ---- what grows
+
+pub arguments-returns-in_err-one-clause-grows : goal.calls::arguments-returns-in_err-one-clause-grows
+arguments-returns-in_err-one-clause-grows t c = grows_trans _ _ _ c.loop-arg.invariant.0 c.operand.ensures.grows
+
+pub arguments-returns-in_err-push-clause-grows : goal.calls::arguments-returns-in_err-push-clause-grows
+arguments-returns-in_err-push-clause-grows t c = grows_trans _ _ _ c.loop-arg.invariant.0 c.operand.ensures.grows
+
+pub sizes-returns-in_err-one-clause-grows : goal.calls::sizes-returns-in_err-one-clause-grows
+sizes-returns-in_err-one-clause-grows t c = grows_trans _ _ _ c.loop-arg.invariant.0 c.read_size.ensures.grows
+
+pub sizes-returns-in_err-push-clause-grows : goal.calls::sizes-returns-in_err-push-clause-grows
+sizes-returns-in_err-push-clause-grows t c = grows_trans _ _ _ c.loop-arg.invariant.0 c.read_size.ensures.grows
+
+pub number-returns-in_default-clause-grows : goal.calls::number-returns-in_default-clause-grows
+number-returns-in_default-clause-grows t c = grows_refl c.args.s.now
+
+pub number-returns-in_err-arguments-in-Some-split-clause-grows : goal.calls::number-returns-in_err-arguments-in-Some-split-clause-grows
+number-returns-in_err-arguments-in-Some-split-clause-grows t c = grows_trans _ _ _ c.read_size.ensures.grows c.arguments.ensures.grows
+
+pub number-returns-in_ok-arguments-in-Some-split-clause-grows : goal.calls::number-returns-in_ok-arguments-in-Some-split-clause-grows
+number-returns-in_ok-arguments-in-Some-split-clause-grows t c = grows_trans _ _ _ c.read_size.ensures.grows c.arguments.ensures.grows
+
+pub size-returns-in_default-clause-grows : goal.calls::size-returns-in_default-clause-grows
+size-returns-in_default-clause-grows t c = grows_refl c.args.s.now
+
+pub size-returns-in_err-at-clause-grows : goal.calls::size-returns-in_err-at-clause-grows
+size-returns-in_err-at-clause-grows t c = grows_trans _ _ _ c.array.ensures.grows c.number.ensures.grows
+
+pub size-returns-clause-grows : goal.calls::size-returns-clause-grows
+size-returns-clause-grows t c = grows_trans _ _ _ c.array.ensures.grows c.number.ensures.grows
+
+pub fill-returns-in_default-clause-grows : goal.calls::fill-returns-in_default-clause-grows
+fill-returns-in_default-clause-grows t c = grows_refl c.args.s.now
+
+pub fill-returns-in_err-numbers-clause-grows : goal.calls::fill-returns-in_err-numbers-clause-grows
+fill-returns-in_err-numbers-clause-grows t c = grows_trans _ _ _ c.operand.ensures.grows c.sizes.ensures.grows
+
+pub fill-returns-clause-grows : goal.calls::fill-returns-clause-grows
+fill-returns-clause-grows t c = grows_trans _ _ _ c.operand.ensures.grows c.sizes.ensures.grows
+
+pub call-returns-else-not-are_plain-clause-grows : goal.calls::call-returns-else-not-are_plain-clause-grows
+call-returns-else-not-are_plain-clause-grows t c = grows_trans _ _ _ c.function_named.ensures.grows c.function.ensures.grows
+
+pub call-returns-then-not-are_plain-2-clause-grows : goal.calls::call-returns-then-not-are_plain-2-clause-grows
+call-returns-then-not-are_plain-2-clause-grows t c = grows_refl c.args.s.now
+
+pub call-returns-in-Initial-clause-grows : goal.calls::call-returns-in-Initial-clause-grows
+call-returns-in-Initial-clause-grows t c = grows_refl c.args.s.now
+
+pub call-returns-in-Pure-clause-grows : goal.calls::call-returns-in-Pure-clause-grows
+call-returns-in-Pure-clause-grows t c = grows_refl c.args.s.now

@@ -17,6 +17,7 @@ use Rattle.std.proofs.Common.{Err, None, Ok, Some, [], ap, drop, false, map, rul
 use Rattle.std.proofs.lemmas.List.{drop_all}
 use Rattle.std.specs.Option.{option_map}
 use Rattle.mo_eval.proofs.+resolving.Goals as goal
+use Rattle.mo_names.proofs.Later.{grows_refl, grows_trans}
 
 pub range-returns-in_err-b-clause-exact : goal.choice::range-returns-in_err-b-clause-exact
 range-returns-in_err-b-clause-exact t c =
@@ -191,3 +192,38 @@ choice-returns-clause-exact t c =
     let ending = ap (λ xs. and_then (made_choice read context (map (as_branch f) xs) (f c.args.other.now) before) (behind_made c.loop-one.made)) (sym all) ∙ c.loop-one.invariant.2 in
     let after = virtuals_seen (frames_of c.operand.new.s) c.operand.new.virtuals in
     record { is = sym ending ∙ none_left read context (f c.args.other.now) c.loop-one.made before after c.in_ok-rest.rest (made_as _ _ _ _ _ same c.in_ok-rest.ensures.exact).is }
+
+-- ---- what grows
+
+pub read_step-returns-in-None-clause-grows : goal.choice::read_step-returns-in-None-clause-grows
+read_step-returns-in-None-clause-grows t c = grows_refl c.args.s.now
+
+pub range-returns-in_err-b-clause-grows : goal.choice::range-returns-in_err-b-clause-grows
+range-returns-in_err-b-clause-grows t c = grows_trans _ _ _ c.read_end.ensures.grows c.read_step.ensures.grows
+
+pub range-returns-in_err-c-clause-grows : goal.choice::range-returns-in_err-c-clause-grows
+range-returns-in_err-c-clause-grows t c = grows_trans _ _ _ (grows_trans _ _ _ c.read_end.ensures.grows c.read_step.ensures.grows) c.read_end-2.ensures.grows
+
+pub range-returns-clause-grows : goal.choice::range-returns-clause-grows
+range-returns-clause-grows t c = grows_trans _ _ _ (grows_trans _ _ _ c.read_end.ensures.grows c.read_step.ensures.grows) c.read_end-2.ensures.grows
+
+pub made_branch-returns-in-Some-true-clause-grows : goal.choice::made_branch-returns-in-Some-true-clause-grows
+made_branch-returns-in-Some-true-clause-grows t c = grows_trans _ _ _ c.read_condition.ensures.grows c.operand.ensures.grows
+
+pub made_branch-returns-in-None-clause-grows : goal.choice::made_branch-returns-in-None-clause-grows
+made_branch-returns-in-None-clause-grows t c = grows_trans _ _ _ c.read_condition.ensures.grows c.two.ensures.grows
+
+pub choice-returns-in_err-step-clause-grows : goal.choice::choice-returns-in_err-step-clause-grows
+choice-returns-in_err-step-clause-grows t c = grows_trans _ _ _ c.loop-one.invariant.0 c.made_branch.ensures.grows
+
+pub choice-returns-in_err-value-clause-grows : goal.choice::choice-returns-in_err-value-clause-grows
+choice-returns-in_err-value-clause-grows t c = grows_trans _ _ _ c.loop-one.invariant.0 c.made_branch.ensures.grows
+
+pub choice-returns-in-Some-clause-grows : goal.choice::choice-returns-in-Some-clause-grows
+choice-returns-in-Some-clause-grows t c = grows_trans _ _ _ c.loop-one.invariant.0 c.made_branch.ensures.grows
+
+pub choice-returns-in_err-rest-clause-grows : goal.choice::choice-returns-in_err-rest-clause-grows
+choice-returns-in_err-rest-clause-grows t c = grows_trans _ _ _ c.loop-one.invariant.0 c.operand.ensures.grows
+
+pub choice-returns-clause-grows : goal.choice::choice-returns-clause-grows
+choice-returns-clause-grows t c = grows_trans _ _ _ c.loop-one.invariant.0 c.operand.ensures.grows

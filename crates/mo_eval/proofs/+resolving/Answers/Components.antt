@@ -25,6 +25,7 @@ use Rattle.mo_scope.specs.Worlds.{frames_of, table_in}
 use Rattle.std.proofs.Common.{Err, None, Ok, Some, ap, map, refl, rules, subst, sym, ◌∙◌, ◌≡◌}
 use Rattle.mo_eval.specs.declared.virtuals.Resolved.{Resolved as ResolvedAt}
 use Rattle.mo_eval.proofs.+resolving.Goals as goal
+use Rattle.mo_names.proofs.Later.{grows_refl, grows_trans}
 
 pub resolved_binding-alone-requires : goal.components::resolved_binding-alone-requires
 resolved_binding-alone-requires t c = (search rules, (c.requires.frame, c.take_binding.ensures.kept c.args.s.now c.requires.kept))
@@ -233,3 +234,38 @@ is_there-returns-in_ok-keep_there-in-Some-clause-kept t c =
 
 pub is_there-returns-in_ok-keep_there-in-Some-clause-exact : goal.components::is_there-returns-in_ok-keep_there-in-Some-clause-exact
 is_there-returns-in_ok-keep_there-in-Some-clause-exact t c = rw (c.in-Component.is, c.in-Some.is) c.in_ok-there-in-Some.ensures.exact
+
+-- ---- what grows
+
+pub condition_in-returns-in_err-known-clause-grows : goal.components::condition_in-returns-in_err-known-clause-grows
+condition_in-returns-in_err-known-clause-grows t c = grows_trans _ _ _ c.alone.ensures.grows c.truth_of.ensures.grows
+
+pub condition_in-returns-clause-grows : goal.components::condition_in-returns-clause-grows
+condition_in-returns-clause-grows t c = grows_trans _ _ _ c.alone.ensures.grows c.truth_of.ensures.grows
+
+pub is_there-returns-in-Class-clause-grows : goal.components::is_there-returns-in-Class-clause-grows
+is_there-returns-in-Class-clause-grows t c = grows_refl c.args.s.now
+
+pub is_there-returns-in-None-clause-grows : goal.components::is_there-returns-in-None-clause-grows
+is_there-returns-in-None-clause-grows t c = grows_refl c.args.s.now
+
+pub is_there-returns-in-Some-there_kept-clause-grows : goal.components::is_there-returns-in-Some-there_kept-clause-grows
+is_there-returns-in-Some-there_kept-clause-grows t c = grows_refl c.args.s.now
+
+pub bound_value-returns-in_err-fits-clause-grows : goal.components::bound_value-returns-in_err-fits-clause-grows
+bound_value-returns-in_err-fits-clause-grows t c = grows_refl c.args.s.now
+
+pub resolved_binding-returns-in-Some-clause-grows : goal.components::resolved_binding-returns-in-Some-clause-grows
+resolved_binding-returns-in-Some-clause-grows t c = grows_refl c.args.s.now
+
+pub value_in-returns-in_err-known-clause-grows : goal.components::value_in-returns-in_err-known-clause-grows
+value_in-returns-in_err-known-clause-grows t c = grows_trans _ _ _ c.resolved_binding.ensures.grows c.bound_value.ensures.grows
+
+pub value_in-returns-in_err-keep_binding-clause-grows : goal.components::value_in-returns-in_err-keep_binding-clause-grows
+value_in-returns-in_err-keep_binding-clause-grows t c = grows_trans _ _ _ c.resolved_binding.ensures.grows c.bound_value.ensures.grows
+
+pub value_in-returns-clause-grows : goal.components::value_in-returns-clause-grows
+value_in-returns-clause-grows t c = grows_trans _ _ _ c.resolved_binding.ensures.grows c.bound_value.ensures.grows
+
+pub element_value-returns-clause-grows : goal.components::element_value-returns-clause-grows
+element_value-returns-clause-grows t c = grows_trans _ _ _ c.child_of_member.ensures.grows c.value_in.ensures.grows

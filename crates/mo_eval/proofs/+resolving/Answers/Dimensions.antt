@@ -256,3 +256,35 @@ put_dims-dim_at-requires t c =
       search rules,
       (is_member_later s now c.args.of.now.member.now grows c.requires.member, (is_frame_later s now c.args.sizes.now.scope.frame.0 grows c.requires.frame, c.loop-sub.invariant.kept)),
     )
+
+-- ---- what grows
+
+pub written_dim-returns-clause-grows : goal.dimensions::written_dim-returns-clause-grows
+written_dim-returns-clause-grows t c = grows_trans _ _ _ c.alone.ensures.grows c.whole_of.ensures.grows
+
+pub binding_dims-returns-clause-grows : goal.dimensions::binding_dims-returns-clause-grows
+binding_dims-returns-clause-grows t c = grows_trans _ _ _ c.child_of_member.ensures.grows c.dims_in.ensures.grows
+
+pub put_dims-returns-in_err-n-clause-grows : goal.dimensions::put_dims-returns-in_err-n-clause-grows
+put_dims-returns-in_err-n-clause-grows t c = grows_trans _ _ _ c.loop-sub.invariant.grows c.dim_at.ensures.grows
+
+pub put_dims-returns-in_err-push-clause-grows : goal.dimensions::put_dims-returns-in_err-push-clause-grows
+put_dims-returns-in_err-push-clause-grows t c = grows_trans _ _ _ c.loop-sub.invariant.grows c.dim_at.ensures.grows
+
+pub all_dims-returns-in_err-put_dims-clause-grows : goal.dimensions::all_dims-returns-in_err-put_dims-clause-grows
+all_dims-returns-in_err-put_dims-clause-grows t c = grows_trans _ _ _ c.loop-one.invariant.grows c.put_dims.ensures.grows
+
+pub dims-returns-in_err-known-clause-grows : goal.dimensions::dims-returns-in_err-known-clause-grows
+dims-returns-in_err-known-clause-grows t c = grows_refl c.args.s.now
+
+pub dims-returns-in-Some-clause-grows : goal.dimensions::dims-returns-in-Some-clause-grows
+dims-returns-in-Some-clause-grows t c = grows_refl c.args.s.now
+
+pub dims-returns-in_err-dims-clause-grows : goal.dimensions::dims-returns-in_err-dims-clause-grows
+dims-returns-in_err-dims-clause-grows t c = grows_trans _ _ _ c.all_sizes.ensures.grows c.all_dims.ensures.grows
+
+pub dims-returns-in_err-keep_dims-clause-grows : goal.dimensions::dims-returns-in_err-keep_dims-clause-grows
+dims-returns-in_err-keep_dims-clause-grows t c = grows_trans _ _ _ c.all_sizes.ensures.grows c.all_dims.ensures.grows
+
+pub dims-returns-clause-grows : goal.dimensions::dims-returns-clause-grows
+dims-returns-clause-grows t c = grows_trans _ _ _ c.all_sizes.ensures.grows c.all_dims.ensures.grows

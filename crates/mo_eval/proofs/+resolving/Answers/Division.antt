@@ -15,6 +15,7 @@ use Rattle.mo_values.specs.Walk.{known_by}
 use Rattle.mo_scope.specs.Worlds.{frames_of}
 use Rattle.std.proofs.Common.{Err, Ok, [], ap, false, rules, sym, true, ◌∙◌, ◌≡◌}
 use Rattle.mo_eval.proofs.+resolving.Goals as goal
+use Rattle.mo_names.proofs.Later.{grows_refl, grows_trans}
 
 pub value_of-returns-in_default-clause-exact : goal.division::value_of-returns-in_default-clause-exact
 value_of-returns-in_default-clause-exact t c =
@@ -151,3 +152,20 @@ division-returns-clause-exact t c = λ parts all.
     let made = (rw c.read_in.ensures at (c.in_ok-operands.ensures.exact parts all)).is in
     let checked : checked_operands c.args.called.place operands ≡ Ok tt = rw c.as_slice.ensures at c.in_ok-checked_operands.ensures in
     rw (kept_is read context c.args.called.place c.args.called.function parts before not, made, checked) (c.put.ensures.exact c.arguments.new.s)
+
+-- ---- what grows
+
+pub value_of-returns-in_default-clause-grows : goal.division::value_of-returns-in_default-clause-grows
+value_of-returns-in_default-clause-grows t c = grows_refl c.args.s.now
+
+pub value_of-returns-in_err-n-clause-grows : goal.division::value_of-returns-in_err-n-clause-grows
+value_of-returns-in_err-n-clause-grows t c = grows_trans _ _ _ c.known_in.ensures.grows c.known_in-2.ensures.grows
+
+pub value_of-returns-clause-grows : goal.division::value_of-returns-clause-grows
+value_of-returns-clause-grows t c = grows_trans _ _ _ c.known_in.ensures.grows c.known_in-2.ensures.grows
+
+pub in_flat-returns-in_err-known-clause-grows : goal.division::in_flat-returns-in_err-known-clause-grows
+in_flat-returns-in_err-known-clause-grows t c = grows_trans _ _ _ c.arguments.ensures.grows c.value_of.ensures.grows
+
+pub in_flat-returns-clause-grows : goal.division::in_flat-returns-clause-grows
+in_flat-returns-clause-grows t c = grows_trans _ _ _ c.arguments.ensures.grows c.value_of.ensures.grows

@@ -10,7 +10,7 @@ use Rattle.mo_eval.specs.Seen.{virtuals_seen}
 use Rattle.mo_eval.specs.steps.Sites.{part_in}
 use Rattle.mo_eval.specs.steps.Absence.{Breaks}
 use Rattle.mo_eval.specs.steps.Selecting.{elements_seen, selections_seen}
-use Rattle.mo_names.proofs.Later.{grows_trans, is_member_later}
+use Rattle.mo_names.proofs.Later.{grows_trans, is_member_later, grows_refl}
 use Rattle.mo_scope.specs.Worlds.{frames_of}
 use Rattle.std.proofs.Common.{Err, Ok, ap, arith, get_or, length, refl, rules, suc, sym, ◌-◌, ◌<◌, ◌∙◌, ◌≡◌}
 use Rattle.std.proofs.lemmas.Grind.{common_steps}
@@ -239,3 +239,14 @@ elements_selected-returns-clause-exact t c = λ asking.
           rw (w.s-is, w.made-is, sym c.is_inside.ensures ∙ w.if-is_inside.true) (sym (more_of_none _) ∙ (rw c.new-made.ensures at (w.in_ok-below.ensures.exact asking)))
       | references::elements_selected-else-is_inside w ↦ rw (w.s-is, w.made-is, c.new-made.ensures, sym c.is_inside.ensures ∙ w.if-is_inside.false) refl
     ]
+
+-- ---- what grows
+
+pub components-returns-then-site-eq0-clause-grows : goal.references::components-returns-then-site-eq0-clause-grows
+components-returns-then-site-eq0-clause-grows t c = grows_refl c.args.s.now
+
+pub components-returns-in_err-elements-clause-grows : goal.references::components-returns-in_err-elements-clause-grows
+components-returns-in_err-elements-clause-grows t c = grows_trans _ _ _ c.selections.ensures.grows c.elements_selected.ensures.grows
+
+pub name-returns-in-Components-clause-grows : goal.references::name-returns-in-Components-clause-grows
+name-returns-in-Components-clause-grows t c = grows_trans _ _ _ c.named.ensures.grows c.components.ensures.grows

@@ -17,6 +17,7 @@ use Rattle.mo_typing.proofs.Gathering.{opened}
 use Rattle.std.proofs.Common.{Err, List, Ok, [], ap, drop, map, refl, rules, sym, ◌++◌, ◌+◌, ◌∙◌, ◌∷◌, ◌≡◌}
 use Rattle.std.specs.Option.{option_map}
 use Rattle.mo_eval.proofs.+resolving.Goals as goal
+use Rattle.mo_names.proofs.Later.{grows_refl, grows_trans}
 
 pub resolve-returns-clause-exact : goal.resolve::resolve-returns-clause-exact
 resolve-returns-clause-exact t c =
@@ -218,3 +219,53 @@ resolve_node-returns-in-If-clause-exact t c =
 pub resolve_node-returns-in-Call-clause-exact : goal.resolve::resolve_node-returns-in-Call-clause-exact
 resolve_node-returns-in-Call-clause-exact t c =
     rw (c.in-Call.is, at_Call (table_in c.args.s.now) (ask_of c.args.s.now c.args.site.now) (scope_of c.args.s.now c.args.site.now) c.in-Call.callee c.in-Call.args) (c.at_place-in-Call.ensures _ _ _ c.call-made.ensures.exact)
+
+-- ---- what grows
+
+pub two-returns-in_err-second-clause-grows : goal.resolve::two-returns-in_err-second-clause-grows
+two-returns-in_err-second-clause-grows t c = grows_trans _ _ _ c.operand.ensures.grows c.operand-2.ensures.grows
+
+pub two-returns-clause-grows : goal.resolve::two-returns-clause-grows
+two-returns-clause-grows t c = grows_trans _ _ _ c.operand.ensures.grows c.operand-2.ensures.grows
+
+pub operands-returns-in_err-one-clause-grows : goal.resolve::operands-returns-in_err-one-clause-grows
+operands-returns-in_err-one-clause-grows t c = grows_trans _ _ _ c.loop-part.invariant.0 c.operand.ensures.grows
+
+pub operands-returns-in_err-push-clause-grows : goal.resolve::operands-returns-in_err-push-clause-grows
+operands-returns-in_err-push-clause-grows t c = grows_trans _ _ _ c.loop-part.invariant.0 c.operand.ensures.grows
+
+pub terms-returns-in_err-one-clause-grows : goal.resolve::terms-returns-in_err-one-clause-grows
+terms-returns-in_err-one-clause-grows t c = grows_trans _ _ _ c.loop-term.invariant.0 c.operand.ensures.grows
+
+pub terms-returns-in_err-push-clause-grows : goal.resolve::terms-returns-in_err-push-clause-grows
+terms-returns-in_err-push-clause-grows t c = grows_trans _ _ _ c.loop-term.invariant.0 c.operand.ensures.grows
+
+pub factors-returns-in_err-one-clause-grows : goal.resolve::factors-returns-in_err-one-clause-grows
+factors-returns-in_err-one-clause-grows t c = grows_trans _ _ _ c.loop-factor.invariant.0 c.operand.ensures.grows
+
+pub factors-returns-in_err-push-clause-grows : goal.resolve::factors-returns-in_err-push-clause-grows
+factors-returns-in_err-push-clause-grows t c = grows_trans _ _ _ c.loop-factor.invariant.0 c.operand.ensures.grows
+
+pub resolve_node-returns-in-Whole-clause-grows : goal.resolve::resolve_node-returns-in-Whole-clause-grows
+resolve_node-returns-in-Whole-clause-grows t c = grows_refl c.args.s.now
+
+pub resolve_node-returns-in-Decimal-clause-grows : goal.resolve::resolve_node-returns-in-Decimal-clause-grows
+resolve_node-returns-in-Decimal-clause-grows t c = grows_refl c.args.s.now
+
+pub resolve_node-returns-in-Str-clause-grows : goal.resolve::resolve_node-returns-in-Str-clause-grows
+resolve_node-returns-in-Str-clause-grows t c = grows_refl c.args.s.now
+
+pub resolve_node-returns-in-Truth-clause-grows : goal.resolve::resolve_node-returns-in-Truth-clause-grows
+resolve_node-returns-in-Truth-clause-grows t c = grows_refl c.args.s.now
+
+pub resolve_node-returns-in-EndMark-clause-grows : goal.resolve::resolve_node-returns-in-EndMark-clause-grows
+resolve_node-returns-in-EndMark-clause-grows t c = grows_refl c.args.s.now
+
+pub resolve_node-returns-in-Tuple-clause-grows : goal.resolve::resolve_node-returns-in-Tuple-clause-grows
+resolve_node-returns-in-Tuple-clause-grows t c = grows_refl c.args.s.now
+
+pub resolve_node-returns-in-ArrayFor-clause-grows : goal.resolve::resolve_node-returns-in-ArrayFor-clause-grows
+resolve_node-returns-in-ArrayFor-clause-grows t c = grows_refl c.args.s.now
+
+pub resolve_node-returns-in-Matrix-clause-grows : goal.resolve::resolve_node-returns-in-Matrix-clause-grows
+resolve_node-returns-in-Matrix-clause-grows t c = grows_refl c.args.s.now

@@ -178,3 +178,20 @@ selections-selection_at-requires t c =
         ),
       ),
     )
+
+-- ---- what grows
+
+pub selection_at-returns-in_err-subs-clause-grows : goal.selections::selection_at-returns-in_err-subs-clause-grows
+selection_at-returns-in_err-subs-clause-grows t c = grows_trans _ _ _ c.dims_at.ensures.grows c.read_subscripts.ensures.grows
+
+pub selection_at-returns-clause-grows : goal.selections::selection_at-returns-clause-grows
+selection_at-returns-clause-grows t c = grows_trans _ _ _ c.dims_at.ensures.grows c.read_subscripts.ensures.grows
+
+pub selections-returns-in_err-selection-clause-grows : goal.selections::selections-returns-in_err-selection-clause-grows
+selections-returns-in_err-selection-clause-grows t c = grows_trans _ _ _ c.loop-i.invariant.grows c.selection_at.ensures.grows
+
+pub selections-returns-in_err-member-clause-grows : goal.selections::selections-returns-in_err-member-clause-grows
+selections-returns-in_err-member-clause-grows t c = grows_trans _ _ _ (grows_trans _ _ _ c.loop-i.invariant.grows c.selection_at.ensures.grows) c.member_behind.ensures.grows
+
+pub selections-returns-in_err-push-clause-grows : goal.selections::selections-returns-in_err-push-clause-grows
+selections-returns-in_err-push-clause-grows t c = grows_trans _ _ _ (grows_trans _ _ _ c.loop-i.invariant.grows c.selection_at.ensures.grows) c.member_behind.ensures.grows

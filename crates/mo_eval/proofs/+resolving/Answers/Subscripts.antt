@@ -23,6 +23,7 @@ use Rattle.std.proofs.Common.{Err, List, Ok, [], ap, arith, drop, get_or, length
 use Rattle.std.proofs.lemmas.List.{drop-map, drop_all, length-map}
 use Rattle.std.specs.Option.{option_map}
 use Rattle.mo_eval.proofs.+resolving.Goals as goal
+use Rattle.mo_names.proofs.Later.{grows_refl, grows_trans}
 
 pub numbers_of-loop-k-init : goal.subscripts::numbers_of-loop-k-init
 numbers_of-loop-k-init t c =
@@ -208,3 +209,35 @@ read_subscripts-returns-clause-exact t c =
     let read = elements_in c.args.s.now c.args.site.now.left in
     let subs = map (option_map (part_in c.args.s.now c.args.site.now)) c.args.subs.now in
     subscripts_end read c.loop-k.made c.args.dims.now subs c.loop-k.k _ c.loop-k.invariant.1 (omega arith)
+
+-- ---- what grows
+
+pub numbers_of-returns-in_err-reads-clause-grows : goal.subscripts::numbers_of-returns-in_err-reads-clause-grows
+numbers_of-returns-in_err-reads-clause-grows t c = grows_refl c.args.s.now
+
+pub numbers_of-returns-in_err-known-clause-grows : goal.subscripts::numbers_of-returns-in_err-known-clause-grows
+numbers_of-returns-in_err-known-clause-grows t c = grows_trans _ _ _ c.loop-k.invariant.0 c.known_with.ensures.grows
+
+pub numbers_of-returns-in_err-n-clause-grows : goal.subscripts::numbers_of-returns-in_err-n-clause-grows
+numbers_of-returns-in_err-n-clause-grows t c = grows_trans _ _ _ c.loop-k.invariant.0 c.known_with.ensures.grows
+
+pub numbers_of-returns-in_err-push-clause-grows : goal.subscripts::numbers_of-returns-in_err-push-clause-grows
+numbers_of-returns-in_err-push-clause-grows t c = grows_trans _ _ _ c.loop-k.invariant.0 c.known_with.ensures.grows
+
+pub subscript_in-returns-in_err-dims-clause-grows : goal.subscripts::subscript_in-returns-in_err-dims-clause-grows
+subscript_in-returns-in_err-dims-clause-grows t c = grows_refl c.args.s.now
+
+pub read_subscript-returns-in_default-clause-grows : goal.subscripts::read_subscript-returns-in_default-clause-grows
+read_subscript-returns-in_default-clause-grows t c = grows_refl c.args.s.now
+
+pub read_subscript-returns-clause-grows : goal.subscripts::read_subscript-returns-clause-grows
+read_subscript-returns-clause-grows t c = grows_trans _ _ _ c.alone.ensures.grows c.subscript_in.ensures.grows
+
+pub subscript_at-returns-in-None-clause-grows : goal.subscripts::subscript_at-returns-in-None-clause-grows
+subscript_at-returns-in-None-clause-grows t c = grows_refl c.args.s.now
+
+pub read_subscripts-returns-in_err-sub-clause-grows : goal.subscripts::read_subscripts-returns-in_err-sub-clause-grows
+read_subscripts-returns-in_err-sub-clause-grows t c = grows_trans _ _ _ c.loop-k.invariant.0 c.subscript_of.ensures.grows
+
+pub read_subscripts-returns-in_err-push-clause-grows : goal.subscripts::read_subscripts-returns-in_err-push-clause-grows
+read_subscripts-returns-in_err-push-clause-grows t c = grows_trans _ _ _ c.loop-k.invariant.0 c.subscript_of.ensures.grows

@@ -18,6 +18,7 @@ use Rattle.std.proofs.lemmas.Option.{slice_get-map}
 use Rattle.std.specs.Option.{option_map}
 use Rattle.std.specs.Prelude.{slice_get}
 use Rattle.mo_eval.proofs.+resolving.Goals as goal
+use Rattle.mo_names.proofs.Later.{grows_refl}
 
 pub element_known-returns-then-not-is_read-clause-exact : goal.variables::element_known-returns-then-not-is_read-clause-exact
 element_known-returns-then-not-is_read-clause-exact t c =
@@ -146,3 +147,23 @@ known_in-known_with-requires t c =
     let read = elements_in c.args.s.now c.args.left in
     let virtuals = virtuals_seen (frames_of c.args.s.now) c.args.virtuals.now in
     (search rules, (c.requires.there, (c.in_ok-reads.ensures (known_of_virtuals read virtuals) (length_known read virtuals ∙ length-map c.args.virtuals.now (virtual_seen (frames_of c.args.s.now))), c.requires.kept)))
+
+-- ---- what grows
+
+pub element_known-returns-then-not-is_read-clause-grows : goal.variables::element_known-returns-then-not-is_read-clause-grows
+element_known-returns-then-not-is_read-clause-grows t c = grows_refl c.args.s.now
+
+pub element_known-returns-then-left-eq0-clause-grows : goal.variables::element_known-returns-then-left-eq0-clause-grows
+element_known-returns-then-left-eq0-clause-grows t c = grows_refl c.args.s.now
+
+pub element_known-returns-in-Some-clause-grows : goal.variables::element_known-returns-in-Some-clause-grows
+element_known-returns-in-Some-clause-grows t c = grows_refl c.args.s.now
+
+pub variable_known-returns-in-Some-Division-clause-grows : goal.variables::variable_known-returns-in-Some-Division-clause-grows
+variable_known-returns-in-Some-Division-clause-grows t c = grows_refl c.args.s.now
+
+pub variable_known-returns-in-None-clause-grows : goal.variables::variable_known-returns-in-None-clause-grows
+variable_known-returns-in-None-clause-grows t c = grows_refl c.args.s.now
+
+pub known_in-returns-in_err-reads-clause-grows : goal.variables::known_in-returns-in_err-reads-clause-grows
+known_in-returns-in_err-reads-clause-grows t c = grows_refl c.args.s.now

@@ -1,4 +1,4 @@
-use Rattle.std.proofs.Common.{◌≡◌, refl, sym, subst}
+use Rattle.std.proofs.Common.{◌≡◌, Ok, refl, sym, subst}
 use Rattle.mo_scope.specs.Worlds.{frame_in}
 use Rattle.std.proofs.Common.{ap, ◌∙◌, ◌++◌, ◌∷◌, []}
 use Rattle.mo_names.specs.declared.found.Found.TheVariants.{Component as component_at}
@@ -14,4 +14,4 @@ returns-in-Component-clause-there c = λ world is are.
 
 pub returns-in-Component-clause-exact : goal.returns-in-Component-clause-exact
 returns-in-Component-clause-exact c = λ f frames.
-    rw (c.in_ok-push-in-Component.ensures.ok, c.in-Component.is) (last_seen f frames c.args.names _ (frame_in frames c.in-Component.field-0.0))
+    rw (c.in_ok-push-in-Component.ensures.ok, c.in-Component.is) (ap Ok (sym (last_seen f frames c.args.names _ (frame_in frames c.in-Component.field-0.0))))

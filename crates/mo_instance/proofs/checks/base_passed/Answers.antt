@@ -12,6 +12,7 @@ use Rattle.mo_instance.specs.Passes.{inherits}
 use Rattle.mo_instance.proofs.Checking.{base_before}
 use Rattle.mo_instance.proofs.Lists.{broken_on, length_mapped}
 use Rattle.mo_syntax.specs.Outcome.{Outcome, and_then}
+use Rattle.mo_names.proofs.Later.{grows_trans}
 use Rattle.mo_instance.proofs.checks.base_passed.Goals as goal
 
 pub returns-in_err-frame_passed-clause-value : goal.returns-in_err-frame_passed-clause-value
@@ -32,3 +33,12 @@ returns-clause-value c =
     let counted = c.len-passed.ensures ∙ sym (length_mapped (source_in (frames_of v)) (map source_seen c.sources.result.now) ∙ length_mapped source_seen c.sources.result.now) ∙ ap length c.sources.ensures.is in
     sym (base_before c.args.s.now v c.args.frame.0 c.args.base.0 walked c.len-passed.result c.in_ok-walk.ensures.grows c.requires.frame c.requires.base c.in_ok-walk.ensures.value counted)
     ∙ ap (λ (o : Outcome Walked). and_then o (λ _. fine)) c.in_ok-frame_passed.ensures.value
+
+pub returns-in_err-walk-clause-grows : goal.returns-in_err-walk-clause-grows
+returns-in_err-walk-clause-grows c = c.in_err-walk.ensures.grows
+
+pub returns-in_err-frame_passed-clause-grows : goal.returns-in_err-frame_passed-clause-grows
+returns-in_err-frame_passed-clause-grows c = grows_trans c.args.s.now c.walk_of.new.s c.frame_passed.new.s c.in_ok-walk.ensures.grows c.in_err-frame_passed.ensures.grows
+
+pub returns-clause-grows : goal.returns-clause-grows
+returns-clause-grows c = grows_trans c.args.s.now c.walk_of.new.s c.frame_passed.new.s c.in_ok-walk.ensures.grows c.in_ok-frame_passed.ensures.grows

@@ -8,7 +8,7 @@ use Rattle.mo_scope.specs.Outcome.{Gives}
 use Rattle.mo_scope.specs.Redeclarations.{Checked}
 use Rattle.mo_scope.specs.Worlds.{frame_at, frames_of, table_in}
 use Rattle.mo_names.specs.Sights.{walk_seen}
-use Rattle.mo_names.proofs.Later.{is_walk_later, walk_later}
+use Rattle.mo_names.proofs.Later.{grows_trans, is_walk_later, walk_later}
 use Rattle.mo_instance.specs.steps.Checks.{frame_passes}
 use Rattle.mo_instance.specs.steps.FirstPass.{is_replaced_by}
 use Rattle.mo_instance.specs.steps.Walks.{walk_or_none}
@@ -45,3 +45,12 @@ returns-clause-value c =
 
 pub returns-clause-stand : goal.returns-clause-stand
 returns-clause-stand c = is_walk_later c.walk_of.new.s c.passes.new.s c.in_ok-walk.walk c.in_ok-passes.ensures.grows c.in_ok-walk.ensures.stand
+
+pub returns-in_err-walk-clause-grows : goal.returns-in_err-walk-clause-grows
+returns-in_err-walk-clause-grows c = c.in_err-walk.ensures.grows
+
+pub returns-in_err-passes-clause-grows : goal.returns-in_err-passes-clause-grows
+returns-in_err-passes-clause-grows c = grows_trans c.args.s.now c.walk_of.new.s c.passes.new.s c.in_ok-walk.ensures.grows c.in_err-passes.ensures.grows
+
+pub returns-clause-grows : goal.returns-clause-grows
+returns-clause-grows c = grows_trans c.args.s.now c.walk_of.new.s c.passes.new.s c.in_ok-walk.ensures.grows c.in_ok-passes.ensures.grows

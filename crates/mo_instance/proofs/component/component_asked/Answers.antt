@@ -5,6 +5,7 @@ use Rattle.mo_syntax.specs.Outcome.{Outcome, and_then}
 use Rattle.mo_syntax.specs.declared.meaning.FrameId.{FrameId}
 use Rattle.mo_scope.specs.Worlds.{frame_at, frames_of, table_in}
 use Rattle.mo_names.specs.Sights.{member_of}
+use Rattle.mo_names.proofs.Later.{grows_trans}
 use Rattle.mo_typing.specs.Dims.{Dims}
 use Rattle.mo_eval.proofs.Grown.{kept_still}
 use Rattle.mo_eval.specs.Values.{most_references, component_dims}
@@ -46,3 +47,15 @@ returns-clause-value c =
 
 pub returns-clause-kept : goal.returns-clause-kept
 returns-clause-kept c = kept_still c.dims.new.s c.around_parts.new.s c.in_ok-below.ensures.grows c.dims.new.self c.in_ok-dims.ensures.kept
+
+pub returns-in_err-class-clause-grows : goal.returns-in_err-class-clause-grows
+returns-in_err-class-clause-grows c = c.in_err-class.ensures.grows
+
+pub returns-in_err-dims-clause-grows : goal.returns-in_err-dims-clause-grows
+returns-in_err-dims-clause-grows c = grows_trans c.args.s.now c.component_class.new.s c.dims.new.s c.in_ok-class.ensures.grows c.in_err-dims.ensures.grows
+
+pub returns-in_err-below-clause-grows : goal.returns-in_err-below-clause-grows
+returns-in_err-below-clause-grows c = grows_trans c.args.s.now c.dims.new.s c.around_parts.new.s (grows_trans c.args.s.now c.component_class.new.s c.dims.new.s c.in_ok-class.ensures.grows c.in_ok-dims.ensures.grows) c.in_err-below.ensures.grows
+
+pub returns-clause-grows : goal.returns-clause-grows
+returns-clause-grows c = grows_trans c.args.s.now c.dims.new.s c.around_parts.new.s (grows_trans c.args.s.now c.component_class.new.s c.dims.new.s c.in_ok-class.ensures.grows c.in_ok-dims.ensures.grows) c.in_ok-below.ensures.grows

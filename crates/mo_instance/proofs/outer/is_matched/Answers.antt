@@ -40,3 +40,12 @@ is_matched_by-requires-clause-outer c =
       is_member_later u w c.args.outer.now (grows_trans u v w c.in_ok-child.ensures.grows c.in_ok-other.ensures.grows) c.requires.outer,
       is_child_later v w c.in_ok-child.child c.in_ok-other.ensures.grows c.in_ok-child.ensures.stand,
     )
+
+pub returns-in_err-child-clause-grows : goal.returns-in_err-child-clause-grows
+returns-in_err-child-clause-grows c = c.in_err-child.ensures.grows
+
+pub returns-in_err-other-clause-grows : goal.returns-in_err-other-clause-grows
+returns-in_err-other-clause-grows c = grows_trans c.args.s.now c.child_of_member.new.s c.child_of_member-2.new.s c.in_ok-child.ensures.grows c.in_err-other.ensures.grows
+
+pub returns-clause-grows : goal.returns-clause-grows
+returns-clause-grows c = grows_trans c.args.s.now c.child_of_member-2.new.s c.is_matched_by.new.s (grows_trans c.args.s.now c.child_of_member.new.s c.child_of_member-2.new.s c.in_ok-child.ensures.grows c.in_ok-other.ensures.grows) c.is_matched_by.ensures.grows
