@@ -8,7 +8,7 @@ use Rattle.mo_flat.specs.declared.expr.FlatExpr as flat
 use Rattle.mo_flat.specs.declared.model.FlatEquation.{FlatEquation}
 use Rattle.mo_flat.specs.declared.model.FlatVar.{FlatVar}
 use Rattle.mo_flat.specs.Roles.{variable_at}
-use Rattle.mo_flat.specs.Sound.{flat_kind, is_numeric}
+use Rattle.mo_flat.specs.Sound.{IsSoundEquation, flat_kind, is_numeric}
 
 abbrev pub variable_of : ℕ × Bool → FlatExpr
 variable_of member = flat.Var member.0 0
@@ -45,3 +45,10 @@ IsNumericVariable vars n = IsTrue (is_numeric (option_map (λ v. flat_kind v.kin
 
 abbrev pub HasNumericMembers : List FlatVar → FaceSet → Type 0
 HasNumericMembers vars set = All (λ member. IsNumericVariable vars member.0) set.members
+
+-- the same of all sets
+abbrev pub HaveNumericMembers : List FlatVar → List FaceSet → Type 0
+HaveNumericMembers vars sets = All (HasNumericMembers vars) sets
+
+abbrev pub AreSoundEquations : List FlatVar → List FlatEquation → Type 0
+AreSoundEquations vars equations = All (IsSoundEquation vars) equations

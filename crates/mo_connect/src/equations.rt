@@ -1,8 +1,7 @@
 //! The equations of connection sets.
 ghost use Rattle.std.specs.Prelude.{◌≡◌, ◌∷◌, [], ◌++◌, List, map, flat_map, All, IfOk, OnOk};
 ghost use Rattle.mo_flat.specs.declared.model.FlatVar.{FlatVar};
-ghost use Rattle.mo_flat.specs.Sound.{IsSoundEquation};
-ghost use Rattle.mo_connect.specs.Equations.{variable_of, term_of, equality_with, sum_of, flow_equation, potential_equations, equations_of, HasNumericMembers};
+ghost use Rattle.mo_connect.specs.Equations.{variable_of, term_of, equality_with, sum_of, flow_equation, potential_equations, equations_of, AreSoundEquations, HaveNumericMembers};
 
 use mo_flat::{FaceSet, FlatEquation, FlatExpr};
 use mo_syntax::{List, NoMemory, Place};
@@ -13,7 +12,7 @@ use std::alloc::Global;
 /// members are variables whose values are numbers. `NoMemory` is the only other answer.
 pub fn set_equations(alloc: Global, sets: &[FaceSet]) -> Result<List<FlatEquation>, NoMemory>
     ensures equations { IfOk result (λ made. made ≡ flat_map equations_of sets.now) }
-    ensures sound { (vars : List FlatVar) → All (HasNumericMembers vars) sets.now → IfOk result (λ made. All (IsSoundEquation vars) made) }
+    ensures sound { (vars : List FlatVar) → HaveNumericMembers vars sets.now → IfOk result (AreSoundEquations vars) }
 {
     gathered(alloc, sets)
 }

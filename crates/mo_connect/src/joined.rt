@@ -23,7 +23,7 @@ use std::alloc::Global;
 pub fn sets(alloc: Global, c: &Connects) -> Result<List<FaceSet>, Stop>
     ensures connectable { IfOk result (λ _. All IsConnectable c.now.list) }
     ensures sets { IfOk result (λ sets. All HasDistinctLeaves c.now.list → AreConnectionSets c.now sets) }
-    ensures only { IsSoundConnects c.now → (others : List Set) → AreConnectionSets c.now others → IfOk result (λ sets. sets ≡ others) }
+    ensures only { IsSoundConnects c.now → (s : List Set) → AreConnectionSets c.now s → IfOk result (λ sets. sets ≡ s) }
     ensures members { IfOk result (λ sets. All HasDistinctLeaves c.now.list → All (HasLeaves c.now) sets) }
     ensures broken { IfErr result (λ stop. IsFirstStop c.now.list stop) }
 {
@@ -39,7 +39,7 @@ pub fn sets(alloc: Global, c: &Connects) -> Result<List<FaceSet>, Stop>
 fn joined_sets(alloc: Global, c: &Connects) -> Result<List<FaceSet>, NoMemory>
     requires { All IsConnectable c.now.list }
     ensures sets { IfOk result (λ sets. All HasDistinctLeaves c.now.list → AreConnectionSets c.now sets) }
-    ensures only { IsSoundConnects c.now → (others : List Set) → AreConnectionSets c.now others → IfOk result (λ sets. sets ≡ others) }
+    ensures only { IsSoundConnects c.now → (s : List Set) → AreConnectionSets c.now s → IfOk result (λ sets. sets ≡ s) }
     ensures members { IfOk result (λ sets. All HasDistinctLeaves c.now.list → All (HasLeaves c.now) sets) }
 {
     let mut made = List::new(alloc);

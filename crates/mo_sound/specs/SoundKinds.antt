@@ -18,8 +18,12 @@ kind_seen Enumeration = enumeration
 abbrev pub orders_at : FlatExpr → ℕ → Bool
 orders_at = fold-FlatExpr (ℕ → Bool) (orders_node 65535)
 
+-- the kinds of some parts, none of a part that has none
+abbrev pub PartKinds : Type 0
+PartKinds = List (Option FlatKind)
+
 -- what holds of all kinds of a list
-pub record AreSummed (held : Kinds) (kinds : List (Option FlatKind)) : Type 0 where
+pub record AreSummed (held : Kinds) (kinds : PartKinds) : Type 0 where
   pub numeric : held.numeric ≡ list_all is_numeric kinds
   pub whole : held.whole ≡ list_all is_whole kinds
   pub truth : held.truth ≡ list_all is_truth kinds

@@ -1,7 +1,7 @@
 //! The kinds of lists of flat expressions.
-ghost use Rattle.std.specs.Prelude.{◌≡◌, ◌∷◌, [], ◌++◌, List as Seq, Option as Maybe, None, option_map};
-ghost use Rattle.mo_flat.specs.Sound.{FlatKind, common_kind as common_of, number_kind as number_of, is_enumeration as is_enumeration_kind, is_numeric as is_numeric_kind, is_string as is_string_kind, is_truth as is_truth_kind, is_whole as is_whole_kind};
-ghost use Rattle.mo_sound.specs.SoundKinds.{AreSummed, kind_seen};
+ghost use Rattle.std.specs.Prelude.{◌≡◌, ◌∷◌, [], ◌++◌, None, option_map};
+ghost use Rattle.mo_flat.specs.Sound.{common_kind as common_of, number_kind as number_of, is_enumeration as is_enumeration_kind, is_numeric as is_numeric_kind, is_string as is_string_kind, is_truth as is_truth_kind, is_whole as is_whole_kind};
+ghost use Rattle.mo_sound.specs.SoundKinds.{AreSummed, PartKinds, kind_seen};
 
 /// The kind of a flat expression. It does not keep the class of an enumeration literal, so all enumerations are one kind.
 #[derive(Clone, Copy, Debug, PartialEq, Eq)]
@@ -96,7 +96,7 @@ impl Kinds {
 
     /// Those with one kind more.
     pub fn with(self, kind: Option<ValueKind>) -> Kinds
-        ensures { (kinds : Seq (Maybe FlatKind)) → AreSummed self kinds → AreSummed result (kinds ++ option_map kind_seen kind ∷ []) }
+        ensures { (all : PartKinds) → AreSummed self all → AreSummed result (all ++ option_map kind_seen kind ∷ []) }
     {
         Kinds {
             numeric: self.numeric && is_numeric(kind),
@@ -109,7 +109,7 @@ impl Kinds {
 
     /// Integer where all are Integers, Real where all are numbers.
     pub fn number(self) -> Option<ValueKind>
-        ensures { (kinds : Seq (Maybe FlatKind)) → AreSummed self kinds → option_map kind_seen result ≡ number_of kinds }
+        ensures { (all : PartKinds) → AreSummed self all → option_map kind_seen result ≡ number_of all }
     {
         if self.whole {
             return Some(ValueKind::Whole);
@@ -123,7 +123,7 @@ impl Kinds {
 
     /// The one kind of several values, an Integer being accepted where a Real is wanted.
     pub fn common(self) -> Option<ValueKind>
-        ensures { (kinds : Seq (Maybe FlatKind)) → AreSummed self kinds → option_map kind_seen result ≡ common_of kinds }
+        ensures { (all : PartKinds) → AreSummed self all → option_map kind_seen result ≡ common_of all }
     {
         if self.numeric {
             return self.number();

@@ -26,7 +26,7 @@ impl Keys {
     /// Puts a key in, and tells whether it is new. Want of memory is the only other answer.
     pub fn insert(&mut self, key: List<u16>) -> Result<bool, NoMemory>
         ensures added { IfOk result (λ added. added ≡ not (holds self.old key)) }
-        ensures kept { OnOk result ((other : Seq ℕ) → holds self.new other ≡ (bytes_eq other key || holds self.old other)) }
+        ensures kept { OnOk result ((k : Seq ℕ) → holds self.new k ≡ (bytes_eq k key || holds self.old k)) }
     {
         Ok(self.set.insert(key.into_vec())?)
     }

@@ -9,7 +9,7 @@ use mo_syntax::{Broken, ClassId, ClassKind, ClassTree, Path, Place, broken, find
 /// function, type, package or operator, rule 13 at its name. Takes no memory.
 pub fn asked(tree: &ClassTree, path: &Path) -> Result<ClassId, Broken>
     requires few { class_count tree.now.files < 4294967290 }
-    ensures ok { IfOk result (λ id. option_map (λ row. row.number) (class_of_path tree.now.files path.now.0) ≡ Some id.0) }
+    ensures ok { IfOk result (λ id. option_map (λ r. r.number) (class_of_path tree.now.files path.now.0) ≡ Some id.0) }
     ensures accepted { IfOk result (λ _. broken_class (class_of_path tree.now.files path.now.0) ≡ None) }
     ensures refused { IfErr result (λ broken. broken_class (class_of_path tree.now.files path.now.0) ≡ Some broken) }
 {
