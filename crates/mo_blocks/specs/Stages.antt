@@ -1,10 +1,13 @@
 -- What dummy derivatives and states promise, and words on listing them (S. E. Mattsson and G. Söderlind, Index reduction in
 -- differential-algebraic equations using dummy derivatives, SIAM J. Sci. Comput. 14, 1993).
-use Rattle.std.specs.Prelude.{◌≡◌, ℕ, ◌+◌, ◌-◌, ◌<◌, ◌≤◌, Contains, if◌then◌else◌, List, [], ◌∷◌, ◌++◌, nat_lt}
+use Rattle.std.specs.Prelude.{◌≡◌, ℕ, ◌+◌, ◌-◌, ◌<◌, ◌≤◌, Contains, if◌then◌else◌, List, [], ◌∷◌, ◌++◌, length, nat_lt}
 use Rattle.std.proofs.Common.{zero, suc}
 use Rattle.mo_incidence.specs.declared.findings.Offsets.{Offsets}
-use Rattle.mo_incidence.specs.Offsets.{c_of, pairs_of}
-use Rattle.mo_incidence.specs.Signature.{Signature, equations, row_len, unknown_at, order_at}
+use Rattle.mo_incidence.specs.Assignment.{CoversAll}
+use Rattle.mo_incidence.specs.Counting.{sum_below}
+use Rattle.mo_incidence.specs.Dummies.{states_of}
+use Rattle.mo_incidence.specs.Offsets.{ArePaired, c_of, pairs_of, sum_unknowns}
+use Rattle.mo_incidence.specs.Signature.{IsSound, Signature, equations, row_len, unknown_at, order_at}
 
 -- the first k derivatives of unknown j
 abbrev pub derivatives_below : ℕ → ℕ → List (ℕ × ℕ)
@@ -38,3 +41,8 @@ pub record AreHighest (g : Signature) (c : ℕ → ℕ) (dummies : List (ℕ × 
 -- the next derivative of a dummy of stage s + 1 is a dummy of stage s of the same equation
 pub record AreFollowed (dummies : List (ℕ × ℕ × ℕ × ℕ)) : Type 0 where
   pub next : (j k s e : ℕ) → 0 < s → Contains dummies (j, k, suc s, e) → Contains dummies (j, suc k, s, e)
+
+-- a square system has as many states as degrees of freedom, where the pairs are an assignment of all equations by tight entries
+abbrev pub CountsStates : Signature → (c d t : ℕ → ℕ) → Type 0
+CountsStates g c d t =
+    IsSound g → equations g ≡ g.unknowns → ArePaired g c d t → CoversAll g t → length (states_of c d t (equations g) g.unknowns) + sum_below c (equations g) ≡ sum_unknowns g d

@@ -1,6 +1,6 @@
 -- The incidence of a flat model: for each equation the unknowns that stand in it, with their highest orders once its
 -- derivatives are carried out (J. D. Pryce, A simple structural analysis method for DAEs, BIT 41, 2001).
-use Rattle.std.specs.Prelude.{ℕ, ◌+◌, Bool, true, false, ◌&&◌, List, [], ◌∷◌, ◌++◌, Option, Some, None, if◌then◌else◌, length, map, nat_le}
+use Rattle.std.specs.Prelude.{◌≡◌, ℕ, ◌+◌, Bool, true, false, ◌&&◌, List, [], ◌∷◌, ◌++◌, Option, Some, None, if◌then◌else◌, length, map, nat_le}
 use Rattle.mo_syntax.specs.Outcome.{breach}
 use Rattle.mo_syntax.specs.declared.place.Broken.{Broken}
 use Rattle.mo_syntax.specs.declared.place.Place.{Place}
@@ -8,6 +8,7 @@ use Rattle.mo_flat.specs.declared.model.FlatEquation.{FlatEquation}
 use Rattle.mo_flat.specs.declared.model.FlatModel.{FlatModel}
 use Rattle.mo_flat.specs.declared.model.FlatVar.{FlatVar}
 use Rattle.mo_flat.specs.Roles.{unknown_numbers}
+use Rattle.mo_flat.specs.Sound.{IsSoundModel}
 use Rattle.mo_symdiff.specs.Carried.{carries}
 use Rattle.mo_symdiff.specs.Sigma.{higher, sigma}
 use Rattle.mo_incidence.specs.Signature.{Signature, entries}
@@ -47,3 +48,7 @@ refused None false name = Some (breach INCIDENCE_TOO_LARGE name)
 -- be differentiated, then 42 at the model where there are more than 1,000,000 entries.
 unfoldable pub refusal_of : FlatModel → Option Broken
 refusal_of m = refused (first_uncarried m.vars m.equations) (nat_le (entries (incidence_of m)) 1000000) m.place
+
+-- it is that rule, where the model is sound
+abbrev pub IsRefusal : FlatModel → Broken → Type 0
+IsRefusal m refusal = IsSoundModel m → refusal_of m ≡ Some refusal

@@ -5,7 +5,7 @@ ghost use Rattle.mo_flat.specs.Roles.{unknown_numbers};
 ghost use Rattle.mo_flat.specs.Sound.{IsSoundModel};
 ghost use Rattle.mo_incidence.specs.steps.Gathered.{unknown_places};
 ghost use Rattle.mo_incidence.specs.steps.Given.{given};
-ghost use Rattle.mo_incidence.specs.Model.{first_uncarried, incidence_of, refusal_of};
+ghost use Rattle.mo_incidence.specs.Model.{IsRefusal, first_uncarried, incidence_of, refusal_of};
 
 use crate::builder::RowsError;
 use crate::carrying::first_uncarried;
@@ -50,7 +50,7 @@ fn carried_incidence(alloc: Global, m: &FlatModel) -> Result<Incidence, Stop>
     requires carried { first_uncarried m.now.vars m.now.equations ≡ None }
     ensures ok { IfOk result (λ incidence. IsSoundModel m.now → incidence ≡ incidence_of m.now) }
     ensures accepted { OnOk result (IsSoundModel m.now → refusal_of m.now ≡ None) }
-    ensures broken { (refusal : Refusal) → IsSoundModel m.now → result ≡ Err (Stop.Broken refusal) → refusal_of m.now ≡ Some refusal }
+    ensures broken { (refusal : Refusal) → result ≡ Err (Stop.Broken refusal) → IsRefusal m.now refusal }
 {
     let (places, unknowns) = unknown_places(alloc, m.vars.as_slice())?;
     let rows = rows(alloc, m, &places)?;
@@ -70,7 +70,7 @@ fn carried_incidence(alloc: Global, m: &FlatModel) -> Result<Incidence, Stop>
 pub fn incidence(alloc: Global, m: &FlatModel) -> Result<Incidence, Stop>
     ensures ok { IfOk result (λ incidence. IsSoundModel m.now → incidence ≡ incidence_of m.now) }
     ensures accepted { OnOk result (IsSoundModel m.now → refusal_of m.now ≡ None) }
-    ensures broken { (refusal : Refusal) → IsSoundModel m.now → result ≡ Err (Stop.Broken refusal) → refusal_of m.now ≡ Some refusal }
+    ensures broken { (refusal : Refusal) → result ≡ Err (Stop.Broken refusal) → IsRefusal m.now refusal }
 {
     match first_uncarried(m.vars.as_slice(), m.equations.as_slice()) {
         Some(place) => Err(stop(rules::DERIVATIVE_OF_INPUT, place)),

@@ -10,7 +10,7 @@ use Rattle.mo_syntax.specs.declared.expr.RelOp.TheVariants.{Less, LessEqual, Gre
 use Rattle.mo_tables.specs.declared.functions.TheConstants.{ABS, ACOS, ASIN, ATAN, ATAN2, COS, COSH, EXP, LOG, LOG10, MAX, MIN, NO_EVENT, SIN, SINH, SQRT, TAN, TANH}
 use Rattle.mo_flat.specs.declared.expr.FlatExpr.{FlatExpr, FlatExpr-F, fold-FlatExpr, para-FlatExpr, map-FlatExpr, out-FlatExpr}
 use Rattle.mo_flat.specs.declared.model.FlatVar.{FlatVar}
-use Rattle.mo_symdiff.specs.Derivative.{literal_at, next_order}
+use Rattle.mo_symdiff.specs.Derivative.{derived, literal_at, next_order}
 use Rattle.mo_symdiff.specs.Still.{still_node}
 
 -- a whole number for the time, each order of each variable, each literal's text, and each application of a function, a
@@ -167,3 +167,11 @@ dual_node I vars node =
 -- the dual number of an expression in which no derivative is left to carry out
 abbrev pub dual_in : Interpretation → List FlatVar → FlatExpr → Dual
 dual_in I vars = para-FlatExpr Dual (dual_node I vars)
+
+-- the value of the derivative of an expression
+abbrev pub slope_in : Interpretation → List FlatVar → FlatExpr → ℤ
+slope_in I vars e = value_in I (derived vars e)
+
+-- whether the dual number of an expression is constant
+abbrev pub constant_in : Interpretation → List FlatVar → FlatExpr → Bool
+constant_in I vars e = (dual_in I vars e).still

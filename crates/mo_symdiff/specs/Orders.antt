@@ -1,12 +1,15 @@
 -- The orders and the given variables of an expression without carrying its derivatives out: each derivative around a
 -- variable raises its order by one. Conditions of if-expressions are left aside in orders.
-use Rattle.std.specs.Prelude.{ℕ, ◌+◌, Bool, true, false, ◌&&◌, List, Option, not}
+use Rattle.std.specs.Prelude.{◌≡◌, ℕ, ◌+◌, Bool, true, false, ◌&&◌, IsTrue, List, Option, not}
 use Rattle.std.specs.List.{list_all}
 use Rattle.std.specs.Option.{option_map}
 use Rattle.mo_flat.specs.declared.expr.FlatExpr.{FlatExpr, FlatExpr-F, fold-FlatExpr}
 use Rattle.mo_flat.specs.declared.model.FlatVar.{FlatVar}
-use Rattle.mo_flat.specs.Roles.{is_given}
-use Rattle.mo_symdiff.specs.Sigma.{highest_node}
+use Rattle.mo_flat.specs.Roles.{is_given, is_unknown}
+use Rattle.mo_flat.specs.Sound.{orders_fit}
+use Rattle.mo_symdiff.specs.Carried.{carried}
+use Rattle.mo_symdiff.specs.Derivative.{derived}
+use Rattle.mo_symdiff.specs.Sigma.{highest_node, sigma}
 
 abbrev pub raised_node : ℕ → FlatExpr-F (Option ℕ) → Option ℕ
 raised_node v (FlatExpr-F.Der inner) = option_map (λ order. order + 1) inner
@@ -38,3 +41,19 @@ apart_in vars = fold-FlatExpr (Bool → Bool) (apart_node vars)
 -- no given variable stands under a derivative, the conditions between them left aside
 abbrev pub is_apart : List FlatVar → FlatExpr → Bool
 is_apart vars e = apart_in vars e false
+
+-- it is the number of an unknown among the variables
+abbrev pub IsUnknown : List FlatVar → ℕ → Type 0
+IsUnknown vars v = IsTrue (is_unknown vars v)
+
+-- no order in it passes the greatest that is written
+abbrev pub HasFitOrders : FlatExpr → Type 0
+HasFitOrders e = IsTrue (orders_fit 4294967295 e)
+
+-- the variable stands in the derivative exactly where it stands in the expression, at an order one higher
+abbrev pub IsRaised : List FlatVar → FlatExpr → ℕ → Type 0
+IsRaised vars e v = sigma vars (derived vars (carried vars e)) v ≡ option_map (λ order. order + 1) (sigma vars e v)
+
+-- its highest order, once derivatives are carried out, is that with each derivative around it counted
+abbrev pub HasRaisedOrder : List FlatVar → FlatExpr → ℕ → Type 0
+HasRaisedOrder vars e v = sigma vars e v ≡ raised_order v e

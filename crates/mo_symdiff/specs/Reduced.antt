@@ -1,6 +1,6 @@
 -- The reduced model: each equation with its derivatives carried out, followed by as many of its derivatives as the offsets
 -- say (Mattsson and Söderlind 1993), and its text.
-use Rattle.std.specs.Prelude.{ℕ, zero, suc, ◌+◌, ◌≤◌, Bool, ◌&&◌, ◌||◌, not, List, [], ◌∷◌, ◌++◌, Option, Some, None, codes, flat_map, if◌then◌else◌, length, nat_lt, sum_by}
+use Rattle.std.specs.Prelude.{◌≡◌, ℕ, zero, suc, ◌+◌, ◌≤◌, Bool, ◌&&◌, ◌||◌, not, List, [], ◌∷◌, ◌++◌, Option, Some, None, codes, flat_map, if◌then◌else◌, length, nat_lt, sum_by, MatchOption}
 use Rattle.mo_syntax.specs.declared.place.Place.{Place}
 use Rattle.mo_syntax.specs.declared.place.Broken.{Broken}
 use Rattle.mo_flat.specs.declared.model.FlatVar.{FlatVar}
@@ -10,6 +10,7 @@ use Rattle.mo_flat.specs.Nodes.{node_count}
 use Rattle.mo_flat.specs.Text.{equation_line}
 use Rattle.mo_symdiff.specs.Carried.{carried, carries}
 use Rattle.mo_symdiff.specs.Derivative.{derived}
+use Rattle.mo_symdiff.specs.Refusal.{of_given}
 use Rattle.mo_symdiff.specs.Still.{has_given}
 use Rattle.mo_syntax.specs.declared.rules.TheConstants.{RESULT_TOO_LARGE}
 
@@ -64,3 +65,10 @@ pub record IsWithin (m : FlatModel) (lines : List (List FlatEquation)) : Type 0 
 
 abbrev pub too_large : FlatModel → Broken
 too_large m = record { rule = RESULT_TOO_LARGE; place = m.place }
+
+-- what refuses the reduced model: the first given variable that would be differentiated, and where there is none, the size
+abbrev pub IsRefusal : FlatModel → List ℕ → Broken → Type 0
+IsRefusal m c broken =
+    MatchOption (first_given m.vars m.equations c)
+    ((IsWithin m (reduced_lines m.vars m.equations c) → ⊥) × (broken ≡ too_large m))
+    (λ place. broken ≡ of_given place)

@@ -29,7 +29,7 @@ pub fn derivative(
 ) -> Result<FlatExpr, Stop>
     ensures derived { IfOk result (λ made. made ≡ derived m.now.vars (carried m.now.vars e.now)) }
     ensures differentiates { IfOk result (λ _. differentiates m.now.vars e.now ≡ true) }
-    ensures refused { IfBroken result (λ broken. (broken ≡ of_given place) × (differentiates m.now.vars e.now ≡ false)) }
+    ensures refused { IfBroken result (λ b. (b ≡ of_given place) × (differentiates m.now.vars e.now ≡ false)) }
 {
     let vars = m.vars.as_slice();
     if !differentiates(vars, e) {

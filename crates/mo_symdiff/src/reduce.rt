@@ -3,9 +3,8 @@ ghost use Rattle.std.specs.Prelude.{◌≡◌, ◌+◌, ◌-◌, ◌++◌, ◌^�
 ghost use Rattle.mo_symdiff.specs.Carried.{carried};
 ghost use Rattle.mo_symdiff.specs.Derivative.{derived};
 ghost use Rattle.mo_symdiff.specs.Weights.{weigh};
-ghost use Rattle.mo_symdiff.specs.Reduced.{IsWithin, bytes_at, bytes_of, carried_equation, derivatives, derived_equation, differentiates_given, first_given, nodes_at, nodes_of, reduced_lines, reduced_text, too_large};
+ghost use Rattle.mo_symdiff.specs.Reduced.{IsRefusal, IsWithin, bytes_at, bytes_of, carried_equation, derivatives, derived_equation, differentiates_given, first_given, nodes_at, nodes_of, reduced_lines, reduced_text, too_large};
 ghost use Rattle.mo_symdiff.specs.steps.Room.{IsPaid, IsShort};
-ghost use Rattle.mo_symdiff.specs.Refusal.{of_given};
 ghost use Rattle.mo_syntax.specs.Outcome.{IfBroken};
 
 use crate::carried_weight::carried_weight;
@@ -429,7 +428,7 @@ pub fn reduced(alloc: Global, m: &FlatModel, c: &[u32]) -> Result<Reduced, Stop>
     ensures lines { IfOk result (λ r. r.lines ≡ reduced_lines m.now.vars m.now.equations c.now) }
     ensures differentiates { IfOk result (λ _. first_given m.now.vars m.now.equations c.now ≡ None) }
     ensures within { IfOk result (λ r. IsWithin m.now r.lines) }
-    ensures refused { IfBroken result (λ broken. MatchOption (first_given m.now.vars m.now.equations c.now) ((IsWithin m.now (reduced_lines m.now.vars m.now.equations c.now) → ⊥) × (broken ≡ too_large m.now)) (λ place. broken ≡ of_given place)) }
+    ensures refused { IfBroken result (IsRefusal m.now c.now) }
 {
     match first_given(m.vars.as_slice(), m.equations.as_slice(), c) {
         Some(place) => Err(Stop::Broken(broken(place))),

@@ -17,7 +17,7 @@ returns-in-Ok-clause-accepted c = λ whole.
     accepted c.args.m.now c.requires.carried (subst (λ g. IsSound g) same c.in-Ok.ensures.sound)
 
 pub returns-in-Err-Unsound-clause-broken : goal.returns-in-Err-Unsound-clause-broken
-returns-in-Err-Unsound-clause-broken c = λ refusal whole is.
+returns-in-Err-Unsound-clause-broken c = λ refusal is whole.
     let count : c.in_ok-places.unknowns ≡ length (unknown_numbers c.args.m.now.vars) = c.in_ok-places.ensures.count ∙ ap (λ (l : List FlatVar). length (unknown_numbers l)) c.as_slice.ensures in
     let same : given c.in_ok-places.unknowns c.deref-2.result.now ≡ incidence_of c.args.m.now =
     ap (λ (n : ℕ). given n c.deref-2.result.now) count ∙ ap (given (length (unknown_numbers c.args.m.now.vars))) c.deref-2.ensures.value ∙ c.in_ok-rows.ensures whole in
