@@ -10,7 +10,7 @@ results a = record {
   equations = a.equations;
   unknowns = a.unknowns;
   entries = a.entries;
-  assignment = a.assignment.items;
+  assignment = a.matching.pairs.items;
   deficient = a.deficit.equations.items;
   mentioned = a.deficit.unknowns.items;
   loose = a.loose.items;
@@ -22,11 +22,11 @@ results a = record {
 
 -- the lists of the searches have their lengths, and the others room for all that can come
 pub record HasRoom (a : Inside) : Type 0 where
-  pub assignment : length a.assignment.items ≡ a.equations
-  pub owner : length a.owner.items ≡ suc a.unknowns
-  pub queue : length a.queue.items ≡ a.equations
-  pub parent : length a.parent.items ≡ a.equations
-  pub mark : length a.mark.items ≡ a.equations
+  pub assignment : length a.matching.pairs.items ≡ a.equations
+  pub owner : length a.matching.owner.items ≡ suc a.unknowns
+  pub queue : length a.search.queue.items ≡ a.equations
+  pub parent : length a.search.parent.items ≡ a.equations
+  pub mark : length a.search.mark.items ≡ a.equations
   pub reached : length a.reached.items ≡ suc a.unknowns
   pub order : length a.order.items ≡ a.unknowns
   pub last : length a.last.items ≡ suc a.unknowns

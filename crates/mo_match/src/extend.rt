@@ -1,12 +1,12 @@
 //! One equation more gets an unknown, or is shown to be left out.
-ghost use Rattle.std.specs.Prelude.{◌≡◌, ◌≢◌, ℕ, ◌+◌, ◌-◌, ◌<◌, ◌≤◌, length, slice_index, IsTrue, IfSome, IfNone};
-ghost use Rattle.std.proofs.Common.{suc};
-ghost use Rattle.mo_incidence.specs.Signature.{equations, row_len, entries, IsSound};
-ghost use Rattle.mo_match.specs.Searching.{CanBegin, IsFree, KeepMarks, Matches};
-ghost use Rattle.mo_match.specs.Trees.{AreKeptBefore, Gains, HasSameLists, HasTree, IsBareElsewhere, IsClosedTo, IsHandedOn, IsUnmarkedTo};
+ghost use Rattle.std.specs.Prelude.{◌≡◌, ◌≢◌, ◌+◌, ◌-◌, ◌<◌, ◌≤◌, slice_index, IfSome, IfNone};
+ghost use Rattle.mo_incidence.specs.Signature.{equations, entries, IsSound};
+ghost use Rattle.mo_match.specs.Searching.{CanBegin, KeepMarks};
+ghost use Rattle.mo_match.specs.Trees.{AreKeptBefore, Gains, HasTree, IsBareBut, IsBareElsewhere, IsClosedTo, IsFreeIn, IsHandedOn, MatchesBy, StayAssigned};
 
 use crate::graph::Graph;
-use crate::search::{Held, Search};
+use crate::matching::Matching;
+use crate::search::Search;
 use mo_ports::Steps;
 
 /// An equation at a place of the queue may have an unknown that no equation has.
@@ -25,52 +25,33 @@ pub(crate) struct Outcome {
     pub(crate) free: Option<Free>,
 }
 
-/// Takes the marks of the equations from place `base` of the queue back.
-pub fn unmark(search: &mut Search, base: usize, tail: usize)
-    requires order { base ≤ tail }
-    requires room { tail ≤ length search.old.queue.now }
-    requires in_range { (t : ℕ) → t < tail → slice_index search.old.queue.now t < length search.old.mark.now }
-    ensures unmarked { IsUnmarkedTo search.old.queue.now search.old.mark.now search.new.mark.now base tail }
-    ensures kept { (search.new.queue.now ≡ search.old.queue.now) × (search.new.parent.now ≡ search.old.parent.now) }
-    ensures size { length search.new.mark.now ≡ length search.old.mark.now }
-    ensures same { HasSameLists search.old search.new }
-{
-    for t in base..tail {
-        let equation = search.queue[t] as usize;
-        search.mark[equation] = 0;
-    }
-}
-
 impl<'a, L> Graph<'a, L> {
     /// Searches from an equation without unknown, behind the closed front of the queue, for an unknown that no equation has.
     fn search(
         &self,
-        held: &Held,
+        matching: &Matching,
         search: &mut Search,
         base: usize,
         root: usize,
         steps: &mut Steps<L>,
     ) -> Outcome
         requires sound { IsSound self.now.signature }
-        requires matching { Matches self.now held.now.pairs.now held.now.owner.now }
-        requires tree { HasTree self.now held.now.pairs.now search.old base base }
-        requires closed { IsClosedTo self.now held.now.owner.now search.old base }
-        requires root { CanBegin self.now held.now.pairs.now search.old.mark.now root }
-        ensures tree { HasTree self.now held.now.pairs.now search.new base result.tail }
+        requires matching { MatchesBy self.now matching.now }
+        requires tree { HasTree self.now matching.now.pairs.items search.old base base }
+        requires closed { IsClosedTo self.now matching.now.owner.items search.old base }
+        requires root { CanBegin self.now matching.now.pairs.items search.old.mark.items root }
+        ensures tree { HasTree self.now matching.now.pairs.items search.new base result.tail }
         ensures grows { Gains search.old search.new base result.tail }
-        ensures first { (base < result.tail) × (slice_index search.new.queue.now base ≡ root) }
-        ensures found { IfSome result.free (λ f. (base ≤ f.place) × (f.place < result.tail) × IsFree self.now held.now.owner.now (slice_index search.new.queue.now f.place) f.unknown) }
-        ensures failed { IfNone result.free (IsClosedTo self.now held.now.owner.now search.new result.tail) }
-        ensures same { HasSameLists search.old search.new }
+        ensures first { (base < result.tail) × (slice_index search.new.queue.items base ≡ root) }
+        ensures found { IfSome result.free (λ f. (base ≤ f.place) × (f.place < result.tail) × IsFreeIn self.now matching.now search.new f) }
+        ensures failed { IfNone result.free (IsClosedTo self.now matching.now.owner.items search.new result.tail) }
         ensures cost { steps.new ≤ steps.old + entries self.now.signature }
     {
-        search.queue[base] = root as u32;
-        search.parent[base] = base as u32;
-        search.mark[root] = 1;
+        search.begin(base, root);
         let mut tail = base + 1;
         let mut head = base;
         while head < tail {
-            let (grown, free) = self.scan_row(held, search, base, head, tail, steps);
+            let (grown, free) = self.scan_row(matching, search, base, head, tail, steps);
             tail = grown;
             match free {
                 Some(unknown) => {
@@ -90,38 +71,36 @@ impl<'a, L> Graph<'a, L> {
     /// back to the root, which stands at place `base`.
     pub fn hand_on(
         &self,
-        pairs: &mut [u32],
-        owner: &mut [u32],
+        matching: &mut Matching,
         search: &Search,
         base: usize,
         tail: usize,
         free: Free,
     )
-        requires matching { Matches self.now pairs.old owner.old }
-        requires tree { HasTree self.now pairs.old search.now base tail }
+        requires matching { MatchesBy self.now matching.old }
+        requires tree { HasTree self.now matching.old.pairs.items search.now base tail }
         requires start { (base ≤ free.place) × (free.place < tail) }
-        requires bare { slice_index pairs.old (slice_index search.now.queue.now base) ≡ 0 }
-        requires free { IsFree self.now owner.old (slice_index search.now.queue.now free.place) free.unknown }
+        requires bare { slice_index matching.old.pairs.items (slice_index search.now.queue.items base) ≡ 0 }
+        requires free { IsFreeIn self.now matching.old search.now free }
         requires few { equations self.now.signature ≤ 50000 }
-        ensures matching { Matches self.now pairs.new owner.new }
-        ensures kept { (x : ℕ) → slice_index pairs.old x ≢ 0 → slice_index pairs.new x ≢ 0 }
-        ensures root { slice_index pairs.new (slice_index search.now.queue.now base) ≢ 0 }
-        ensures handed { IsHandedOn pairs.old pairs.new search.now base tail free }
-        ensures bare { IsBareElsewhere pairs.old pairs.new (slice_index search.now.queue.now base) }
-        ensures dead { AreKeptBefore pairs.old pairs.new search.now base }
+        ensures matching { MatchesBy self.now matching.new }
+        ensures kept { StayAssigned matching.old.pairs.items matching.new.pairs.items }
+        ensures root { slice_index matching.new.pairs.items (slice_index search.now.queue.items base) ≢ 0 }
+        ensures handed { IsHandedOn matching.old.pairs.items matching.new.pairs.items search.now base tail free }
+        ensures bare { IsBareBut matching.old.pairs.items matching.new.pairs.items search.now base }
+        ensures dead { AreKeptBefore matching.old.pairs.items matching.new.pairs.items search.now base }
     {
         let mut place = free.place;
         let mut unknown = free.unknown;
         'back: loop {
-            let equation = search.queue[place];
-            let old = pairs[equation as usize];
-            pairs[equation as usize] = unknown;
-            owner[unknown as usize] = equation + 1;
+            let equation = search.at(place);
+            let old = matching.unknown_of(equation as usize);
+            matching.give(equation, unknown);
             if old == 0 {
                 return;
             }
             unknown = old;
-            place = search.parent[place] as usize;
+            place = search.parent_of(place) as usize;
         }
     }
 
@@ -129,37 +108,34 @@ impl<'a, L> Graph<'a, L> {
     /// mention only unknowns of their own. The result is the end of the closed front of the queue.
     pub fn extend(
         &self,
-        pairs: &mut [u32],
-        owner: &mut [u32],
+        matching: &mut Matching,
         search: &mut Search,
         base: usize,
         root: usize,
         steps: &mut Steps<L>,
     ) -> usize
         requires sound { IsSound self.now.signature }
-        requires matching { Matches self.now pairs.old owner.old }
-        requires tree { HasTree self.now pairs.old search.old base base }
-        requires closed { IsClosedTo self.now owner.old search.old base }
-        requires root { CanBegin self.now pairs.old search.old.mark.now root }
-        ensures matching { Matches self.now pairs.new owner.new }
-        ensures tree { HasTree self.now pairs.new search.new base result }
-        ensures closed { IsClosedTo self.now owner.new search.new result }
-        ensures gained { result ≡ base → slice_index pairs.new root ≢ 0 }
-        ensures first { result ≢ base → (base < result) × (slice_index search.new.queue.now base ≡ root) }
-        ensures failed { result ≢ base → (pairs.new ≡ pairs.old) × (owner.new ≡ owner.old) }
-        ensures kept { (x : ℕ) → slice_index pairs.old x ≢ 0 → slice_index pairs.new x ≢ 0 }
-        ensures bare { IsBareElsewhere pairs.old pairs.new root }
-        ensures marked { KeepMarks self.now search.old.mark.now search.new.mark.now }
-        ensures same { HasSameLists search.old search.new }
+        requires matching { MatchesBy self.now matching.old }
+        requires tree { HasTree self.now matching.old.pairs.items search.old base base }
+        requires closed { IsClosedTo self.now matching.old.owner.items search.old base }
+        requires root { CanBegin self.now matching.old.pairs.items search.old.mark.items root }
+        ensures matching { MatchesBy self.now matching.new }
+        ensures tree { HasTree self.now matching.new.pairs.items search.new base result }
+        ensures closed { IsClosedTo self.now matching.new.owner.items search.new result }
+        ensures gained { result ≡ base → slice_index matching.new.pairs.items root ≢ 0 }
+        ensures first { result ≢ base → (base < result) × (slice_index search.new.queue.items base ≡ root) }
+        ensures failed { result ≢ base → matching.new ≡ matching.old }
+        ensures kept { StayAssigned matching.old.pairs.items matching.new.pairs.items }
+        ensures bare { IsBareElsewhere matching.old.pairs.items matching.new.pairs.items root }
+        ensures marked { KeepMarks self.now search.old.mark.items search.new.mark.items }
         ensures cost { steps.new ≤ steps.old + entries self.now.signature }
     {
-        let held = Held { pairs, owner };
-        let outcome = self.search(&held, search, base, root, steps);
+        let outcome = self.search(matching, search, base, root, steps);
         match outcome.free {
             None => outcome.tail,
             Some(free) => {
-                self.hand_on(pairs, owner, search, base, outcome.tail, free);
-                unmark(search, base, outcome.tail);
+                self.hand_on(matching, search, base, outcome.tail, free);
+                search.unmark(base, outcome.tail);
                 base
             }
         }

@@ -5,11 +5,13 @@ ghost use Rattle.mo_incidence.specs.Signature.{equations, entries, IsSound};
 ghost use Rattle.mo_incidence.specs.Assignment.{CoversAll, IsLargest, IsDeficit};
 ghost use Rattle.mo_incidence.specs.Offsets.{by_place};
 ghost use Rattle.mo_match.specs.Searching.{IsAssignedTo};
+ghost use Rattle.mo_match.specs.Trees.{HasRoomFor};
 ghost use Rattle.mo_match.specs.Results.{IsMadeFor, IsReassigned};
 ghost use Rattle.mo_match.specs.Answer.{covered, left_out};
 
 use crate::graph::Graph;
 use crate::lists::{count_missing, list_marked, list_reached};
+use crate::matching::Matching;
 use crate::search::Search;
 use crate::work::{Assigned, Work};
 use mo_incidence::Counted;
@@ -28,36 +30,27 @@ impl<'a, L> Graph<'a, L> {
     /// Gives each equation in turn an unknown, if it can have one. The result is the end of the closed front of the queue.
     fn assign_pairs(
         &self,
-        pairs: &mut [u32],
-        owner: &mut [u32],
-        queue: &mut [u32],
-        parent: &mut [u32],
-        mark: &mut [u32],
+        matching: &mut Matching,
+        search: &mut Search,
         steps: &mut Steps<L>,
     ) -> usize
         requires sound { IsSound self.now.signature }
-        requires room { (length pairs.old ≡ equations self.now.signature) × (length owner.old ≡ suc self.now.signature.unknowns) }
-        requires room_search { (length queue.old ≡ equations self.now.signature) × (length parent.old ≡ equations self.now.signature) × (length mark.old ≡ equations self.now.signature) }
-        ensures done { IsAssignedTo self.now pairs.new owner.new queue.new parent.new mark.new result (equations self.now.signature) }
+        requires room { (length matching.old.pairs.items ≡ equations self.now.signature) × (length matching.old.owner.items ≡ suc self.now.signature.unknowns) }
+        requires room_search { HasRoomFor (equations self.now.signature) search.old }
+        ensures done { IsAssignedTo self.now matching.new.pairs.items matching.new.owner.items search.new.queue.items search.new.parent.items search.new.mark.items result (equations self.now.signature) }
         ensures cost { steps.new ≤ steps.old + equations self.now.signature * entries self.now.signature }
     {
-        clear(pairs);
-        clear(owner);
-        clear(mark);
-        let mut search = Search {
-            queue,
-            parent,
-            mark,
-        };
+        matching.clear();
+        search.clear();
         let mut base = 0;
-        for root in 0..pairs.len() {
-            if pairs[root] != 0 {
+        for root in 0..matching.pairs.len() {
+            if matching.unknown_of(root) != 0 {
                 continue;
             }
-            if search.mark[root] != 0 {
+            if search.mark_of(root) != 0 {
                 continue;
             }
-            base = self.extend(pairs, owner, &mut search, base, root, steps);
+            base = self.extend(matching, search, base, root, steps);
         }
         base
     }
@@ -80,17 +73,14 @@ pub fn assign<L>(inc: &Counted<L>, work: &mut Work, steps: &mut Steps<L>) -> Ass
 {
     let _equations = inc.equations();
     let graph = Graph::of_entries(inc);
-    graph.assign_pairs(
-        &mut work.assignment,
-        &mut work.owner,
-        &mut work.queue,
-        &mut work.parent,
-        &mut work.mark,
-        steps,
+    graph.assign_pairs(&mut work.matching, &mut work.search, steps);
+    list_marked(&work.search.mark, &mut work.deficit.equations);
+    list_reached(
+        &work.matching.owner,
+        &work.search.mark,
+        &mut work.deficit.unknowns,
     );
-    list_marked(&work.mark, &mut work.deficit.equations);
-    list_reached(&work.owner, &work.mark, &mut work.deficit.unknowns);
-    match count_missing(&work.assignment) {
+    match count_missing(&work.matching.pairs) {
         0 => Assigned::All,
         missing => Assigned::Missing(missing),
     }

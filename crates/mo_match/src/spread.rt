@@ -11,10 +11,18 @@ ghost use Rattle.mo_match.specs.Results.{IsMadeFor};
 
 use crate::largest::clear;
 use crate::lists::list_unknowns;
-use crate::search::Held;
 use crate::threads::thread;
 use crate::work::Work;
 use mo_incidence::Incidence;
+
+/// An assignment, by the equations and by the unknowns.
+#[derive(Clone, Copy)]
+struct Held<'a> {
+    /// For each equation the number of its unknown, or 0.
+    pub pairs: &'a [u32],
+    /// For each unknown, from 1 on, the number of its equation, or 0.
+    pub owner: &'a [u32],
+}
 
 /// An assignment of all equations, by the equations and by the unknowns, with the entries threaded by their unknowns.
 #[derive(Clone, Copy)]
@@ -149,10 +157,10 @@ pub fn undetermined(inc: &Incidence, work: &mut Work)
     ensures rest { work.new ≡ record work.old { loose = work.new.loose } }
 {
     let _equations = inc.equations();
-    note_owners(inc, &work.assignment, &mut work.owner);
+    note_owners(inc, &work.matching.pairs, &mut work.matching.owner);
     let held = Held {
-        pairs: &work.assignment,
-        owner: &work.owner,
+        pairs: &work.matching.pairs,
+        owner: &work.matching.owner,
     };
     find_loose(
         inc,

@@ -2,6 +2,8 @@
 ghost use Rattle.std.specs.Prelude.{◌≡◌, ◌≢◌, ◌+◌, ◌<◌, ◌≤◌, IfOk};
 ghost use Rattle.mo_match.specs.Results.{fresh};
 
+use crate::matching::Matching;
+use crate::search::Search;
 use mo_incidence::{Deficit, Offsets, Reason};
 use mo_syntax::NoMemory;
 use std::alloc::Global;
@@ -26,16 +28,10 @@ pub struct Work {
     pub unknowns: u32,
     /// How many entries there is room for.
     pub entries: u32,
-    /// For each equation the number of its unknown, or 0.
-    pub assignment: Vec<u32>,
-    /// For each unknown, from 1 on, the number of its equation, or 0.
-    pub owner: Vec<u32>,
-    /// Places of equations, as a search reaches them.
-    pub queue: Vec<u32>,
-    /// For each place of the queue the one from which its equation was reached.
-    pub parent: Vec<u32>,
-    /// For each equation, whether a search has reached it.
-    pub mark: Vec<u32>,
+    /// The assignment.
+    pub matching: Matching,
+    /// The lists of a search among the equations.
+    pub search: Search,
     /// For each unknown, from 1 on, whether a search has reached it.
     pub reached: Vec<u32>,
     /// Unknowns, as a search reaches them.
@@ -74,6 +70,8 @@ impl Work {
     pub fn new(alloc: Global, equations: u32, unknowns: u32, entries: u32) -> Result<Work, NoMemory>
         ensures { IfOk result (λ work. work ≡ fresh equations unknowns entries) }
     {
+        let matching = Matching::new(alloc, equations, unknowns)?;
+        let search = Search::new(alloc, equations)?;
         let m = equations as usize;
         let n = unknowns as usize;
         let e = entries as usize;
@@ -90,11 +88,8 @@ impl Work {
             equations,
             unknowns,
             entries,
-            assignment: vec![in alloc; 0; m]?,
-            owner: vec![in alloc; 0; n + 1]?,
-            queue: vec![in alloc; 0; m]?,
-            parent: vec![in alloc; 0; m]?,
-            mark: vec![in alloc; 0; m]?,
+            matching,
+            search,
             reached: vec![in alloc; 0; n + 1]?,
             order: vec![in alloc; 0; n]?,
             last: vec![in alloc; 0; n + 1]?,

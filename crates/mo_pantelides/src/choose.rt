@@ -155,10 +155,10 @@ pub fn reasons(inc: &Incidence, work: &mut Work)
     find_reasons(
         inc,
         &work.offsets,
-        &mut work.owner,
-        &mut work.queue,
-        &mut work.mark,
-        &mut work.parent,
+        &mut work.matching.owner,
+        &mut work.search.queue,
+        &mut work.search.mark,
+        &mut work.search.parent,
         &mut work.reasons,
     );
 }

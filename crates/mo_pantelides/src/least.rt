@@ -4,19 +4,21 @@ ghost use Rattle.std.proofs.Common.{suc};
 ghost use Rattle.std.specs.Vec.{vec_capacity};
 ghost use Rattle.mo_incidence.specs.Signature.{equations, entries, IsSound};
 ghost use Rattle.mo_incidence.specs.Assignment.{IsAssignment, CoversAll, CanCoverAll};
-ghost use Rattle.mo_incidence.specs.Offsets.{ArePaired, AreSized, BoundsOrders, IsLeast, by_number, by_place, sum_unknowns};
+ghost use Rattle.mo_incidence.specs.Offsets.{ArePaired, AreSized, BoundsOrders, HasPairs, HasSizes, IsLeast, by_number, by_place, c_of, d_of, pairs_of, sum_unknowns};
 ghost use Rattle.mo_incidence.specs.Transversal.{IsLeastSequence};
-ghost use Rattle.mo_match.specs.Searching.{Uses, tight_of, IsMatching, IsTree, ClosedTo};
+ghost use Rattle.mo_match.specs.Searching.{tight_of};
+ghost use Rattle.mo_match.specs.Trees.{HasRoomFor, HasTree, IsClosedTo, MatchesBy};
 ghost use Rattle.mo_match.specs.Results.{IsMadeFor};
 ghost use Rattle.mo_pantelides.specs.Finding.{GainsOffsets, most_reads};
 ghost use Rattle.mo_pantelides.specs.steps.Fixing.{AreOpen};
 ghost use Rattle.mo_pantelides.specs.steps.Raising.{AreRising, gap};
 
-use crate::raise::{Reached, raise};
+use crate::raise::raise;
+use crate::seek::Priced;
 use crate::start::greatest_orders;
 use crate::transversal::fix_all;
-use mo_incidence::Counted;
-use mo_match::{Graph, Search, Work, clear, put};
+use mo_incidence::{Counted, Offsets};
+use mo_match::{Graph, Matching, Search, Work, clear, put};
 use mo_ports::Steps;
 
 /// Gives an equation an unknown at which it is tight, or closes the equations that it reaches; the result is how many these are.
@@ -24,34 +26,26 @@ fn extend_tight<L>(
     inc: &Counted<L>,
     c: &[u32],
     d: &[u32],
-    pairs: &mut [u32],
-    owner: &mut [u32],
-    queue: &mut [u32],
-    parent: &mut [u32],
-    mark: &mut [u32],
+    matching: &mut Matching,
+    search: &mut Search,
     root: usize,
     steps: &mut Steps<L>,
 ) -> usize
     requires sizes { (length c.now ≡ equations inc.now) × (length d.now ≡ inc.now.unknowns) }
-    requires matching { IsMatching (Uses (tight_of inc.now c.now d.now)) (equations inc.now) inc.now.unknowns pairs.old owner.old }
-    requires tree { IsTree (Uses (tight_of inc.now c.now d.now)) (equations inc.now) pairs.old queue.old parent.old mark.old 0 0 }
-    requires root { (root < equations inc.now) × (slice_index pairs.old root ≡ 0) }
-    ensures matching { IsMatching (Uses (tight_of inc.now c.now d.now)) (equations inc.now) inc.now.unknowns pairs.new owner.new }
-    ensures closed { ClosedTo (tight_of inc.now c.now d.now) owner.new mark.new queue.new result }
-    ensures gained { result ≡ 0 → slice_index pairs.new root ≢ 0 }
-    ensures failed { result ≢ 0 → (0 < result) × (slice_index queue.new 0 ≡ root) × (slice_index pairs.new root ≡ 0) }
-    ensures tree { IsTree (Uses (tight_of inc.now c.now d.now)) (equations inc.now) pairs.new queue.new parent.new mark.new 0 result }
-    ensures kept { (x : ℕ) → slice_index pairs.old x ≢ 0 → slice_index pairs.new x ≢ 0 }
+    requires matching { MatchesBy (tight_of inc.now c.now d.now) matching.old }
+    requires tree { HasTree (tight_of inc.now c.now d.now) matching.old.pairs.items search.old 0 0 }
+    requires root { (root < equations inc.now) × (slice_index matching.old.pairs.items root ≡ 0) }
+    ensures matching { MatchesBy (tight_of inc.now c.now d.now) matching.new }
+    ensures closed { IsClosedTo (tight_of inc.now c.now d.now) matching.new.owner.items search.new result }
+    ensures gained { result ≡ 0 → slice_index matching.new.pairs.items root ≢ 0 }
+    ensures failed { result ≢ 0 → (0 < result) × (slice_index search.new.queue.items 0 ≡ root) × (slice_index matching.new.pairs.items root ≡ 0) }
+    ensures tree { HasTree (tight_of inc.now c.now d.now) matching.new.pairs.items search.new 0 result }
+    ensures kept { (x : ℕ) → slice_index matching.old.pairs.items x ≢ 0 → slice_index matching.new.pairs.items x ≢ 0 }
     ensures cost { steps.new ≤ steps.old + entries inc.now }
 {
     let _equations = inc.equations();
     let graph = Graph::of_tight(inc, c, d);
-    let mut search = Search {
-        queue,
-        parent,
-        mark,
-    };
-    graph.extend(pairs, owner, &mut search, 0, root, steps)
+    graph.extend(matching, search, 0, root, steps)
 }
 
 /// Raises offsets until the equation at a place can have an unknown at which it is tight, and gives it one.
@@ -59,11 +53,8 @@ fn settle<L>(
     inc: &Counted<L>,
     c: &mut [u32],
     d: &mut [u32],
-    pairs: &mut [u32],
-    owner: &mut [u32],
-    queue: &mut [u32],
-    parent: &mut [u32],
-    mark: &mut [u32],
+    matching: &mut Matching,
+    search: &mut Search,
     root: usize,
     steps: &mut Steps<L>,
 )
@@ -71,29 +62,22 @@ fn settle<L>(
     requires can { CanCoverAll inc.now }
     requires sizes { (length c.old ≡ equations inc.now) × (length d.old ≡ inc.now.unknowns) }
     requires rising { AreRising inc.now c.old d.old }
-    requires matching { IsMatching (Uses (tight_of inc.now c.old d.old)) (equations inc.now) inc.now.unknowns pairs.old owner.old }
-    requires tree { IsTree (Uses (tight_of inc.now c.old d.old)) (equations inc.now) pairs.old queue.old parent.old mark.old 0 0 }
-    requires root { (root < equations inc.now) × (slice_index pairs.old root ≡ 0) }
+    requires matching { MatchesBy (tight_of inc.now c.old d.old) matching.old }
+    requires tree { HasTree (tight_of inc.now c.old d.old) matching.old.pairs.items search.old 0 0 }
+    requires root { (root < equations inc.now) × (slice_index matching.old.pairs.items root ≡ 0) }
     ensures rising { AreRising inc.now c.new d.new }
-    ensures matching { IsMatching (Uses (tight_of inc.now c.new d.new)) (equations inc.now) inc.now.unknowns pairs.new owner.new }
-    ensures tree { IsTree (Uses (tight_of inc.now c.new d.new)) (equations inc.now) pairs.new queue.new parent.new mark.new 0 0 }
-    ensures gained { slice_index pairs.new root ≢ 0 }
-    ensures kept { (x : ℕ) → slice_index pairs.old x ≢ 0 → slice_index pairs.new x ≢ 0 }
+    ensures matching { MatchesBy (tight_of inc.now c.new d.new) matching.new }
+    ensures tree { HasTree (tight_of inc.now c.new d.new) matching.new.pairs.items search.new 0 0 }
+    ensures gained { slice_index matching.new.pairs.items root ≢ 0 }
+    ensures kept { (x : ℕ) → slice_index matching.old.pairs.items x ≢ 0 → slice_index matching.new.pairs.items x ≢ 0 }
     ensures cost { steps.new + gap (equations inc.now) inc.now.unknowns c.new d.new * entries inc.now ≤ steps.old + entries inc.now + gap (equations inc.now) inc.now.unknowns c.old d.old * entries inc.now }
 {
     'again: loop {
-        let tail = extend_tight(inc, c, d, pairs, owner, queue, parent, mark, root, steps);
+        let tail = extend_tight(inc, c, d, matching, search, root, steps);
         if tail == 0 {
             return;
         }
-        let reached = Reached {
-            pairs,
-            owner,
-            queue,
-            parent,
-            tail,
-        };
-        raise(inc, &reached, c, d, mark);
+        raise(inc, c, d, matching, search, tail);
     }
 }
 
@@ -102,68 +86,72 @@ fn find_offsets<L>(
     inc: &Counted<L>,
     c: &mut [u32],
     d: &mut [u32],
-    pairs: &mut [u32],
-    owner: &mut [u32],
-    queue: &mut [u32],
-    parent: &mut [u32],
-    mark: &mut [u32],
+    matching: &mut Matching,
+    search: &mut Search,
     steps: &mut Steps<L>,
 )
     requires can { CanCoverAll inc.now }
     requires sizes { (length c.old ≡ equations inc.now) × (length d.old ≡ inc.now.unknowns) }
-    requires room { (length pairs.old ≡ equations inc.now) × (length owner.old ≡ suc inc.now.unknowns) }
-    requires room_search { (length queue.old ≡ equations inc.now) × (length parent.old ≡ equations inc.now) × (length mark.old ≡ equations inc.now) }
+    requires room { (length matching.old.pairs.items ≡ equations inc.now) × (length matching.old.owner.items ≡ suc inc.now.unknowns) }
+    requires room_search { HasRoomFor (equations inc.now) search.old }
     ensures least { IsLeast inc.now (by_place c.new) (by_number d.new) }
     ensures open { AreOpen inc.now c.new }
-    ensures matching { IsMatching (Uses (tight_of inc.now c.new d.new)) (equations inc.now) inc.now.unknowns pairs.new owner.new }
-    ensures tree { IsTree (Uses (tight_of inc.now c.new d.new)) (equations inc.now) pairs.new queue.new parent.new mark.new 0 0 }
-    ensures all { CoversAll inc.now (by_place pairs.new) }
+    ensures matching { MatchesBy (tight_of inc.now c.new d.new) matching.new }
+    ensures tree { HasTree (tight_of inc.now c.new d.new) matching.new.pairs.items search.new 0 0 }
+    ensures all { CoversAll inc.now (by_place matching.new.pairs.items) }
     ensures cost { (h : ℕ → ℕ) → BoundsOrders inc.now h → steps.new ≤ steps.old + (equations inc.now + sum_unknowns inc.now h + 1) * entries inc.now }
 {
     let equations = inc.equations() as usize;
     clear(c);
     greatest_orders(inc, d, steps);
-    clear(pairs);
-    clear(owner);
-    clear(mark);
+    matching.clear();
+    search.clear();
     for root in 0..equations {
-        if pairs[root] != 0 {
+        if matching.unknown_of(root) != 0 {
             continue;
         }
-        settle(inc, c, d, pairs, owner, queue, parent, mark, root, steps);
+        settle(inc, c, d, matching, search, root, steps);
     }
 }
 
-/// Finds the least offsets, and the least transversal, which also becomes the pairs. `left` is room for the unknowns' offsets.
+/// Finds the least offsets, and the least transversal, which also becomes the assignment. `left` is room for the unknowns' offsets.
 fn find_all<L>(
     inc: &Counted<L>,
-    c: &mut [u32],
-    d: &mut [u32],
+    offsets: &mut Offsets,
     left: &mut [u32],
-    pairs: &mut [u32],
-    owner: &mut [u32],
-    queue: &mut [u32],
-    parent: &mut [u32],
-    mark: &mut [u32],
-    fixed: &mut [u32],
+    matching: &mut Matching,
+    search: &mut Search,
     steps: &mut Steps<L>,
 )
     requires can { CanCoverAll inc.now }
-    requires sizes { (length c.old ≡ equations inc.now) × (length d.old ≡ inc.now.unknowns) × (length left.old ≡ inc.now.unknowns) × (length fixed.old ≡ equations inc.now) }
-    requires room { (length pairs.old ≡ equations inc.now) × (length owner.old ≡ suc inc.now.unknowns) }
-    requires room_search { (length queue.old ≡ equations inc.now) × (length parent.old ≡ equations inc.now) × (length mark.old ≡ equations inc.now) }
-    ensures least { IsLeast inc.now (by_place c.new) (by_number d.new) }
-    ensures tight { ArePaired inc.now (by_place c.new) (by_number d.new) (by_place fixed.new) }
-    ensures all { CoversAll inc.now (by_place fixed.new) }
-    ensures sequence { IsLeastSequence inc.now (by_place c.new) (by_number d.new) (by_place fixed.new) }
-    ensures pairs { pairs.new ≡ fixed.new }
+    requires sizes { HasSizes inc.now offsets.old × (length left.old ≡ inc.now.unknowns) }
+    requires room { (length matching.old.pairs.items ≡ equations inc.now) × (length matching.old.owner.items ≡ suc inc.now.unknowns) }
+    requires room_search { HasRoomFor (equations inc.now) search.old }
+    ensures least { IsLeast inc.now (c_of offsets.new) (d_of offsets.new) }
+    ensures tight { HasPairs inc.now offsets.new }
+    ensures all { CoversAll inc.now (pairs_of offsets.new) }
+    ensures sequence { IsLeastSequence inc.now (c_of offsets.new) (d_of offsets.new) (pairs_of offsets.new) }
+    ensures pairs { matching.new.pairs.items ≡ offsets.new.pairs.items }
+    ensures sizes { HasSizes inc.now offsets.new }
+    ensures room { length matching.new.owner.items ≡ suc inc.now.unknowns }
+    ensures room_search { HasRoomFor (equations inc.now) search.new }
     ensures cost { (h : ℕ → ℕ) → BoundsOrders inc.now h → steps.new ≤ steps.old + most_reads inc.now h }
 {
-    find_offsets(inc, c, d, pairs, owner, queue, parent, mark, steps);
+    find_offsets(inc, &mut offsets.c, &mut offsets.d, matching, search, steps);
+    let priced = Priced {
+        c: &offsets.c,
+        d: &offsets.d,
+    };
     fix_all(
-        inc, c, d, left, pairs, owner, queue, parent, mark, fixed, steps,
+        inc,
+        &priced,
+        left,
+        &mut offsets.pairs,
+        matching,
+        search,
+        steps,
     );
-    pairs.copy_from_slice(fixed);
+    matching.pairs.copy_from_slice(&offsets.pairs);
 }
 
 /// Makes a list of so many zeros, where there is room.
@@ -203,15 +191,10 @@ pub fn offsets<L>(inc: &Counted<L>, work: &mut Work, steps: &mut Steps<L>)
     fill(&mut work.offsets.pairs, equations);
     find_all(
         inc,
-        &mut work.offsets.c,
-        &mut work.offsets.d,
+        &mut work.offsets,
         &mut work.order,
-        &mut work.assignment,
-        &mut work.owner,
-        &mut work.queue,
-        &mut work.parent,
-        &mut work.mark,
-        &mut work.offsets.pairs,
+        &mut work.matching,
+        &mut work.search,
         steps,
     );
 }

@@ -5,6 +5,9 @@ use Rattle.mo_incidence.specs.Signature.{Signature, equations, row_len, order_at
 use Rattle.mo_incidence.specs.Assignment.{Assigns, CoversAll}
 use Rattle.mo_incidence.specs.Offsets.{IsTight, by_place, by_number}
 use Rattle.mo_match.specs.Searching.{Uses, tight_of, IsMatching}
+use Rattle.mo_match.specs.declared.matching.Matching.{Matching}
+use Rattle.mo_pantelides.specs.declared.seek.Fixing.{Fixing}
+use Rattle.mo_pantelides.specs.declared.seek.Priced.{Priced}
 
 -- an unknown with this number in place of its offset is tight nowhere
 abbrev pub taken : ℕ
@@ -35,3 +38,11 @@ pub record IsFixedTo (g : Signature) (c d left pairs owner t : List ℕ) (r bare
   pub assigns : Assigns (IsTight g (by_place c) (by_number d)) (equations g) (by_place t)
   pub forced : (x : ℕ) → x < equations g → get_or t x 0 ≢ 0 → (q : ℕ → ℕ) → IsRival g c d t r q → q x ≡ get_or t x 0
   pub least : (x : ℕ) → x < r → (q : ℕ → ℕ) → IsRival g c d t x q → get_or t x 0 ≤ q x
+
+-- that by the lists
+abbrev pub FixesBy : Signature → Priced → Fixing → Matching → (r bare : ℕ) → Type 0
+FixesBy g p f m r bare = IsFixedTo g p.c.now p.d.now f.left.now m.pairs.items m.owner.items f.fixed.now r bare
+
+-- they are the same lists, whatever stands in them
+abbrev pub IsSameFixing : Fixing → Fixing → Type 0
+IsSameFixing f f' = (f'.left.ghost_name ≡ f.left.ghost_name) × (f'.fixed.ghost_name ≡ f.fixed.ghost_name)

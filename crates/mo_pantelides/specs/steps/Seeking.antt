@@ -4,6 +4,10 @@ use Rattle.std.proofs.Common.{get_or, suc}
 use Rattle.mo_incidence.specs.Counting.{sum_below}
 use Rattle.mo_incidence.specs.Signature.{Signature, equations, row_len, unknown_at}
 use Rattle.mo_match.specs.Searching.{UsesEntry, Uses, tight_of, IsTree, IsSearched, IsFree, IsHandedTo}
+use Rattle.mo_match.specs.declared.matching.Matching.{Matching}
+use Rattle.mo_match.specs.declared.search.Search.{Search}
+use Rattle.mo_pantelides.specs.declared.seek.Fixing.{Fixing}
+use Rattle.mo_pantelides.specs.declared.seek.Priced.{Priced}
 use Rattle.mo_pantelides.specs.steps.Fixing.{IsRival, IsFixedTo}
 
 -- The place of the queue whose equation is looked at next: that of the last one while some stand in a row, else that of the first one that
@@ -45,6 +49,15 @@ pub record IsFound (g : Signature) (c d left pairs owner t queue parent mark : L
   pub within : (x : ℕ) → x < equations g → get_or mark x 0 ≤ suc (row_len g x)
   pub free_there : IsFree (tight_of g c left) owner (get_or queue place 0) free
   pub low : (j : ℕ) → IsHandedTo pairs queue parent 0 tail place free j → (q : ℕ → ℕ) → IsRival g c d t root q → j ≤ q root
+
+-- those by the lists
+abbrev pub SeeksBy : Signature → Priced → Fixing → Matching → Search → (root head loose tail : ℕ) → Type 0
+SeeksBy g p f m s root head loose tail =
+    IsSeeking g p.c.now p.d.now f.left.now m.pairs.items m.owner.items f.fixed.now s.queue.items s.parent.items s.mark.items root head loose tail
+
+abbrev pub FindsBy : Signature → Priced → Fixing → Matching → Search → (root place free tail : ℕ) → Type 0
+FindsBy g p f m s root place free tail =
+    IsFound g p.c.now p.d.now f.left.now m.pairs.items m.owner.items f.fixed.now s.queue.items s.parent.items s.mark.items root place free tail
 
 -- how many entries of the equation at place x were looked at; all of one that is fixed
 unfoldable pub looked_at : Signature → List ℕ → List ℕ → ℕ → ℕ

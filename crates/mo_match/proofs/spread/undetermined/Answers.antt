@@ -7,7 +7,7 @@ pub find_loose-requires-clause-matching : goal.find_loose-requires-clause-matchi
 find_loose-requires-clause-matching c =
     let size = c.note_owners.auto.owner ∙ ap length c.deref_mut.ensures.value in
     let is : c.deref-3.result.now ≡ c.note_owners.new.owner =
-    c.deref-3.ensures.value ∙ written_back c.work.inside.owner.len c.note_owners.new.owner c.work.inside.owner.items size (omega arith) in
+    c.deref-3.ensures.value ∙ written_back c.work.inside.matching.owner.len c.note_owners.new.owner c.work.inside.matching.owner.items size (omega arith) in
     let same : c.deref-2.result.now ≡ c.deref.result.now = c.deref-2.ensures.value ∙ sym c.deref.ensures.value in
     rw (is, same) c.note_owners.ensures
 

@@ -6,8 +6,9 @@ use Rattle.mo_pantelides.proofs.least.find_offsets.Goals as goal
 pub loop-root-init : goal.loop-root-init
 loop-root-init g c = record {
   rising = start_rising _ _ _ c.clear.ensures c.greatest_orders.ensures.bounds c.greatest_orders.ensures.least;
-  matching = matching_none _ _ _ _ _ (c.clear-2.auto.list ∙ c.requires.room.0) (c.clear-3.auto.list ∙ c.requires.room.1) c.clear-2.ensures c.clear-3.ensures;
-  tree = tree_none _ _ _ _ _ _ c.requires.room_search.0 c.requires.room_search.1 (c.clear-4.auto.list ∙ c.requires.room_search.2) c.clear-4.ensures;
+  matching = matching_none _ _ _ _ _ (c.clear-2.ensures.sizes.0 ∙ c.requires.room.0) (c.clear-2.ensures.sizes.1 ∙ c.requires.room.1) c.clear-2.ensures.pairs c.clear-2.ensures.owner;
+  tree = rw (c.clear-3.ensures.kept.0, c.clear-3.ensures.kept.1)
+      (tree_none _ _ _ _ _ _ c.requires.room_search.0 c.requires.room_search.1 (c.clear-3.ensures.size ∙ c.requires.room_search.2) c.clear-3.ensures.mark);
   settled = λ i l. absurd (omega arith);
   cost = λ h bound. start_cost _ _ _ _ _ c.greatest_orders.ensures.cost (start_gap _ _ _ c.clear.ensures c.greatest_orders.ensures.bounds c.greatest_orders.ensures.least h bound);
 }
@@ -26,7 +27,7 @@ loop-root-preserved g c =
 
 pub returns-clause-least : goal.returns-clause-least
 returns-clause-least g c =
-    least_at_end _ _ _ c.loop-root.pairs c.loop-root.owner c.loop-root.invariant.rising c.loop-root.invariant.matching
+    least_at_end _ _ _ c.loop-root.matching.pairs.items c.loop-root.matching.owner.items c.loop-root.invariant.rising c.loop-root.invariant.matching
     (λ i l. c.loop-root.invariant.settled i (omega (arith, c.equations-equations.ensures.count)))
 
 pub returns-clause-open : goal.returns-clause-open

@@ -24,7 +24,7 @@ again-preserved g c =
     record {
       rising = rising_raised _ _ _ _ _ _ _ _ _ c.requires.sound step.matching step.tree step.closed failed.0 (rw failed.1 failed.2) c.again.invariant.rising.fits _ _ c.raise.ensures.raised c.requires.can c.again.invariant.rising;
       matching = matching_raised _ _ _ _ _ _ _ _ _ c.requires.sound step.matching step.tree step.closed failed.0 (rw failed.1 failed.2) c.again.invariant.rising.fits _ _ c.raise.ensures.raised;
-      tree = tree_none _ _ _ _ _ _ step.tree.queue_all step.tree.parent_all (c.raise.auto.mark ∙ step.tree.mark_all) c.raise.ensures.cleared;
+      tree = rw (c.raise.ensures.kept.0, c.raise.ensures.kept.1) (tree_none _ _ _ _ _ _ step.tree.queue_all step.tree.parent_all (c.raise.ensures.size ∙ step.tree.mark_all) c.raise.ensures.cleared);
       bare = failed.2;
       kept = λ x some. step.kept x (c.again.invariant.kept x some);
       cost = cost_raised _ _ _ _ _ _ step.cost less c.again.invariant.cost;

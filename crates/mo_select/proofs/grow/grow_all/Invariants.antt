@@ -1,9 +1,5 @@
-use Rattle.mo_match.specs.Trees.{HasSameLists}
 use Rattle.mo_select.specs.steps.Growing.{IsGrownTo}
 use Rattle.mo_select.proofs.grow.grow_all.Given as goal
 
 abbrev pub invariant-loop-root : goal.invariant-loop-root
-invariant-loop-root l = record {
-  grown : IsGrownTo l.graph l.pairs l.owner l.search.queue.now l.search.parent.now l.search.mark.now l.base l.root;
-  same : HasSameLists l.initial.search l.search;
-}
+invariant-loop-root l = IsGrownTo l.graph l.matching.pairs.items l.matching.owner.items l.search.queue.items l.search.parent.items l.search.mark.items l.base l.root

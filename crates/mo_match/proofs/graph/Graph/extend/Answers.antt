@@ -5,7 +5,8 @@ use Rattle.mo_match.proofs.graph.Graph.extend.Goals as goal
 pub returns-in-Some-clause-closed : goal.returns-in-Some-clause-closed
 returns-in-Some-clause-closed g c =
     let found = c.search-outcome.ensures in
-    rw c.unmark.ensures.kept.0 (closed_after _ c.args.pairs.now c.args.owner.now c.hand_on.new.pairs c.hand_on.new.owner c.args.search.now.queue.now c.args.search.now.parent.now c.args.search.now.mark.now _ _ _
+    rw c.unmark.ensures.kept.0 (closed_after _ c.args.matching.now.pairs.items c.args.matching.now.owner.items c.hand_on.new.matching.pairs.items c.hand_on.new.matching.owner.items
+    c.args.search.now.queue.items c.args.search.now.parent.items c.args.search.now.mark.items _ _ _
     c.requires.sound c.requires.matching c.hand_on.ensures.matching c.requires.tree found.grows.before c.hand_on.ensures.dead
     (marked_after _ _ _ _ _ _ _ _ found.tree (omega (arith, found.first.0)) _ c.unmark.ensures.size c.unmark.ensures.unmarked)
     c.requires.closed)
@@ -29,9 +30,3 @@ returns-in-Some-clause-marked g c = λ x xm some.
 
 pub returns-in-Some-clause-bare : goal.returns-in-Some-clause-bare
 returns-in-Some-clause-bare g c = rw c.search-outcome.ensures.first.1 at c.hand_on.ensures.bare
-
-pub returns-in-Some-clause-same : goal.returns-in-Some-clause-same
-returns-in-Some-clause-same g c =
-    let before = c.search-outcome.ensures.same in
-    let after = c.unmark.ensures.same in
-    (after.0 ∙ before.0, after.1 ∙ before.1, after.2 ∙ before.2)
