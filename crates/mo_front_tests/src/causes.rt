@@ -1,10 +1,9 @@
 //! Statuses that come from the words, the shelf and the sink.
-use crate::running::{Ran, put, run_over, words};
+use crate::running::{Ran, has_ended, put, run_over, words};
 use mo_front::Status;
-use mo_syntax::{List, NoMemory, both};
+use mo_syntax::{List, NoMemory, Text, both};
 use std::alloc::Global;
 use std::process::Abort;
-use std::test::Fail;
 
 const TEXT: &str = "model M\n  Real x;\nequation\n  x = 1.0;\nend M;\n";
 
@@ -33,6 +32,12 @@ fn numbers(alloc: Global, numbers: &[u64]) -> Result<List<u64>, NoMemory> {
     Ok(List::from_vec(Vec::from_slice(alloc, numbers)?))
 }
 
+fn held(alloc: Global, text: &str) -> Result<List<(Text, List<u8>)>, NoMemory> {
+    let mut held = List::new(alloc);
+    put(alloc, &mut held, "m.mo", text)?;
+    Ok(held)
+}
+
 /// The run for the class M and that many files, of which `m.mo` alone is held, where these reads and writes fail.
 fn faulty(
     alloc: Global,
@@ -41,22 +46,21 @@ fn faulty(
     reads: &[u64],
     writes: &[u64],
 ) -> Result<Ran, NoMemory> {
-    let words = words(alloc, "M", &["--emit", "flat"], files)?;
-    let mut held = List::new(alloc);
-    put(alloc, &mut held, "m.mo", text)?;
-    let (reads, writes) = both(numbers(alloc, reads), numbers(alloc, writes))?;
+    let words = words(alloc, "M", &["--emit", "flat"], files);
+    let given = both(words, held(alloc, text));
+    let faults = both(numbers(alloc, reads), numbers(alloc, writes));
+    let ((words, held), (reads, writes)) = both(given, faults)?;
     run_over(alloc, words.as_slice(), held, reads, writes)
 }
 
 fn holds(rt: &impl Abort, alloc: Global, row: &Row) -> Result<(), NoMemory> {
     let ran = faulty(alloc, row.0, row.1, row.2, row.3)?;
-    assert_eq!(rt; ran.status, row.4);
-    assert_eq!(rt; ran.text.as_str(), row.5);
+    has_ended(rt, &ran, row.4, row.5);
     Ok(())
 }
 
 #[test]
-fn ends_as_its_causes_say(rt: HostRuntime) -> Result<(), Fail> {
+fn ends_as_its_causes_say(rt: HostRuntime) -> Result<(), NoMemory> {
     for row in &ROWS {
         holds(&rt, rt.alloc(), row)?;
     }

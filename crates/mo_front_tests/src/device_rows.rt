@@ -1,12 +1,11 @@
 //! A circuit over its library, where each read or each write fails in turn, and the library cut short.
-use crate::running::{Ran, put, run_class, strings, written};
+use crate::running::{Ran, has_ended, put, run_class, strings, written};
 use crate::worked_rows::{CIRCUIT, FLAT_CIRCUIT, LIBRARY};
 use mo_front::{Status, run};
 use mo_ports::{MemoryShelf, MemorySink};
 use mo_syntax::{List, NoMemory, Text, both};
 use std::alloc::Global;
 use std::process::Abort;
-use std::test::Fail;
 
 /// The words for the flat text of the circuit.
 const WORDS: [&str; 6] = [
@@ -42,20 +41,29 @@ fn one(alloc: Global, number: u64) -> Result<List<u64>, NoMemory> {
     Ok(List::from_vec(Vec::from_slice(alloc, &[number])?))
 }
 
-/// The run for the circuit where the read and the write of these numbers fail, from 1; none fails for 0.
-fn faulty(alloc: Global, read: u64, write: u64) -> Result<Ran, NoMemory> {
-    let (words, files) = both(strings(alloc, &WORDS), held(alloc))?;
-    let (reads, writes) = both(one(alloc, read), one(alloc, write))?;
-    let mut sink = MemorySink::new(alloc, 4096, PIECE, writes)?;
-    let mut shelf = MemoryShelf::new(files, PIECE, reads);
-    let status = run(alloc, words.as_slice(), &mut shelf, &mut sink);
-    let text = written(alloc, &sink)?;
+fn run_with(
+    alloc: Global,
+    words: &[String],
+    shelf: &mut MemoryShelf,
+    sink: &mut MemorySink,
+) -> Result<Ran, NoMemory> {
+    let status = run(alloc, words, shelf, sink);
+    let text = written(alloc, sink)?;
     Ok(Ran { status, text })
 }
 
+/// The run for the circuit where the read and the write of these numbers fail, from 1; none fails for 0.
+fn faulty(alloc: Global, read: u64, write: u64) -> Result<Ran, NoMemory> {
+    let given = both(strings(alloc, &WORDS), held(alloc));
+    let faults = both(one(alloc, read), one(alloc, write));
+    let ((words, files), (reads, writes)) = both(given, faults)?;
+    let mut shelf = MemoryShelf::new(files, PIECE, reads);
+    let mut sink = MemorySink::new(alloc, 4096, PIECE, writes)?;
+    run_with(alloc, words.as_slice(), &mut shelf, &mut sink)
+}
+
 fn is_whole(rt: &impl Abort, ran: &Ran) {
-    assert_eq!(rt; ran.text.as_str(), FLAT_CIRCUIT);
-    assert_eq!(rt; ran.status, Status::Done);
+    has_ended(rt, ran, Status::Done, FLAT_CIRCUIT);
 }
 
 /// After so many reads the next one fails.
@@ -63,11 +71,18 @@ fn read_fails(rt: &impl Abort, alloc: Global, done: usize) -> Result<(), NoMemor
     let ran = faulty(alloc, (done as u64).saturating_add(1), 0)?;
     if done >= READS {
         is_whole(rt, &ran);
-        return Ok(());
+    } else {
+        has_ended(rt, &ran, Status::ReadFault, "");
     }
-    assert_eq!(rt; ran.text.as_str(), "");
-    assert_eq!(rt; ran.status, Status::ReadFault);
     Ok(())
+}
+
+/// So many writes are done.
+fn is_cut(rt: &impl Abort, ran: &Ran, done: usize) {
+    let text = ran.text.as_str();
+    assert!(rt; text.len() == done.saturating_mul(PIECE));
+    assert!(rt; FLAT_CIRCUIT.starts_with(text));
+    assert!(rt; ran.status == Status::WriteFault);
 }
 
 /// After so many writes the next one fails.
@@ -75,12 +90,9 @@ fn write_fails(rt: &impl Abort, alloc: Global, done: usize) -> Result<(), NoMemo
     let ran = faulty(alloc, 0, (done as u64).saturating_add(1))?;
     if done >= WRITES {
         is_whole(rt, &ran);
-        return Ok(());
+    } else {
+        is_cut(rt, &ran, done);
     }
-    let text = ran.text.as_str();
-    assert_eq!(rt; text.len(), done.saturating_mul(PIECE));
-    assert!(rt; FLAT_CIRCUIT.starts_with(text));
-    assert_eq!(rt; ran.status, Status::WriteFault);
     Ok(())
 }
 
@@ -93,7 +105,7 @@ fn is_refused(rt: &impl Abort, alloc: Global, bytes: &[u8]) -> Result<(), NoMemo
 }
 
 #[test]
-fn tells_each_read_that_fails(rt: HostRuntime) -> Result<(), Fail> {
+fn tells_each_read_that_fails(rt: HostRuntime) -> Result<(), NoMemory> {
     for done in 0..READS + 2 {
         read_fails(&rt, rt.alloc(), done)?;
     }
@@ -101,7 +113,7 @@ fn tells_each_read_that_fails(rt: HostRuntime) -> Result<(), Fail> {
 }
 
 #[test]
-fn tells_each_write_that_fails(rt: HostRuntime) -> Result<(), Fail> {
+fn tells_each_write_that_fails(rt: HostRuntime) -> Result<(), NoMemory> {
     for done in 0..WRITES + 2 {
         write_fails(&rt, rt.alloc(), done)?;
     }
@@ -109,7 +121,7 @@ fn tells_each_write_that_fails(rt: HostRuntime) -> Result<(), Fail> {
 }
 
 #[test]
-fn refuses_a_library_cut_short(rt: HostRuntime) -> Result<(), Fail> {
+fn refuses_a_library_cut_short(rt: HostRuntime) -> Result<(), NoMemory> {
     let bytes = LIBRARY.as_bytes();
     for count in 0..bytes.len() {
         is_refused(&rt, rt.alloc(), &bytes[..count])?;
@@ -118,7 +130,7 @@ fn refuses_a_library_cut_short(rt: HostRuntime) -> Result<(), Fail> {
 }
 
 #[test]
-fn reads_a_library_without_its_last_line_feed(rt: HostRuntime) -> Result<(), Fail> {
+fn reads_a_library_without_its_last_line_feed(rt: HostRuntime) -> Result<(), NoMemory> {
     let text = LIBRARY.trim_end();
     let ran = run_class(rt.alloc(), "Lib", &["--emit", "flat"], text, None)?;
     assert_eq!(rt;

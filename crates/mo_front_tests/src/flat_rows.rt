@@ -1,10 +1,9 @@
 //! Flat texts, and the first broken rule in their place.
-use crate::running::{Row, run_class};
+use crate::running::{Row, has_ended, run_class};
 use mo_front::Status;
 use mo_syntax::NoMemory;
 use std::alloc::Global;
 use std::process::Abort;
-use std::test::Fail;
 
 /// The words of the option that asks for the flat text.
 const ASK_FLAT: [&str; 2] = ["--emit", "flat"];
@@ -322,8 +321,7 @@ const FLAT_CIRCUIT: &str =
 
 fn holds(rt: &impl Abort, alloc: Global, row: &Row) -> Result<(), NoMemory> {
     let ran = run_class(alloc, row.0, &ASK_FLAT, row.1, row.2)?;
-    assert_eq!(rt; ran.text.as_str(), row.4);
-    assert_eq!(rt; ran.status, row.3);
+    has_ended(rt, &ran, row.3, row.4);
     Ok(())
 }
 
@@ -335,18 +333,18 @@ fn all_hold(rt: &impl Abort, alloc: Global, rows: &[Row]) -> Result<(), NoMemory
 }
 
 #[test]
-fn writes_flat_texts(rt: HostRuntime) -> Result<(), Fail> {
+fn writes_flat_texts(rt: HostRuntime) -> Result<(), NoMemory> {
     all_hold(&rt, rt.alloc(), &FLAT)?;
-    Ok(all_hold(&rt, rt.alloc(), &IN_THE_FORM)?)
+    all_hold(&rt, rt.alloc(), &IN_THE_FORM)
 }
 
 #[test]
-fn names_the_first_broken_rule(rt: HostRuntime) -> Result<(), Fail> {
+fn names_the_first_broken_rule(rt: HostRuntime) -> Result<(), NoMemory> {
     all_hold(&rt, rt.alloc(), &REFUSED)?;
-    Ok(all_hold(&rt, rt.alloc(), &ORDER)?)
+    all_hold(&rt, rt.alloc(), &ORDER)
 }
 
 #[test]
-fn flattens_many_forms(rt: HostRuntime) -> Result<(), Fail> {
-    Ok(all_hold(&rt, rt.alloc(), &FORMS)?)
+fn flattens_many_forms(rt: HostRuntime) -> Result<(), NoMemory> {
+    all_hold(&rt, rt.alloc(), &FORMS)
 }

@@ -1,10 +1,9 @@
 //! Ladders, which are made in place of files.
-use crate::running::{Ran, run_over, strings};
+use crate::running::{Ran, has_ended, run_over, strings};
 use mo_front::Status;
 use mo_syntax::{List, NoMemory};
 use std::alloc::Global;
 use std::process::Abort;
-use std::test::Fail;
 
 /// Words for a ladder, and what is written.
 const LADDERS: [(&[&str], &str); 4] = [
@@ -59,20 +58,18 @@ fn ran_with(alloc: Global, words: &[&str]) -> Result<Ran, NoMemory> {
 
 fn writes(rt: &impl Abort, alloc: Global, words: &[&str], line: &str) -> Result<(), NoMemory> {
     let ran = ran_with(alloc, words)?;
-    assert_eq!(rt; ran.text.as_str(), line);
-    assert_eq!(rt; ran.status, Status::Done);
+    has_ended(rt, &ran, Status::Done, line);
     Ok(())
 }
 
 fn is_usage(rt: &impl Abort, alloc: Global, words: &[&str]) -> Result<(), NoMemory> {
     let ran = ran_with(alloc, words)?;
-    assert_eq!(rt; ran.text.as_str(), "");
-    assert_eq!(rt; ran.status, Status::Usage);
+    has_ended(rt, &ran, Status::Usage, "");
     Ok(())
 }
 
 #[test]
-fn counts_ladders(rt: HostRuntime) -> Result<(), Fail> {
+fn counts_ladders(rt: HostRuntime) -> Result<(), NoMemory> {
     for row in &LADDERS {
         writes(&rt, rt.alloc(), row.0, row.1)?;
     }
@@ -80,7 +77,7 @@ fn counts_ladders(rt: HostRuntime) -> Result<(), Fail> {
 }
 
 #[test]
-fn makes_ladders_alone(rt: HostRuntime) -> Result<(), Fail> {
+fn makes_ladders_alone(rt: HostRuntime) -> Result<(), NoMemory> {
     for words in &USAGE {
         is_usage(&rt, rt.alloc(), words)?;
     }

@@ -1,11 +1,10 @@
 //! Files, models and results at the limits.
-use crate::running::{Ran, run_class};
+use crate::running::{Ran, has_ended, run_class};
 use itoa::Buffer;
 use mo_front::Status;
 use mo_syntax::NoMemory;
 use std::alloc::Global;
 use std::process::Abort;
-use std::test::Fail;
 
 fn push_number(text: &mut String, name: &str, number: u32) -> Result<(), NoMemory> {
     text.push_str(name)?;
@@ -115,20 +114,28 @@ fn equations(alloc: Global, count: u32) -> Result<Ran, NoMemory> {
     run_class(alloc, "M", &["--emit", "flat"], text.as_str(), None)
 }
 
+fn push_long_names(text: &mut String, sums: u32) -> Result<(), NoMemory> {
+    push_sums(text, sums)?;
+    push_levels(text, 31)?;
+    push_all(text, "\nmodel M extends C31; end M;", 1)
+}
+
 /// The flat text of so many sums of 100 unknowns, each with a name of 8 kB.
 fn long_names(alloc: Global, sums: u32) -> Result<Ran, NoMemory> {
     let mut text = String::new(alloc);
-    push_sums(&mut text, sums)?;
-    push_levels(&mut text, 31)?;
-    text.push_str("\nmodel M extends C31; end M;")?;
+    push_long_names(&mut text, sums)?;
     run_class(alloc, "M", &["--emit", "flat"], text.as_str(), None)
+}
+
+fn push_blanks(text: &mut String, count: u32) -> Result<(), NoMemory> {
+    push_all(text, " ", count)?;
+    push_all(text, "model M end M;", 1)
 }
 
 /// The flat text of a class in a file of so many blanks more.
 fn blanks(alloc: Global, count: u32) -> Result<Ran, NoMemory> {
     let mut text = String::new(alloc);
-    push_all(&mut text, " ", count)?;
-    text.push_str("model M end M;")?;
+    push_blanks(&mut text, count)?;
     run_class(alloc, "M", &["--emit", "flat"], text.as_str(), None)
 }
 
@@ -144,18 +151,22 @@ fn entries(alloc: Global) -> Result<Ran, NoMemory> {
 }
 
 fn is_refused(rt: &impl Abort, ran: &Ran, line: &str) {
-    assert_eq!(rt; ran.text.as_str(), line);
-    assert_eq!(rt; ran.status, Status::Refused);
+    has_ended(rt, ran, Status::Refused, line);
 }
 
 #[test]
-fn limits_the_report(rt: HostRuntime) -> Result<(), Fail> {
+fn reports_on_many_derivatives(rt: HostRuntime) -> Result<(), NoMemory> {
     let few = derivatives(
         rt.alloc(),
         "model M Real x[100]; equation x[1] = time; for i in 2:100 loop x[i] = der(x[i-1]); end for; end M;",
     )?;
-    assert!(rt; few.text.as_str().ends_with("index 100\nfreedom 0\n"));
-    assert_eq!(rt; few.status, Status::Done);
+    assert!(&rt; few.text.as_str().ends_with("index 100\nfreedom 0\n"));
+    assert!(&rt; few.status == Status::Done);
+    Ok(())
+}
+
+#[test]
+fn limits_the_report(rt: HostRuntime) -> Result<(), NoMemory> {
     let many = derivatives(
         rt.alloc(),
         "model M Real x[400]; equation x[1] = time; for i in 2:400 loop x[i] = der(x[i-1]); end for; end M;",
@@ -165,24 +176,30 @@ fn limits_the_report(rt: HostRuntime) -> Result<(), Fail> {
 }
 
 #[test]
-fn limits_the_flat_model(rt: HostRuntime) -> Result<(), Fail> {
+fn limits_the_flat_model(rt: HostRuntime) -> Result<(), NoMemory> {
     let many = equations(rt.alloc(), 50_001)?;
     is_refused(&rt, &many, "m.mo:1:7: rule 41: flat model too large\n");
     Ok(())
 }
 
-/// A text of 18 megabytes is made, and then the sink has no room for it; one that would have 800 is refused without being made.
+/// A text of 18 megabytes is made, and then the sink has no room for it.
 #[test]
-fn limits_the_flat_text(rt: HostRuntime) -> Result<(), Fail> {
+fn makes_a_long_flat_text(rt: HostRuntime) -> Result<(), NoMemory> {
     let few = long_names(rt.alloc(), 20)?;
-    assert_eq!(rt; few.status, Status::WriteFault);
+    assert!(&rt; few.status == Status::WriteFault);
+    Ok(())
+}
+
+/// One that would have 800 megabytes is refused without being made.
+#[test]
+fn limits_the_flat_text(rt: HostRuntime) -> Result<(), NoMemory> {
     let many = long_names(rt.alloc(), 1000)?;
     is_refused(&rt, &many, "m.mo:2:7: rule 41: flat model too large\n");
     Ok(())
 }
 
 #[test]
-fn takes_the_most_turns_of_loops(rt: HostRuntime) -> Result<(), Fail> {
+fn takes_the_most_turns_of_loops(rt: HostRuntime) -> Result<(), NoMemory> {
     let most = turns(
         rt.alloc(),
         "model M equation for i in 1:4000000 loop end for; end M;",
@@ -192,7 +209,7 @@ fn takes_the_most_turns_of_loops(rt: HostRuntime) -> Result<(), Fail> {
 }
 
 #[test]
-fn limits_the_turns_of_loops(rt: HostRuntime) -> Result<(), Fail> {
+fn limits_the_turns_of_loops(rt: HostRuntime) -> Result<(), NoMemory> {
     let more = turns(
         rt.alloc(),
         "model M equation for i in 1:2000, j in 1:2000 loop end for; end M;",
@@ -202,40 +219,45 @@ fn limits_the_turns_of_loops(rt: HostRuntime) -> Result<(), Fail> {
 }
 
 #[test]
-fn limits_the_incidence(rt: HostRuntime) -> Result<(), Fail> {
+fn limits_the_incidence(rt: HostRuntime) -> Result<(), NoMemory> {
     let many = entries(rt.alloc())?;
     is_refused(&rt, &many, "m.mo:1:7: rule 42: incidence too large\n");
     Ok(())
 }
 
 #[test]
-fn limits_a_file(rt: HostRuntime) -> Result<(), Fail> {
+fn reads_the_longest_file(rt: HostRuntime) -> Result<(), NoMemory> {
     let most = blanks(rt.alloc(), 4_194_304 - 14)?;
-    assert_eq!(rt; most.text.as_str(), "model M\nend M;\n");
+    has_ended(&rt, &most, Status::Done, "model M\nend M;\n");
+    Ok(())
+}
+
+#[test]
+fn limits_a_file(rt: HostRuntime) -> Result<(), NoMemory> {
     let more = blanks(rt.alloc(), 4_194_304 - 13)?;
     is_refused(&rt, &more, "m.mo:1:1: rule 1: file too long\n");
     Ok(())
 }
 
 #[test]
-fn limits_parentheses(rt: HostRuntime) -> Result<(), Fail> {
+fn reads_the_most_parentheses(rt: HostRuntime) -> Result<(), NoMemory> {
     let most = nested(rt.alloc(), 127)?;
-    assert_eq!(rt;
-        most.text.as_str(),
-        "model M\n  Real x;\nequation\n  x = 1.0;\nend M;\n"
-    );
+    let text = "model M\n  Real x;\nequation\n  x = 1.0;\nend M;\n";
+    has_ended(&rt, &most, Status::Done, text);
+    Ok(())
+}
+
+#[test]
+fn limits_parentheses(rt: HostRuntime) -> Result<(), NoMemory> {
     let more = nested(rt.alloc(), 128)?;
     is_refused(&rt, &more, "m.mo:1:157: rule 8: nesting too deep\n");
     Ok(())
 }
 
 #[test]
-fn finds_the_one_element_of_diamonds(rt: HostRuntime) -> Result<(), Fail> {
+fn finds_the_one_element_of_diamonds(rt: HostRuntime) -> Result<(), NoMemory> {
     let ran = diamonds(rt.alloc(), "C32", 32)?;
-    assert_eq!(rt;
-        ran.text.as_str(),
-        "model C32\n  Real x;\nequation\n  x = 1.0;\nend C32;\n"
-    );
-    assert_eq!(rt; ran.status, Status::Done);
+    let text = "model C32\n  Real x;\nequation\n  x = 1.0;\nend C32;\n";
+    has_ended(&rt, &ran, Status::Done, text);
     Ok(())
 }

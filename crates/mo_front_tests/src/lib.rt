@@ -1,6 +1,7 @@
 //! Tests of the program: what a run over files in memory writes, and how it ends.
 //!
-//! They stand apart from `mo_front`, so that this is proved without them.
+//! Begin with `src/worked_rows.rt`. What each module tests, and what this crate may not know, is told in docs/ARCHITECTURE.md,
+//! Crates of tests.
 #![tactic(auto)]
 
 #[cfg(test)]

@@ -3,6 +3,7 @@ use mo_front::{Status, run};
 use mo_ports::{MemoryShelf, MemorySink};
 use mo_syntax::{List, NoMemory, Text, both, pushed};
 use std::alloc::Global;
+use std::process::Abort;
 
 /// The class, the text of `m.mo` and, where there is a second file, of `n.mo`; the status, and what is written.
 pub(crate) type Row = (
@@ -76,6 +77,12 @@ fn bytes_of(alloc: Global, text: &str) -> Result<List<u8>, NoMemory> {
 pub(crate) struct Ran {
     pub status: Status,
     pub text: Text,
+}
+
+/// Asks that a run ended so and wrote this text.
+pub(crate) fn has_ended(rt: &impl Abort, ran: &Ran, status: Status, text: &str) {
+    assert_eq!(rt; ran.text.as_str(), text);
+    assert_eq!(rt; ran.status, status);
 }
 
 /// A run over files, with a shelf that gives 4096 bytes a read and a sink that has room for two megabytes and takes 16 bytes

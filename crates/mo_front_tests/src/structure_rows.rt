@@ -1,11 +1,10 @@
 //! Reduced models and reports, by what is asked for.
 use crate::flat_rows::PENDULUM;
-use crate::running::run_class;
+use crate::running::{has_ended, run_class};
 use mo_front::Status;
 use mo_syntax::NoMemory;
 use std::alloc::Global;
 use std::process::Abort;
-use std::test::Fail;
 
 /// What is asked for, the text of the class M, the status, and what is written.
 type Asked = (&'static str, &'static str, Status, &'static str);
@@ -197,8 +196,7 @@ const ALIASES: [Asked; 3] = [
 
 fn holds(rt: &impl Abort, alloc: Global, row: &Asked) -> Result<(), NoMemory> {
     let ran = run_class(alloc, "M", &["--emit", row.0], row.1, None)?;
-    assert_eq!(rt; ran.text.as_str(), row.3);
-    assert_eq!(rt; ran.status, row.2);
+    has_ended(rt, &ran, row.2, row.3);
     Ok(())
 }
 
@@ -210,22 +208,22 @@ fn all_hold(rt: &impl Abort, alloc: Global, rows: &[Asked]) -> Result<(), NoMemo
 }
 
 #[test]
-fn writes_what_is_asked_for(rt: HostRuntime) -> Result<(), Fail> {
+fn writes_what_is_asked_for(rt: HostRuntime) -> Result<(), NoMemory> {
     all_hold(&rt, rt.alloc(), &EMPTY)?;
     all_hold(&rt, rt.alloc(), &EVERYTHING)?;
-    Ok(all_hold(&rt, rt.alloc(), &SINGULAR)?)
+    all_hold(&rt, rt.alloc(), &SINGULAR)
 }
 
 #[test]
-fn differentiates_what_has_to_be(rt: HostRuntime) -> Result<(), Fail> {
+fn differentiates_what_has_to_be(rt: HostRuntime) -> Result<(), NoMemory> {
     all_hold(&rt, rt.alloc(), &REPORTS)?;
     all_hold(&rt, rt.alloc(), &REDUCED)?;
     all_hold(&rt, rt.alloc(), &STATES)?;
-    Ok(all_hold(&rt, rt.alloc(), &ALIASES)?)
+    all_hold(&rt, rt.alloc(), &ALIASES)
 }
 
 #[test]
-fn writes_all_where_nothing_is_asked(rt: HostRuntime) -> Result<(), Fail> {
+fn writes_all_where_nothing_is_asked(rt: HostRuntime) -> Result<(), NoMemory> {
     let ran = run_class(rt.alloc(), "M", &[], "model M end M;", None)?;
     assert_eq!(rt; ran.text.as_str(), EMPTY[3].3);
     Ok(())

@@ -1,12 +1,11 @@
 //! Verdicts on printed reports, by what a run with `--verify` writes.
 use crate::flat_rows::PENDULUM;
-use crate::running::{Ran, put, run_over, strings};
+use crate::running::{Ran, has_ended, put, run_over, strings};
 use crate::structure_rows::PENDULUM_REPORT;
 use mo_front::Status;
 use mo_syntax::{List, NoMemory, Text, both};
 use std::alloc::Global;
 use std::process::Abort;
-use std::test::Fail;
 
 /// A right report on the pendulum with other tight pairs.
 const OTHER_PAIRS: &str =
@@ -281,6 +280,10 @@ fn held(alloc: Global, text: &str, report: &str) -> Result<List<(Text, List<u8>)
     Ok(files)
 }
 
+fn numbers(alloc: Global, numbers: &[u64]) -> Result<List<u64>, NoMemory> {
+    Ok(List::from_vec(Vec::from_slice(alloc, numbers)?))
+}
+
 /// The run with these words where `m.mo` and `r.txt` have these texts and the reads of these numbers fail.
 fn ran(
     alloc: Global,
@@ -289,16 +292,19 @@ fn ran(
     report: &str,
     reads: &[u64],
 ) -> Result<Ran, NoMemory> {
-    let (words, files) = both(strings(alloc, words), held(alloc, text, report))?;
-    let reads = List::from_vec(Vec::from_slice(alloc, reads)?);
+    let given = both(strings(alloc, words), held(alloc, text, report));
+    let ((words, files), reads) = both(given, numbers(alloc, reads))?;
     run_over(alloc, words.as_slice(), files, reads, List::new(alloc))
 }
 
-fn holds(rt: &impl Abort, alloc: Global, row: &Row) -> Result<(), NoMemory> {
+fn ran_on(alloc: Global, row: &Row) -> Result<Ran, NoMemory> {
     let report = row.1.replacen(alloc, row.2, row.3, 1)?;
-    let ran = ran(alloc, ORDERS[0], row.0, report.as_str(), &[])?;
-    assert_eq!(rt; ran.text.as_str(), row.4);
-    assert_eq!(rt; ran.status, row.5);
+    ran(alloc, ORDERS[0], row.0, report.as_str(), &[])
+}
+
+fn holds(rt: &impl Abort, alloc: Global, row: &Row) -> Result<(), NoMemory> {
+    let ran = ran_on(alloc, row)?;
+    has_ended(rt, &ran, row.5, row.4);
     Ok(())
 }
 
@@ -309,7 +315,7 @@ fn ends(rt: &impl Abort, alloc: Global, words: &[&str], status: Status) -> Resul
 }
 
 #[test]
-fn verdicts_that_hold(rt: HostRuntime) -> Result<(), Fail> {
+fn verdicts_that_hold(rt: HostRuntime) -> Result<(), NoMemory> {
     for row in &HOLD {
         holds(&rt, rt.alloc(), row)?;
     }
@@ -317,7 +323,7 @@ fn verdicts_that_hold(rt: HostRuntime) -> Result<(), Fail> {
 }
 
 #[test]
-fn verdicts_that_differ(rt: HostRuntime) -> Result<(), Fail> {
+fn verdicts_that_differ(rt: HostRuntime) -> Result<(), NoMemory> {
     for row in &DIFFER {
         holds(&rt, rt.alloc(), row)?;
     }
@@ -325,7 +331,7 @@ fn verdicts_that_differ(rt: HostRuntime) -> Result<(), Fail> {
 }
 
 #[test]
-fn rules_before_verdicts(rt: HostRuntime) -> Result<(), Fail> {
+fn rules_before_verdicts(rt: HostRuntime) -> Result<(), NoMemory> {
     for row in &BROKEN {
         holds(&rt, rt.alloc(), row)?;
     }
@@ -333,40 +339,65 @@ fn rules_before_verdicts(rt: HostRuntime) -> Result<(), Fail> {
 }
 
 #[test]
-fn words_of_the_third_form(rt: HostRuntime) -> Result<(), Fail> {
-    for words in &USAGE {
-        ends(&rt, rt.alloc(), words, Status::Usage)?;
-    }
+fn words_of_the_third_form(rt: HostRuntime) -> Result<(), NoMemory> {
     for words in &ORDERS {
         ends(&rt, rt.alloc(), words, Status::Done)?;
     }
     Ok(())
 }
 
-/// The two reads of `m.mo`, then those of the report; and a report that is not there.
 #[test]
-fn reports_that_cannot_be_read(rt: HostRuntime) -> Result<(), Fail> {
-    let alloc = rt.alloc();
-    for read in [1, 2, 3, 4] {
-        let ran = ran(alloc, ORDERS[0], PENDULUM, PENDULUM_REPORT, &[read])?;
-        assert_eq!(rt; ran.text.as_str(), "");
-        assert_eq!(rt; ran.status, Status::ReadFault);
+fn words_that_are_no_third_form(rt: HostRuntime) -> Result<(), NoMemory> {
+    for words in &USAGE {
+        ends(&rt, rt.alloc(), words, Status::Usage)?;
     }
+    Ok(())
+}
+
+/// The two reads of `m.mo`, then those of the report.
+#[test]
+fn reports_that_cannot_be_read(rt: HostRuntime) -> Result<(), NoMemory> {
+    for read in 1u64..5 {
+        let ran = ran(rt.alloc(), ORDERS[0], PENDULUM, PENDULUM_REPORT, &[read])?;
+        has_ended(&rt, &ran, Status::ReadFault, "");
+    }
+    Ok(())
+}
+
+#[test]
+fn reports_that_are_not_there(rt: HostRuntime) -> Result<(), NoMemory> {
     let words = ["--class", "M", "--verify", "absent", "m.mo"];
-    let ran = ran(alloc, &words, "\u{7f}", PENDULUM_REPORT, &[])?;
+    let ran = ran(rt.alloc(), &words, "\u{7f}", PENDULUM_REPORT, &[])?;
     assert_eq!(rt; ran.status, Status::ReadFault);
     Ok(())
 }
 
-/// A report of so many bytes in one line.
-fn one_line(alloc: Global, count: usize) -> Result<Ran, NoMemory> {
+/// Puts a report of so many bytes in one line at the end.
+fn push_line(
+    alloc: Global,
+    files: &mut List<(Text, List<u8>)>,
+    count: usize,
+) -> Result<(), NoMemory> {
+    let name = Text::from_str(alloc, "long.txt");
+    let (name, bytes) = both(name, one_line(alloc, count))?;
+    files.push((name, bytes))
+}
+
+fn one_line(alloc: Global, count: usize) -> Result<List<u8>, NoMemory> {
+    Ok(List::from_vec(vec![in alloc; b'x'; count]?))
+}
+
+fn with_line(alloc: Global, count: usize) -> Result<List<(Text, List<u8>)>, NoMemory> {
     let mut files = held(alloc, PENDULUM, "")?;
-    let bytes = vec![in alloc; b'x'; count]?;
-    files.push((Text::from_str(alloc, "long.txt")?, List::from_vec(bytes)))?;
-    let words = strings(
-        alloc,
-        &["--class", "M", "--verify", "long.txt", "m.mo", "n.mo"],
-    )?;
+    push_line(alloc, &mut files, count)?;
+    Ok(files)
+}
+
+const LONG: [&str; 6] = ["--class", "M", "--verify", "long.txt", "m.mo", "n.mo"];
+
+/// The run over a report of so many bytes in one line.
+fn ran_long(alloc: Global, count: usize) -> Result<Ran, NoMemory> {
+    let (words, files) = both(strings(alloc, &LONG), with_line(alloc, count))?;
     run_over(
         alloc,
         words.as_slice(),
@@ -376,14 +407,19 @@ fn one_line(alloc: Global, count: usize) -> Result<Ran, NoMemory> {
     )
 }
 
-/// A report of the most bytes is read; with one more rule 1 is broken at its first byte.
+/// A report of the most bytes is read.
 #[test]
-fn reports_at_their_limit(rt: HostRuntime) -> Result<(), Fail> {
-    let most = one_line(rt.alloc(), 67_108_864)?;
-    assert_eq!(rt; most.text.as_str(), "verify: line 1: unreadable\n");
-    assert_eq!(rt; most.status, Status::Differs);
-    let past = one_line(rt.alloc(), 67_108_865)?;
-    assert_eq!(rt; past.text.as_str(), "long.txt:1:1: rule 1: file too long\n");
-    assert_eq!(rt; past.status, Status::Refused);
+fn reports_at_their_limit(rt: HostRuntime) -> Result<(), NoMemory> {
+    let most = ran_long(rt.alloc(), 67_108_864)?;
+    has_ended(&rt, &most, Status::Differs, "verify: line 1: unreadable\n");
+    Ok(())
+}
+
+/// With one byte more rule 1 is broken at its first byte.
+#[test]
+fn reports_past_their_limit(rt: HostRuntime) -> Result<(), NoMemory> {
+    let past = ran_long(rt.alloc(), 67_108_865)?;
+    let line = "long.txt:1:1: rule 1: file too long\n";
+    has_ended(&rt, &past, Status::Refused, line);
     Ok(())
 }

@@ -4,7 +4,6 @@ use mo_front::Status;
 use mo_syntax::{List, NoMemory, Text, both};
 use std::alloc::Global;
 use std::process::Abort;
-use std::test::Fail;
 
 /// The files that are held: their names and texts.
 const HELD: [(&str, &str); 9] = [
@@ -111,7 +110,7 @@ fn is_usage(rt: &impl Abort, alloc: Global, words: &[&str]) -> Result<(), NoMemo
 }
 
 #[test]
-fn reads_words(rt: HostRuntime) -> Result<(), Fail> {
+fn reads_words(rt: HostRuntime) -> Result<(), NoMemory> {
     for row in &READ {
         writes(&rt, rt.alloc(), row.0, row.1)?;
     }
@@ -119,7 +118,7 @@ fn reads_words(rt: HostRuntime) -> Result<(), Fail> {
 }
 
 #[test]
-fn refuses_other_words(rt: HostRuntime) -> Result<(), Fail> {
+fn refuses_other_words(rt: HostRuntime) -> Result<(), NoMemory> {
     for words in &USAGE {
         is_usage(&rt, rt.alloc(), words)?;
     }

@@ -1,10 +1,9 @@
 //! Models that are worked out by hand: what is written of each.
-use crate::running::run_class;
+use crate::running::{has_ended, run_class};
 use mo_front::Status;
 use mo_syntax::NoMemory;
 use std::alloc::Global;
 use std::process::Abort;
-use std::test::Fail;
 
 /// The class, what is asked for, the text of `m.mo` and, where there is a second file, of `n.mo`; the status, and what is written.
 type Worked = (
@@ -480,8 +479,7 @@ const REFUSED: [Worked; 15] = [
 
 fn holds(rt: &impl Abort, alloc: Global, row: &Worked) -> Result<(), NoMemory> {
     let ran = run_class(alloc, row.0, &["--emit", row.1], row.2, row.3)?;
-    assert_eq!(rt; ran.text.as_str(), row.5);
-    assert_eq!(rt; ran.status, row.4);
+    has_ended(rt, &ran, row.4, row.5);
     Ok(())
 }
 
@@ -493,28 +491,28 @@ fn all_hold(rt: &impl Abort, alloc: Global, rows: &[Worked]) -> Result<(), NoMem
 }
 
 #[test]
-fn builds_circuits(rt: HostRuntime) -> Result<(), Fail> {
+fn builds_circuits(rt: HostRuntime) -> Result<(), NoMemory> {
     all_hold(&rt, rt.alloc(), &CIRCUITS)?;
     all_hold(&rt, rt.alloc(), &CONNECTS)?;
-    Ok(all_hold(&rt, rt.alloc(), &OUTER)?)
+    all_hold(&rt, rt.alloc(), &OUTER)
 }
 
 #[test]
-fn finds_classes_and_what_modifies_them(rt: HostRuntime) -> Result<(), Fail> {
+fn finds_classes_and_what_modifies_them(rt: HostRuntime) -> Result<(), NoMemory> {
     all_hold(&rt, rt.alloc(), &MODIFIERS)?;
     all_hold(&rt, rt.alloc(), &REDECLARATIONS)?;
-    Ok(all_hold(&rt, rt.alloc(), &NAMES)?)
+    all_hold(&rt, rt.alloc(), &NAMES)
 }
 
 #[test]
-fn decides_values_and_arrays(rt: HostRuntime) -> Result<(), Fail> {
+fn decides_values_and_arrays(rt: HostRuntime) -> Result<(), NoMemory> {
     all_hold(&rt, rt.alloc(), &VALUES)?;
     all_hold(&rt, rt.alloc(), &ARRAYS)?;
-    Ok(all_hold(&rt, rt.alloc(), &CONDITIONS)?)
+    all_hold(&rt, rt.alloc(), &CONDITIONS)
 }
 
 #[test]
-fn tells_structures_and_first_rules(rt: HostRuntime) -> Result<(), Fail> {
+fn tells_structures_and_first_rules(rt: HostRuntime) -> Result<(), NoMemory> {
     all_hold(&rt, rt.alloc(), &STRUCTURES)?;
-    Ok(all_hold(&rt, rt.alloc(), &REFUSED)?)
+    all_hold(&rt, rt.alloc(), &REFUSED)
 }

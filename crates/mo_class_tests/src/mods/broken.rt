@@ -203,13 +203,16 @@ fn breaks_in(
     breaks(rt, alloc, &mut scopes, name, row)
 }
 
+fn breaks_of(rt: &impl Abort, alloc: Global, name: &Text, row: &Row) -> Result<(), Stop> {
+    let files = tree(alloc, &[row.text])?;
+    Ok(breaks_in(rt, alloc, &files, name, row)?)
+}
+
 #[test]
 fn rules_that_merging_breaks(rt: HostRuntime) -> Result<(), Stop> {
-    let alloc = rt.alloc();
-    let name = Text::from_str(alloc, "M")?;
+    let name = Text::from_str(rt.alloc(), "M")?;
     for row in &ROWS {
-        let files = tree(alloc, &[row.text])?;
-        breaks_in(&rt, alloc, &files, &name, row)?;
+        breaks_of(&rt, rt.alloc(), &name, row)?;
     }
     Ok(())
 }

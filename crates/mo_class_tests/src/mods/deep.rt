@@ -4,12 +4,11 @@ ghost use Rattle.mo_syntax.specs.SoundTree.{IsSoundTree};
 ghost use Rattle.mo_scope.specs.Worlds.{IsFrame};
 
 use crate::mods::frames::{base, top};
-use mo_mods::merge;
+use mo_mods::{MergedEnv, merge};
 use mo_samples::tree;
 use mo_scope::Scopes;
-use mo_syntax::{ClassTree, FrameId, List, NoMemory, Stop, Text};
+use mo_syntax::{ClassTree, FrameId, List, NoMemory, Stop, Text, both, pushed};
 use std::alloc::Global;
-use std::process::Abort;
 
 // Each class extends the one before it; the first has no base.
 const CLASSES: [&str; 33] = [
@@ -40,22 +39,32 @@ fn put_class(text: &mut String, name: &str, base: &str) -> Result<(), NoMemory> 
     Ok(())
 }
 
-fn text_of(alloc: Global) -> Result<String, NoMemory> {
-    let mut text = String::from_str(alloc, "model A0 end A0;\n")?;
+fn put_classes(text: &mut String) -> Result<(), NoMemory> {
+    text.push_str("model A0 end A0;\n")?;
     let mut before = CLASSES[0];
     for class in &CLASSES[1..] {
-        put_class(&mut text, class, before)?;
+        put_class(text, class, before)?;
         before = class;
     }
+    Ok(())
+}
+
+fn text_of(alloc: Global) -> Result<String, NoMemory> {
+    let mut text = String::new(alloc);
+    put_classes(&mut text)?;
     Ok(text)
+}
+
+fn put_names(alloc: Global, path: &mut List<Text>) -> Result<(), NoMemory> {
+    for _ in 0..31 {
+        pushed(path, Text::from_str(alloc, "a"))?;
+    }
+    pushed(path, Text::from_str(alloc, "x"))
 }
 
 fn path_of(alloc: Global) -> Result<List<Text>, NoMemory> {
     let mut path = List::new(alloc);
-    for _ in 0..31 {
-        path.push(Text::from_str(alloc, "a")?)?;
-    }
-    path.push(Text::from_str(alloc, "x")?)?;
+    put_names(alloc, &mut path)?;
     Ok(path)
 }
 
@@ -70,25 +79,29 @@ fn lowest(alloc: Global, scopes: &mut Scopes, class: &Text) -> Result<FrameId, N
     Ok(frame)
 }
 
-// The value of the outermost clause is the last number of the text.
-fn merges(
-    rt: &impl Abort,
+// Where the value of a path stands in the merged table.
+fn value_of(env: &MergedEnv, path: &[Text]) -> Option<u32> {
+    match env.binding(path) {
+        Some(picked) => Some(picked.value.place.byte),
+        None => None,
+    }
+}
+
+fn merged(
     alloc: Global,
     scopes: &mut Scopes,
     class: &Text,
     path: &[Text],
 ) -> Result<Option<u32>, Stop> {
     let frame = lowest(alloc, scopes, class)?;
-    assert!(rt; scopes.sources(frame).len() == 32);
-    let env = merge(scopes, alloc, frame)?;
-    match env.binding(path) {
-        Some(picked) => Ok(Some(picked.value.place.byte)),
-        None => Ok(None),
+    if scopes.sources(frame).len() != 32 {
+        return Ok(None);
     }
+    let env = merge(scopes, alloc, frame)?;
+    Ok(value_of(&env, path))
 }
 
-fn merges_in(
-    rt: &impl Abort,
+fn merged_in(
     alloc: Global,
     files: &ClassTree,
     class: &Text,
@@ -97,20 +110,25 @@ fn merges_in(
     requires { IsSoundTree files.now.files }
 {
     let mut scopes = Scopes::new(alloc, files)?;
-    merges(rt, alloc, &mut scopes, class, path)
+    merged(alloc, &mut scopes, class, path)
 }
 
+fn merged_of(alloc: Global, class: &Text, path: &[Text], text: &str) -> Result<Option<u32>, Stop> {
+    let files = tree(alloc, &[text])?;
+    merged_in(alloc, &files, class, path)
+}
+
+fn merged_text(alloc: Global, text: &str) -> Result<Option<u32>, Stop> {
+    let (class, path) = both(Text::from_str(alloc, "A32"), path_of(alloc))?;
+    merged_of(alloc, &class, path.as_slice(), text)
+}
+
+// The value of the outermost clause is the last number of the text.
 #[test]
 fn a_path_of_many_names_from_as_many_lists(rt: HostRuntime) -> Result<(), Stop> {
-    let alloc = rt.alloc();
-    let text = text_of(alloc)?;
-    let class = Text::from_str(alloc, "A32")?;
-    let path = path_of(alloc)?;
-    let files = tree(alloc, &[text.as_str()])?;
-    let value = merges_in(&rt, alloc, &files, &class, path.as_slice())?;
-    let Some(end) = text.rfind("1); end A32;") else {
-        return Err(Stop::NoMemory);
-    };
-    assert!(rt; value.map(|byte| byte as usize) == Some(end));
+    let text = text_of(rt.alloc())?;
+    let value = merged_text(rt.alloc(), text.as_str())?;
+    let end = text.rfind("1); end A32;");
+    assert!(&rt; end.is_some() && value.map(|byte| byte as usize) == end);
     Ok(())
 }

@@ -1,15 +1,12 @@
-//! Many arguments of one list, and a path of many names from as many lists.
-ghost use Rattle.std.specs.Prelude.{IfOk};
+//! Many arguments of one list.
 ghost use Rattle.mo_syntax.specs.SoundTree.{IsSoundTree};
-ghost use Rattle.mo_scope.specs.Worlds.{IsFrame};
 
 use crate::mods::frames::{component, top};
-use mo_mods::merge;
+use mo_mods::{MergedEnv, merge};
 use mo_samples::tree;
 use mo_scope::Scopes;
-use mo_syntax::{ClassTree, List, NoMemory, Stop, Text};
+use mo_syntax::{ClassTree, List, NoMemory, Stop, Text, both, single};
 use std::alloc::Global;
-use std::process::Abort;
 
 // Digits by which ten thousand names differ.
 const DIGITS: [&str; 10] = ["0", "1", "2", "3", "4", "5", "6", "7", "8", "9"];
@@ -41,51 +38,59 @@ fn put_thousand(text: &mut String, before: &str) -> Result<(), NoMemory> {
     Ok(())
 }
 
-// A model with ten thousand and one arguments in one list.
-fn text_of(alloc: Global) -> Result<String, NoMemory> {
-    let mut text = String::from_str(alloc, "model A end A; model M A m(x = 1")?;
+fn put_text(text: &mut String) -> Result<(), NoMemory> {
+    text.push_str("model A end A; model M A m(x = 1")?;
     for digit in &DIGITS {
-        put_thousand(&mut text, digit)?;
+        put_thousand(text, digit)?;
     }
     text.push_str("); end M;")?;
-    Ok(text)
-}
-
-fn merges(
-    rt: &impl Abort,
-    alloc: Global,
-    scopes: &mut Scopes,
-    class: &Text,
-    path: &[Text],
-) -> Result<(), Stop> {
-    let frame = top(alloc, scopes, class)?;
-    let frame = component(alloc, scopes, frame, &[])?;
-    let env = merge(scopes, alloc, frame)?;
-    assert!(rt; env.binding(path).is_some());
-    assert!(rt; env.binding(&[]).is_none());
     Ok(())
 }
 
-fn merges_in(
-    rt: &impl Abort,
-    alloc: Global,
-    files: &ClassTree,
-    class: &Text,
-    path: &[Text],
-) -> Result<(), Stop>
+// A model with ten thousand and one arguments in one list.
+fn text_of(alloc: Global) -> Result<String, NoMemory> {
+    let mut text = String::new(alloc);
+    put_text(&mut text)?;
+    Ok(text)
+}
+
+// Whether the table has a value for a path, and none for no name.
+fn has(env: &MergedEnv, path: &[Text]) -> bool {
+    env.binding(path).is_some() && env.binding(&[]).is_none()
+}
+
+fn merged(alloc: Global, scopes: &mut Scopes, class: &Text, path: &[Text]) -> Result<bool, Stop> {
+    let frame = top(alloc, scopes, class)?;
+    let frame = component(alloc, scopes, frame, &[])?;
+    let env = merge(scopes, alloc, frame)?;
+    Ok(has(&env, path))
+}
+
+fn merged_in(alloc: Global, files: &ClassTree, class: &Text, path: &[Text]) -> Result<bool, Stop>
     requires { IsSoundTree files.now.files }
 {
     let mut scopes = Scopes::new(alloc, files)?;
-    merges(rt, alloc, &mut scopes, class, path)
+    merged(alloc, &mut scopes, class, path)
+}
+
+fn merged_of(alloc: Global, class: &Text, path: &[Text], text: &str) -> Result<bool, Stop> {
+    let files = tree(alloc, &[text])?;
+    merged_in(alloc, &files, class, path)
+}
+
+fn path_of(alloc: Global) -> Result<List<Text>, NoMemory> {
+    let name = Text::from_str(alloc, "x9999")?;
+    single(alloc, name)
+}
+
+fn merged_text(alloc: Global, text: &str) -> Result<bool, Stop> {
+    let (class, path) = both(Text::from_str(alloc, "M"), path_of(alloc))?;
+    merged_of(alloc, &class, path.as_slice(), text)
 }
 
 #[test]
 fn ten_thousand_arguments(rt: HostRuntime) -> Result<(), Stop> {
-    let alloc = rt.alloc();
-    let text = text_of(alloc)?;
-    let class = Text::from_str(alloc, "M")?;
-    let mut path = List::new(alloc);
-    path.push(Text::from_str(alloc, "x9999")?)?;
-    let files = tree(alloc, &[text.as_str()])?;
-    merges_in(&rt, alloc, &files, &class, path.as_slice())
+    let text = text_of(rt.alloc())?;
+    assert!(&rt; merged_text(rt.alloc(), text.as_str())?);
+    Ok(())
 }

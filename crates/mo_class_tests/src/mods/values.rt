@@ -7,7 +7,7 @@ use crate::mods::frames::{component, top};
 use mo_mods::{MergedEnv, merge};
 use mo_samples::tree;
 use mo_scope::Scopes;
-use mo_syntax::{ClassTree, FrameId, List, NoMemory, Stop, Text};
+use mo_syntax::{ClassTree, FrameId, List, NoMemory, Stop, Text, single};
 use std::alloc::Global;
 use std::process::Abort;
 
@@ -111,24 +111,51 @@ fn asked(alloc: Global, scopes: &mut Scopes, row: &Row) -> Result<FrameId, NoMem
     component(alloc, scopes, frame, row.index)
 }
 
-fn gives(rt: &impl Abort, alloc: Global, files: &ClassTree, row: &Row) -> Result<(), Stop>
+fn path_of(alloc: Global, name: &str) -> Result<List<Text>, NoMemory> {
+    let name = Text::from_str(alloc, name)?;
+    single(alloc, name)
+}
+
+fn gives_in(
+    rt: &impl Abort,
+    alloc: Global,
+    scopes: &mut Scopes,
+    path: &[Text],
+    row: &Row,
+) -> Result<(), Stop> {
+    let frame = asked(alloc, scopes, row)?;
+    let env = merge(scopes, alloc, frame)?;
+    has(rt, &env, path, row);
+    Ok(())
+}
+
+fn gives(
+    rt: &impl Abort,
+    alloc: Global,
+    files: &ClassTree,
+    path: &[Text],
+    row: &Row,
+) -> Result<(), Stop>
     requires { IsSoundTree files.now.files }
 {
     let mut scopes = Scopes::new(alloc, files)?;
-    let frame = asked(alloc, &mut scopes, row)?;
-    let env = merge(&scopes, alloc, frame)?;
-    let mut path = List::new(alloc);
-    path.push(Text::from_str(alloc, row.name)?)?;
-    has(rt, &env, path.as_slice(), row);
-    Ok(())
+    gives_in(rt, alloc, &mut scopes, path, row)
+}
+
+fn is_given(rt: &impl Abort, alloc: Global, path: &[Text], row: &Row) -> Result<(), Stop> {
+    let files = tree(alloc, &[row.text])?;
+    gives(rt, alloc, &files, path, row)
+}
+
+fn has_value(rt: &impl Abort, alloc: Global, row: &Row) -> Result<(), Stop> {
+    let path = path_of(alloc, row.name)?;
+    is_given(rt, alloc, path.as_slice(), row)
 }
 
 #[test]
 fn values_of_tables(rt: HostRuntime) -> Result<(), Stop> {
-    let alloc = rt.alloc();
     for row in &ROWS {
-        let files = tree(alloc, &[row.text])?;
-        gives(&rt, alloc, &files, row)?;
+        has_value(&rt, rt.alloc(), row)?;
     }
     Ok(())
 }

@@ -1,4 +1,5 @@
 //! What is asked of texts, and what comes of it.
+ghost use Rattle.std.specs.Prelude.{IfOk};
 ghost use Rattle.mo_syntax.specs.SoundTree.{IsSoundTree};
 ghost use Rattle.mo_scope.specs.Worlds.{IsFrame};
 ghost use Rattle.mo_names.specs.Sights.{IsFound};
@@ -6,12 +7,22 @@ ghost use Rattle.mo_names.specs.Sights.{IsFound};
 use crate::names::frames::{NOWHERE, frame_named, scope_of};
 use crate::names::reading::reference;
 use crate::names::showing::{put_found, put_frame, put_members, put_sources, put_stop};
-use mo_names::{Child, child, elements, find, find_declared, find_path, own_named};
+use mo_names::{Child, Found, child, elements, find, find_declared, find_path, own_named};
 use mo_samples::tree;
 use mo_scope::{ScopeAt, Scopes};
 use mo_show::put;
 use mo_syntax::{ClassTree, FrameId, NoMemory, Reference, Stop, Text};
 use std::alloc::Global;
+
+/// Writes what was found, or hands on what stopped it.
+fn put_given(out: &mut Vec<u8>, s: &Scopes, found: &Result<Found, Stop>) -> Result<(), Stop>
+    requires { IfOk found.now (IsFound s.now) }
+{
+    match found {
+        Ok(found) => Ok(put_found(out, s, found)?),
+        Err(stop) => Err(*stop),
+    }
+}
 
 /// What a name of several identifiers finds in a scope.
 fn path_in(
@@ -24,8 +35,8 @@ fn path_in(
 ) -> Result<(), Stop>
     requires { IsFrame s.old at.now.frame.0 }
 {
-    let found = find_path(alloc, s, at, path, class_wanted)?;
-    Ok(put_found(out, s, &found)?)
+    let found = find_path(alloc, s, at, path, class_wanted);
+    put_given(out, s, &found)
 }
 
 /// What a name of several identifiers finds in a frame.
@@ -54,8 +65,8 @@ fn simple_in(
 ) -> Result<(), Stop>
     requires { IsFrame s.old at.now.frame.0 }
 {
-    let found = find(alloc, s, at, name, NOWHERE)?;
-    Ok(put_found(out, s, &found)?)
+    let found = find(alloc, s, at, name, NOWHERE);
+    put_given(out, s, &found)
 }
 
 /// What a simple name finds in a frame.
@@ -82,8 +93,8 @@ fn declared_in(
 ) -> Result<(), Stop>
     requires { IsFrame s.old at.now.frame.0 }
 {
-    let found = find_declared(alloc, s, at, false, name, NOWHERE)?;
-    Ok(put_found(out, s, &found)?)
+    let found = find_declared(alloc, s, at, false, name, NOWHERE);
+    put_given(out, s, &found)
 }
 
 /// What a simple name finds in a frame, as it is declared.
@@ -104,9 +115,10 @@ fn declared(
 fn own(s: &Scopes, out: &mut Vec<u8>, frame: FrameId, name: &Text) -> Result<(), NoMemory>
     requires { IsFrame s.now frame.0 }
 {
-    match own_named(s, frame, name)? {
-        Some(member) => put(out, member.name.as_str()),
-        None => put(out, "none"),
+    match own_named(s, frame, name) {
+        Ok(Some(member)) => put(out, member.name.as_str()),
+        Ok(None) => put(out, "none"),
+        Err(error) => Err(error),
     }
 }
 
@@ -128,8 +140,10 @@ fn child_of(
 ) -> Result<(), Stop>
     requires { IsFrame s.old frame.0 }
 {
-    let child = child(alloc, s, frame, name, &[])?;
-    Ok(put_child(out, s, &child)?)
+    match child(alloc, s, frame, name, &[]) {
+        Ok(child) => Ok(put_child(out, s, &child)?),
+        Err(stop) => Err(stop),
+    }
 }
 
 /// The elements of a frame.

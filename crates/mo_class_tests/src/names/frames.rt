@@ -44,10 +44,23 @@ fn component_frame(
     ensures { IfOk result (λ frame. IsFrame s.new frame.0) }
 {
     let name = Text::from_str(alloc, name)?;
-    match find_element(alloc, s, frame, &name, NOWHERE)? {
-        Reached::Element(member) => enter_component(alloc, s, &member, &[]),
-        Reached::Other(_) => Err(Stop::NoMemory),
-        Reached::Absent => Err(Stop::NoMemory),
+    match find_element(alloc, s, frame, &name, NOWHERE) {
+        Ok(Reached::Element(member)) => enter_component(alloc, s, &member, &[]),
+        Ok(Reached::Other(_)) => Err(Stop::NoMemory),
+        Ok(Reached::Absent) => Err(Stop::NoMemory),
+        Err(stop) => Err(stop),
+    }
+}
+
+/// The frame of the class that was found.
+fn class_given(s: &Scopes, found: &Result<Found, Stop>) -> Result<FrameId, Stop>
+    requires { IfOk found.now (IsFound s.now) }
+    ensures { IfOk result (λ frame. IsFrame s.now frame.0) }
+{
+    match found {
+        Ok(Found::Class(class, _)) => Ok(*class),
+        Ok(_) => Err(Stop::NoMemory),
+        Err(stop) => Err(*stop),
     }
 }
 
@@ -56,14 +69,8 @@ fn class_in(alloc: Global, s: &mut Scopes, at: &ScopeAt, path: &Reference) -> Re
     requires { IsFrame s.old at.now.frame.0 }
     ensures { IfOk result (λ frame. IsFrame s.new frame.0) }
 {
-    match find_path(alloc, s, at, path, true)? {
-        Found::Class(class, _) => Ok(class),
-        Found::Component(_, _)
-        | Found::Literal(_, _)
-        | Found::Iteration(_)
-        | Found::Function(_)
-        | Found::Time => Err(Stop::NoMemory),
-    }
+    let found = find_path(alloc, s, at, path, true);
+    class_given(s, &found)
 }
 
 /// The frame of the class that a name finds in a frame.

@@ -43,10 +43,11 @@ fn element<'t>(
 {
     let frame = class(alloc, s, class_name)?;
     let name = Text::from_str(alloc, name)?;
-    match find_element(alloc, s, frame, &name, PLACE)? {
-        Reached::Element(member) => Ok(member),
-        Reached::Other(_) => Err(Stop::NoMemory),
-        Reached::Absent => Err(Stop::NoMemory),
+    match find_element(alloc, s, frame, &name, PLACE) {
+        Ok(Reached::Element(member)) => Ok(member),
+        Ok(Reached::Other(_)) => Err(Stop::NoMemory),
+        Ok(Reached::Absent) => Err(Stop::NoMemory),
+        Err(stop) => Err(stop),
     }
 }
 
@@ -79,11 +80,21 @@ fn is_not_compatible(compared: Result<(), Stop>) -> bool {
     }
 }
 
+fn count_of<'t>(alloc: Global, s: &mut Scopes<'t>, member: &Member<'t>) -> Result<usize, Stop>
+    requires { IsMember s.old member.now }
+{
+    match child_of_member(alloc, s, member, &[]) {
+        Ok(child) => Ok(dimension_count(alloc, s, member, &child)?),
+        Err(stop) => Err(stop),
+    }
+}
+
 // How many dimensions an element has.
 fn count(alloc: Global, s: &mut Scopes, class: &str, name: &str) -> Result<usize, Stop> {
-    let member = element(alloc, s, class, name)?;
-    let child = child_of_member(alloc, s, &member, &[])?;
-    Ok(dimension_count(alloc, s, &member, &child)?)
+    match element(alloc, s, class, name) {
+        Ok(member) => count_of(alloc, s, &member),
+        Err(stop) => Err(stop),
+    }
 }
 
 fn has_leaf_base(alloc: Global, s: &mut Scopes, name: &str) -> Result<bool, Stop> {
@@ -98,38 +109,59 @@ fn base_class(alloc: Global, s: &mut Scopes, name: &str) -> Result<u32, Stop> {
     Ok(s.class_of(base).0)
 }
 
-fn compares(rt: &impl Abort, alloc: Global, files: &ClassTree) -> Result<(), Stop>
-    requires { IsSoundTree files.now.files }
-{
-    let mut scopes = Scopes::new(alloc, files)?;
-    assert!(rt; compared(alloc, &mut scopes, "A", "B").is_ok());
-    assert!(rt; compared(alloc, &mut scopes, "B", "A").is_ok());
-    assert!(rt; is_not_compatible(compared(alloc, &mut scopes, "V", "A")));
+fn compares(rt: &impl Abort, alloc: Global, s: &mut Scopes) {
+    assert!(rt; compared(alloc, s, "A", "B").is_ok());
+    assert!(rt; compared(alloc, s, "B", "A").is_ok());
+    assert!(rt; is_not_compatible(compared(alloc, s, "V", "A")));
+}
+
+fn counts(rt: &impl Abort, alloc: Global, s: &mut Scopes) -> Result<(), Stop> {
+    assert!(rt; count(alloc, s, "A", "w")? == 2);
+    assert!(rt; has_leaf_base(alloc, s, "W")?);
+    assert!(rt; !has_leaf_base(alloc, s, "A")?);
+    assert!(rt; base_class(alloc, s, "V")? == 0);
     Ok(())
 }
 
-fn counts(rt: &impl Abort, alloc: Global, files: &ClassTree) -> Result<(), Stop>
-    requires { IsSoundTree files.now.files }
+fn has_input(rt: &impl Abort, alloc: Global, s: &Scopes, x: &Member) -> Result<(), Stop>
+    requires { IsMember s.now x.now }
 {
-    let mut scopes = Scopes::new(alloc, files)?;
-    assert!(rt; count(alloc, &mut scopes, "A", "w")? == 2);
-    assert!(rt; has_leaf_base(alloc, &mut scopes, "W")?);
-    assert!(rt; !has_leaf_base(alloc, &mut scopes, "A")?);
-    assert!(rt; base_class(alloc, &mut scopes, "V")? == 0);
-    Ok(())
-}
-
-fn declares(rt: &impl Abort, alloc: Global, files: &ClassTree) -> Result<(), Stop>
-    requires { IsSoundTree files.now.files }
-{
-    let mut scopes = Scopes::new(alloc, files)?;
-    let x = element(alloc, &mut scopes, "A", "x")?;
     assert!(rt; !is_class(&x.declares));
     assert!(rt; component_of(&x.declares).is_some());
-    assert!(rt; is_input(prefix_of(alloc, &scopes, &x)?.causal));
-    let class = element(alloc, &mut scopes, "A", "I")?;
-    assert!(rt; is_class(&class.declares));
+    let prefix = prefix_of(alloc, s, x)?;
+    assert!(rt; is_input(prefix.causal));
     Ok(())
+}
+
+fn declares_input(rt: &impl Abort, alloc: Global, s: &mut Scopes) -> Result<(), Stop> {
+    match element(alloc, s, "A", "x") {
+        Ok(x) => has_input(rt, alloc, s, &x),
+        Err(stop) => Err(stop),
+    }
+}
+
+fn declares_class(rt: &impl Abort, alloc: Global, s: &mut Scopes) -> Result<(), Stop> {
+    match element(alloc, s, "A", "I") {
+        Ok(class) => {
+            assert!(rt; is_class(&class.declares));
+            Ok(())
+        }
+        Err(stop) => Err(stop),
+    }
+}
+
+fn answers(rt: &impl Abort, alloc: Global, s: &mut Scopes) -> Result<(), Stop> {
+    compares(rt, alloc, s);
+    counts(rt, alloc, s)?;
+    declares_input(rt, alloc, s)?;
+    declares_class(rt, alloc, s)
+}
+
+fn answers_in(rt: &impl Abort, alloc: Global, files: &ClassTree) -> Result<(), Stop>
+    requires { IsSoundTree files.now.files }
+{
+    let mut scopes = Scopes::new(alloc, files)?;
+    answers(rt, alloc, &mut scopes)
 }
 
 fn is_input(causal: Causal) -> bool {
@@ -144,7 +176,5 @@ fn is_input(causal: Causal) -> bool {
 fn calls(rt: HostRuntime) -> Result<(), Stop> {
     let alloc = rt.alloc();
     let files = tree(alloc, &[FILE])?;
-    compares(&rt, alloc, &files)?;
-    counts(&rt, alloc, &files)?;
-    declares(&rt, alloc, &files)
+    answers_in(&rt, alloc, &files)
 }

@@ -19,10 +19,11 @@ fn entered(alloc: Global, scopes: &mut Scopes, frame: FrameId, name: &str) -> Re
 {
     let name = Text::from_str(alloc, name)?;
     let place = Place { file: 0, byte: 0 };
-    match find_element(alloc, scopes, frame, &name, place)? {
-        Reached::Element(member) => enter_component(alloc, scopes, &member, &[]),
-        Reached::Other(_) => Err(Stop::NoMemory),
-        Reached::Absent => Err(Stop::NoMemory),
+    match find_element(alloc, scopes, frame, &name, place) {
+        Ok(Reached::Element(member)) => enter_component(alloc, scopes, &member, &[]),
+        Ok(Reached::Other(_)) => Err(Stop::NoMemory),
+        Ok(Reached::Absent) => Err(Stop::NoMemory),
+        Err(stop) => Err(stop),
     }
 }
 
@@ -76,9 +77,15 @@ fn is_as_wanted(alloc: Global, row: &Row) -> Result<bool, Stop> {
     }
 }
 
+fn has_answer(rt: &impl Abort, alloc: Global, row: &Row) -> Result<(), Stop> {
+    let told = is_as_wanted(alloc, row)?;
+    assert!(rt; told, "{}", row.file);
+    Ok(())
+}
+
 fn all_as_wanted(rt: &impl Abort, alloc: Global) -> Result<(), Stop> {
     for row in &ROWS {
-        assert!(rt; is_as_wanted(alloc, row)?, "{}", row.file);
+        has_answer(rt, alloc, row)?;
     }
     Ok(())
 }

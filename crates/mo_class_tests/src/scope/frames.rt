@@ -8,7 +8,7 @@ ghost use Rattle.mo_scope.specs.Worlds.{IsFrame, IsFrameOrNone, table_in};
 use crate::scope::trees::{FILES, text};
 use mo_samples::tree;
 use mo_scope::{Declares, Member, MemberTable, Part, Row, Scopes};
-use mo_syntax::{ClassId, ClassTree, FrameId, List, NoMemory, Place, Stop, Text};
+use mo_syntax::{ClassId, ClassTree, FrameId, List, NoMemory, Place, Stop, Text, both};
 use std::alloc::Global;
 use std::process::Abort;
 
@@ -80,13 +80,15 @@ fn frames_of(rt: &impl Abort, alloc: Global, files: &ClassTree, name: &Text) -> 
     has_frames(rt, alloc, &mut scopes, name)
 }
 
+fn frames_in(rt: &impl Abort, alloc: Global, name: &Text) -> Result<(), Stop> {
+    let files = tree(alloc, &FILES)?;
+    Ok(frames_of(rt, alloc, &files, name)?)
+}
+
 #[test]
 fn frames_that_look_classes_up(rt: HostRuntime) -> Result<(), Stop> {
-    let alloc = rt.alloc();
-    let name = text(alloc, "P")?;
-    let files = tree(alloc, &FILES)?;
-    frames_of(&rt, alloc, &files, &name)?;
-    Ok(())
+    let name = text(rt.alloc(), "P")?;
+    frames_in(&rt, rt.alloc(), &name)
 }
 
 /// The component that a class declares first.
@@ -145,12 +147,16 @@ fn has_elements(
     name: &Text,
     other: &Text,
 ) -> Result<(), NoMemory> {
-    match scopes.row(ClassId(7)) {
-        Some(row) => match first_component(row) {
-            Some(declares) => found_in_table(rt, alloc, declares, name, other),
-            None => Ok(()),
-        },
-        None => Ok(()),
+    let declares = match scopes.row(ClassId(7)) {
+        Some(row) => first_component(row),
+        None => None,
+    };
+    match declares {
+        Some(declares) => found_in_table(rt, alloc, declares, name, other),
+        None => {
+            assert!(rt; false, "no component");
+            Ok(())
+        }
     }
 }
 
@@ -167,12 +173,14 @@ fn elements_of(
     has_elements(rt, alloc, &scopes, name, other)
 }
 
+fn elements_in(rt: &impl Abort, alloc: Global, name: &Text, other: &Text) -> Result<(), Stop> {
+    let files = tree(alloc, &FILES)?;
+    Ok(elements_of(rt, alloc, &files, name, other)?)
+}
+
 #[test]
 fn elements_by_name(rt: HostRuntime) -> Result<(), Stop> {
     let alloc = rt.alloc();
-    let name = text(alloc, "x")?;
-    let other = text(alloc, "y")?;
-    let files = tree(alloc, &FILES)?;
-    elements_of(&rt, alloc, &files, &name, &other)?;
-    Ok(())
+    let (name, other) = both(text(alloc, "x"), text(alloc, "y"))?;
+    elements_in(&rt, alloc, &name, &other)
 }

@@ -4,7 +4,7 @@ ghost use Rattle.mo_syntax.specs.SoundTree.{IsSoundTree};
 use crate::scope::trees::{FILES, text};
 use mo_samples::tree;
 use mo_scope::{Home, Part, Row, Scopes, Sort};
-use mo_syntax::{ClassId, ClassTree, Item, NoMemory, Place, Stop, Text};
+use mo_syntax::{ClassId, ClassTree, Item, NoMemory, Place, Stop, Text, both};
 use std::alloc::Global;
 use std::process::Abort;
 
@@ -39,8 +39,10 @@ fn home(row: &Row) -> (&'static str, usize) {
     }
 }
 
-// Of each class: its name, its home, whether it is outermost, and its parts.
-const ROWS: [(u32, &str, (&str, usize), bool, &str); 6] = [
+// A class: its number, its name, its home, whether it is outermost, and its parts.
+type Wanted = (u32, &'static str, (&'static str, usize), bool, &'static str);
+
+const ROWS: [Wanted; 6] = [
     (6, "P", ("under", 0), true, "A<8 C>7 "),
     (7, "A", ("under", 1), false, "x B>7 = "),
     (8, "B", ("under", 2), false, "y "),
@@ -49,19 +51,15 @@ const ROWS: [(u32, &str, (&str, usize), bool, &str); 6] = [
     (11, "C", ("under", 1), true, "k "),
 ];
 
-fn is_row(
-    rt: &impl Abort,
-    alloc: Global,
-    row: &Row,
-    wanted: &(u32, &str, (&str, usize), bool, &str),
-) -> Result<(), NoMemory> {
-    let name = wanted.1;
-    assert_eq!(rt; row.number, wanted.0);
-    assert_eq!(rt; row.class.name.as_str(), name);
-    assert_eq!(rt; home(row), wanted.2, "at {name}");
-    assert_eq!(rt; row.outermost, wanted.3, "at {name}");
+fn is_row(rt: &impl Abort, alloc: Global, row: &Row, wanted: &Wanted) -> Result<(), NoMemory> {
+    let (number, name, at, outermost, wanted_parts) = *wanted;
+    assert!(rt;
+        row.number == number && row.class.name.as_str() == name,
+        "at {name}"
+    );
+    assert!(rt; home(row) == at && row.outermost == outermost, "at {name}");
     let found = parts(alloc, row)?;
-    assert_eq!(rt; found.as_str(), wanted.4, "at {name}");
+    assert_eq!(rt; found.as_str(), wanted_parts, "at {name}");
     Ok(())
 }
 
@@ -91,13 +89,13 @@ fn redeclared(rt: &impl Abort, scopes: &Scopes, items: &[Item]) {
 }
 
 fn has_others(rt: &impl Abort, scopes: &Scopes) {
-    assert_eq!(rt; scopes.number_at(Place { file: 1, byte: 32 }), 8);
-    assert_eq!(rt; scopes.number_at(Place { file: 2, byte: 16 }), 11);
-    assert_eq!(rt; scopes.number_at(Place { file: 1, byte: 9 }), 0);
+    assert!(rt; scopes.number_at(Place { file: 1, byte: 32 }) == 8);
+    assert!(rt; scopes.number_at(Place { file: 2, byte: 16 }) == 11);
+    assert!(rt; scopes.number_at(Place { file: 1, byte: 9 }) == 0);
     match scopes.row(ClassId(6)) {
         Some(row) => {
-            assert_eq!(rt; row.imports.len(), 1);
-            assert_eq!(rt; row.replacing.len(), 3);
+            assert!(rt; row.imports.len() == 1);
+            assert!(rt; row.replacing.len() == 3);
             redeclared(rt, scopes, row.replacing);
         }
         None => assert!(rt; false, "no row"),
@@ -124,12 +122,14 @@ fn has_classes(
     has_rows(rt, alloc, &scopes)
 }
 
+fn has_all(rt: &impl Abort, alloc: Global, top: &Text, inner: &Text) -> Result<(), Stop> {
+    let files = tree(alloc, &FILES)?;
+    Ok(has_classes(rt, alloc, &files, top, inner)?)
+}
+
 #[test]
 fn each_class_has_its_row(rt: HostRuntime) -> Result<(), Stop> {
     let alloc = rt.alloc();
-    let top = text(alloc, "P")?;
-    let inner = text(alloc, "C")?;
-    let files = tree(alloc, &FILES)?;
-    has_classes(&rt, alloc, &files, &top, &inner)?;
-    Ok(())
+    let (top, inner) = both(text(alloc, "P"), text(alloc, "C"))?;
+    has_all(&rt, alloc, &top, &inner)
 }

@@ -8,8 +8,9 @@ use crate::scope::frames::{enter, first_component};
 use crate::scope::trees::text;
 use mo_samples::tree;
 use mo_scope::{Declares, Member, Picked, Scopes, pick};
-use mo_syntax::{ClassId, ClassTree, NoMemory, Node, Stop, Text};
+use mo_syntax::{ClassId, ClassTree, NoMemory, Node, Stop, Text, both};
 use std::alloc::Global;
+use std::process::Abort;
 
 // What the modifiers of the first component of a model give for `a.k`.
 const ROWS: [(&str, Option<i64>); 5] = [
@@ -83,15 +84,30 @@ fn given_in(
     }
 }
 
+fn given_of(alloc: Global, model: &Text, path: &[Text], source: &str) -> Result<Option<i64>, Stop>
+    requires { length path.now ≡ 2 }
+{
+    let files = tree(alloc, &[source])?;
+    Ok(given_in(alloc, &files, model, path)?)
+}
+
+fn found_of(alloc: Global, source: &str) -> Result<Option<i64>, Stop> {
+    let path = both(text(alloc, "a"), text(alloc, "k"));
+    let ((a, k), model) = both(path, text(alloc, "M"))?;
+    let path = [a, k];
+    given_of(alloc, &model, &path, source)
+}
+
+fn is_given(rt: &impl Abort, alloc: Global, source: &str, wanted: Option<i64>) -> Result<(), Stop> {
+    let found = found_of(alloc, source)?;
+    assert!(rt; found == wanted, "{source}");
+    Ok(())
+}
+
 #[test]
 fn values_for_paths(rt: HostRuntime) -> Result<(), Stop> {
-    let alloc = rt.alloc();
-    let model = text(alloc, "M")?;
-    let path = [text(alloc, "a")?, text(alloc, "k")?];
     for (source, wanted) in &ROWS {
-        let files = tree(alloc, &[*source])?;
-        let found = given_in(alloc, &files, &model, &path)?;
-        assert!(&rt; found == *wanted, "{}", *source);
+        is_given(&rt, rt.alloc(), source, *wanted)?;
     }
     Ok(())
 }

@@ -1,6 +1,6 @@
 //! What instances give, as text.
 use mo_equations::Expansion;
-use mo_flat::{Connect, End, EndLeaf, FlatModel, Side, flat_text};
+use mo_flat::{Connect, Connects, End, EndLeaf, FlatModel, Side, flat_text};
 use mo_syntax::{InstancePath, Place, Stop};
 use std::alloc::Global;
 
@@ -69,9 +69,26 @@ fn write_flows(out: &mut String, flows: &[(u32, Place)]) -> Result<(), Stop> {
     Ok(())
 }
 
+fn write_model(alloc: Global, out: &mut String, model: &FlatModel) -> Result<(), Stop> {
+    let text = flat_text(alloc, model)?;
+    write!(out, "{}", text.as_str()).map_err(|_| Stop::NoMemory)
+}
+
+fn write_all(
+    alloc: Global,
+    out: &mut String,
+    model: &FlatModel,
+    connects: &Connects,
+) -> Result<(), Stop> {
+    write_model(alloc, out, model)?;
+    write_connects(out, connects.list.as_slice())?;
+    write_flows(out, connects.flows.as_slice())
+}
+
 /// The text of the flat model without connection sets, then a line for each connect and for each flow leaf.
 pub fn shown(alloc: Global, expansion: Expansion) -> Result<String, Stop> {
     let parts = expansion.parts;
+    let connects = parts.connects;
     let model = FlatModel {
         name: parts.name,
         place: parts.place,
@@ -81,10 +98,7 @@ pub fn shown(alloc: Global, expansion: Expansion) -> Result<String, Stop> {
         equations: parts.equations,
         asserts: parts.asserts,
     };
-    let text = flat_text(alloc, &model)?;
     let mut out = String::new(alloc);
-    write!(out, "{}", text.as_str()).map_err(|_| Stop::NoMemory)?;
-    write_connects(&mut out, parts.connects.list.as_slice())?;
-    write_flows(&mut out, parts.connects.flows.as_slice())?;
+    write_all(alloc, &mut out, &model, &connects)?;
     Ok(out)
 }

@@ -34,10 +34,12 @@ fn probe<'t>(alloc: Global, s: &mut Scopes<'t>, frame: FrameId) -> Result<Child<
     ensures { Grows s.old s.new }
 {
     let name = Text::from_str(alloc, "probe")?;
-    let Reached::Element(member) = find_element(alloc, s, frame, &name, NOWHERE)? else {
-        return Err(Stop::NoMemory);
-    };
-    child_of_member(alloc, s, &member, &[])
+    match find_element(alloc, s, frame, &name, NOWHERE) {
+        Ok(Reached::Element(member)) => child_of_member(alloc, s, &member, &[]),
+        Ok(Reached::Other(_)) => Err(Stop::NoMemory),
+        Ok(Reached::Absent) => Err(Stop::NoMemory),
+        Err(stop) => Err(stop),
+    }
 }
 
 fn put_value(out: &mut Vec<u8>, value: Value) -> Result<(), NoMemory> {
@@ -95,15 +97,36 @@ fn put_asked(
 {
     let mut reader = Reader::new(alloc);
     match index {
-        Some(index) => {
-            let value = reader.value(s, at, e, index)?;
-            Ok(put_value(out, value)?)
-        }
-        None => {
-            let sizes = reader.sizes(s, at, e)?;
-            Ok(put_sizes(out, sizes.as_slice())?)
-        }
+        Some(index) => match reader.value(s, at, e, index) {
+            Ok(value) => Ok(put_value(out, value)?),
+            Err(stop) => Err(stop),
+        },
+        None => match reader.sizes(s, at, e) {
+            Ok(sizes) => Ok(put_sizes(out, sizes.as_slice())?),
+            Err(stop) => Err(stop),
+        },
     }
+}
+
+/// What comes of the binding of an element of a frame.
+fn put_child(
+    alloc: Global,
+    out: &mut Vec<u8>,
+    s: &mut Scopes,
+    frame: FrameId,
+    child: &Child,
+    index: Option<&[u32]>,
+) -> Result<(), Stop>
+    requires { IsFrame s.old frame.0 }
+{
+    let Some(picked) = pick_here(child.sources.as_slice()) else {
+        return Err(Stop::NoMemory);
+    };
+    let at = ScopeAt {
+        frame,
+        iters: List::new(alloc),
+    };
+    put_asked(alloc, out, s, &at, picked.value, index)
 }
 
 /// What comes of the binding of `probe` in the class `M`.
@@ -114,15 +137,10 @@ fn put_probed(
     index: Option<&[u32]>,
 ) -> Result<(), Stop> {
     let frame = top_frame(alloc, s)?;
-    let child = probe(alloc, s, frame)?;
-    let Some(picked) = pick_here(child.sources.as_slice()) else {
-        return Err(Stop::NoMemory);
-    };
-    let at = ScopeAt {
-        frame,
-        iters: List::new(alloc),
-    };
-    put_asked(alloc, out, s, &at, picked.value, index)
+    match probe(alloc, s, frame) {
+        Ok(child) => put_child(alloc, out, s, frame, &child, index),
+        Err(stop) => Err(stop),
+    }
 }
 
 fn put_in_files(
@@ -175,6 +193,12 @@ fn put_answer(
     }
 }
 
+fn shown_in(alloc: Global, text: &str, start: u32, index: &str) -> Result<Vec<u8>, NoMemory> {
+    let mut out = Vec::new(alloc);
+    put_answer(alloc, &mut out, text, start, index)?;
+    Ok(out)
+}
+
 /// What comes of an expression among these declarations.
 fn shown(
     alloc: Global,
@@ -182,15 +206,12 @@ fn shown(
     expression: &str,
     index: &str,
 ) -> Result<Vec<u8>, NoMemory> {
-    let mut text = String::from_str(alloc, "model M ")?;
-    text.push_str(declarations)?;
-    text.push_str(" Real probe = ")?;
-    let start = u32::try_from(text.len()).unwrap_or(0);
-    text.push_str(expression)?;
-    text.push_str("; end M;")?;
-    let mut out = Vec::new(alloc);
-    put_answer(alloc, &mut out, text.as_str(), start, index)?;
-    Ok(out)
+    let text = format!(in alloc; "model M {declarations} Real probe = {expression}; end M;")?;
+    let start = declarations
+        .len()
+        .saturating_add("model M  Real probe = ".len());
+    let start = u32::try_from(start).unwrap_or(0);
+    shown_in(alloc, text.as_str(), start, index)
 }
 
 /// Asks what a row wants: an expression, an index or `sizes`, and what comes of it, with bars between them.
@@ -200,10 +221,8 @@ fn check_row(
     declarations: &str,
     row: &str,
 ) -> Result<(), NoMemory> {
-    let mut parts = row.split('|');
-    let expression = parts.next().unwrap_or("");
-    let index = parts.next().unwrap_or("");
-    let wanted = parts.next().unwrap_or("no row");
+    let (expression, rest) = row.split_once('|').unwrap_or((row, ""));
+    let (index, wanted) = rest.split_once('|').unwrap_or((rest, "no row"));
     let out = shown(alloc, declarations, expression, index)?;
     assert_eq!(rt; out.as_slice(), wanted.as_bytes(), "{row}");
     Ok(())

@@ -261,14 +261,33 @@ b[2]||true
 z[1]||33 before 182",
 ];
 
+fn push_number(alloc: Global, text: &mut String, number: u32) -> Result<(), NoMemory> {
+    let piece = format!(in alloc; ", {number}")?;
+    Ok(text.push_str(piece.as_str())?)
+}
+
+fn push_ends(alloc: Global, text: &mut String, sum: &str) -> Result<(), NoMemory> {
+    let piece = format!(in alloc; "}};\nsum(x)||{sum}")?;
+    Ok(text.push_str(piece.as_str())?)
+}
+
+fn push_head(alloc: Global, text: &mut String, n: u32) -> Result<(), NoMemory> {
+    let piece = format!(in alloc; "parameter Integer x[{n}] = {{1")?;
+    Ok(text.push_str(piece.as_str())?)
+}
+
+fn push_literal(alloc: Global, text: &mut String, n: u32, sum: &str) -> Result<(), NoMemory> {
+    push_head(alloc, text, n)?;
+    for k in 1..n {
+        push_number(alloc, text, k + 1)?;
+    }
+    push_ends(alloc, text, sum)
+}
+
 /// An array that is bound to the literal of the numbers from 1 to n, and a question for its sum.
 fn long_literal(alloc: Global, n: u32, sum: &str) -> Result<String, NoMemory> {
-    let mut text = format!(in alloc; "parameter Integer x[{n}] = {{1")?;
-    for k in 1..n {
-        let number = k + 1;
-        text.push_str(format!(in alloc; ", {number}")?.as_str())?;
-    }
-    text.push_str(format!(in alloc; "}};\nsum(x)||{sum}")?.as_str())?;
+    let mut text = String::new(alloc);
+    push_literal(alloc, &mut text, n, sum)?;
     Ok(text)
 }
 
