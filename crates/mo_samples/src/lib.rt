@@ -1,5 +1,8 @@
 //! Class trees from texts, for the tests of what stands on class trees.
 //!
+//! Begin with `tree` below and `src/row.rt`; the definition to read first is `crates/mo_syntax/specs/SoundTree.antt`. What this crate may
+//! not know ends its paragraph in docs/ARCHITECTURE.md.
+//!
 //! - `tree`: the files whose texts are given, read; the tree is sound.
 //! - `Row`: a text with what is to come of its class; `is_shown` and `is_refused`: whether it came.
 #![tactic(auto)]

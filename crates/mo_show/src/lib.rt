@@ -1,5 +1,7 @@
 //! Trees as text, in brackets, and the parts of rows of tests.
 //!
+//! Begin with `src/expressions.rt` and `src/classes.rt`. What this crate may not know ends its paragraph in docs/ARCHITECTURE.md.
+//!
 //! The crates of tests compare what is read with such texts. A row has its words, a neighbour that is refused, and what is wanted
 //! of both, with bars between them.
 #![tactic(auto)]

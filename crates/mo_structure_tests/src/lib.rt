@@ -1,7 +1,7 @@
 //! Tests of the structure of models, and of verdicts on printed reports.
 //!
-//! They stand apart from the crates that they test, so that these are proved without them, and together, so that what they stand on is
-//! loaded once.
+//! Begin with `src/structure.rt`. What each module tests, and what this crate may not know, is told in docs/ARCHITECTURE.md,
+//! Crates of tests.
 #![tactic(auto)]
 
 #[cfg(test)]

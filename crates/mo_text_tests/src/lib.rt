@@ -1,7 +1,7 @@
 //! Tests of texts: tokens, the trees of words and of files, the trees of their classes, and what is printed and read again.
 //!
-//! They stand apart from the crates that they test, so that these are proved without them, and together, so that what they stand on is
-//! loaded once.
+//! Begin with `src/lexer.rt`. What each module tests, and what this crate may not know, is told in docs/ARCHITECTURE.md,
+//! Crates of tests.
 #![tactic(auto)]
 
 #[cfg(test)]

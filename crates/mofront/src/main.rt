@@ -1,4 +1,7 @@
 //! The program on the files and the output of the system.
+//!
+//! Begin with `main`; what is written is the contract of `run` in mo_front. What this crate may not know ends its paragraph in
+//! docs/ARCHITECTURE.md.
 #![tactic(auto)]
 
 use mo_front::{Status, run};
