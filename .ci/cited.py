@@ -7,7 +7,9 @@
   with NAME and those that a build makes;
 - each block of text behind a line `<!-- examples/NAME -->` is that file, and the stored run of mofront is README.md's example;
 - the numbers and texts of the rules in docs/RULES.md are those of the definition, and of the names of rules, all of them, in order;
-- the definitions that the program's contract stands on are those that the table of docs/PROVED.md lists.
+- the definitions that the program's contract stands on are those that the table of docs/PROVED.md lists;
+- README.md's map names each crate of crates.txt, and docs/ARCHITECTURE.md has a paragraph or a row of each, in the order of crates.txt with
+  the crates of tests at the end.
 
 With --reading it prints these definitions instead, each behind those that it cites.
 """
@@ -97,6 +99,22 @@ def faults_of_reading():
             yield f"docs/PROVED.md {said} crates/{crate}/specs/{name}.antt"
 
 
+def faults_of_crates():
+    crates = re.findall(r"^(\w+):", (TOP / "crates.txt").read_text(), re.M)
+    mapped = re.findall(r"`(\w+)`", (TOP / "README.md").read_text().split("## The crates, by phase")[-1])
+    for name in crates:
+        if name not in mapped:
+            yield f"README.md: the map has no {name}"
+    text = (TOP / "docs/ARCHITECTURE.md").read_text()
+    wanted = [name for name in crates if not name.endswith("_tests")]
+    tests = [name for name in crates if name.endswith("_tests")]
+    table = re.findall(r"^\| (mo\w+) \|", text.split("## Where to begin")[-1].split("## What cuts across")[0], re.M)
+    rows = re.findall(r"^\| (mo\w+) \|", text.split("## Crates of tests")[-1], re.M)
+    for some, order in (table, wanted), (re.findall(r"^## (mo\w+)$", text, re.M), wanted), (rows, tests):
+        if some != order:
+            yield f"docs/ARCHITECTURE.md: {' '.join(some)} in place of {' '.join(order)}"
+
+
 def main():
     if sys.argv[1:] == ["--reading"]:
         for crate, name in definitions(ROOTS, set()):
@@ -105,7 +123,7 @@ def main():
     known = clauses()
     pages = [TOP / "README.md", *(page for part in ("docs", "bench", "examples") for page in sorted(TOP.glob(part + "/*.md")))]
     faults = [f"{page.relative_to(TOP)}: {fault}" for page in pages for fault in faults_of(page, known)]
-    faults += [*faults_of_run(), *faults_of_rules(), *faults_of_reading()]
+    faults += [*faults_of_run(), *faults_of_rules(), *faults_of_reading(), *faults_of_crates()]
     for fault in faults:
         print(fault, file=sys.stderr)
     return 1 if faults else 0
