@@ -30,40 +30,40 @@ module _ (place : ℕ → Bool × ℕ) where
   abbrev signed_rep : Bool × FlatExpr → Bool × FlatExpr
   signed_rep t = (t.0, replaced place t.1)
 
-  at_Sum : (ts : List (Bool × FlatExpr)) → replaced place (Sum ts) ≡ Sum (map (λ t. (t.0, replaced place t.1)) ts)
+  pub at_Sum : (ts : List (Bool × FlatExpr)) → replaced place (Sum ts) ≡ Sum (map (λ t. (t.0, replaced place t.1)) ts)
   at_Sum ts = ap (replaced place) (sym (rolls-Sum ts)) ∙ fold-roll-FlatExpr FlatExpr (replace_node place) (FlatExpr-F.Sum ts) ∙ rolls-Sum (map (λ t. (t.0, replaced place t.1)) ts)
 
-  at_Product : (ts : List (Bool × FlatExpr)) → replaced place (Product ts) ≡ Product (map (λ t. (t.0, replaced place t.1)) ts)
+  pub at_Product : (ts : List (Bool × FlatExpr)) → replaced place (Product ts) ≡ Product (map (λ t. (t.0, replaced place t.1)) ts)
   at_Product ts = ap (replaced place) (sym (rolls-Product ts)) ∙ fold-roll-FlatExpr FlatExpr (replace_node place) (FlatExpr-F.Product ts) ∙ rolls-Product (map (λ t. (t.0, replaced place t.1)) ts)
 
-  at_Whole : (n : ℤ) → replaced place (Whole n) ≡ Whole n
+  pub at_Whole : (n : ℤ) → replaced place (Whole n) ≡ Whole n
   at_Whole n = ap (replaced place) (sym (rolls-Whole n)) ∙ fold-roll-FlatExpr FlatExpr (replace_node place) (FlatExpr-F.Whole n) ∙ rolls-Whole n
 
-  at_Der : (a : FlatExpr) → replaced place (Der a) ≡ Der (replaced place a)
+  pub at_Der : (a : FlatExpr) → replaced place (Der a) ≡ Der (replaced place a)
   at_Der a = ap (replaced place) (sym (rolls-Der a)) ∙ fold-roll-FlatExpr FlatExpr (replace_node place) (FlatExpr-F.Der a) ∙ rolls-Der (replaced place a)
 
-  at_Power : (a b : FlatExpr) → replaced place (Power a b) ≡ Power (replaced place a) (replaced place b)
+  pub at_Power : (a b : FlatExpr) → replaced place (Power a b) ≡ Power (replaced place a) (replaced place b)
   at_Power a b = ap (replaced place) (sym (rolls-Power a b)) ∙ fold-roll-FlatExpr FlatExpr (replace_node place) (FlatExpr-F.Power a b) ∙ rolls-Power (replaced place a) (replaced place b)
 
-  at_Call : (k : ℕ) (es : List FlatExpr) → replaced place (Call k es) ≡ Call k (map (replaced place) es)
+  pub at_Call : (k : ℕ) (es : List FlatExpr) → replaced place (Call k es) ≡ Call k (map (replaced place) es)
   at_Call k es = ap (replaced place) (sym (rolls-Call k es)) ∙ fold-roll-FlatExpr FlatExpr (replace_node place) (FlatExpr-F.Call k es) ∙ rolls-Call k (map (replaced place) es)
 
-  at_Relation : (op : RelOp) (a b : FlatExpr) → replaced place (Relation op a b) ≡ Relation op (replaced place a) (replaced place b)
+  pub at_Relation : (op : RelOp) (a b : FlatExpr) → replaced place (Relation op a b) ≡ Relation op (replaced place a) (replaced place b)
   at_Relation op a b = ap (replaced place) (sym (rolls-Relation op a b)) ∙ fold-roll-FlatExpr FlatExpr (replace_node place) (FlatExpr-F.Relation op a b) ∙ rolls-Relation op (replaced place a) (replaced place b)
 
-  at_Not : (a : FlatExpr) → replaced place (Not a) ≡ Not (replaced place a)
+  pub at_Not : (a : FlatExpr) → replaced place (Not a) ≡ Not (replaced place a)
   at_Not a = ap (replaced place) (sym (rolls-Not a)) ∙ fold-roll-FlatExpr FlatExpr (replace_node place) (FlatExpr-F.Not a) ∙ rolls-Not (replaced place a)
 
-  at_All : (es : List FlatExpr) → replaced place (All es) ≡ All (map (replaced place) es)
+  pub at_All : (es : List FlatExpr) → replaced place (All es) ≡ All (map (replaced place) es)
   at_All es = ap (replaced place) (sym (rolls-All es)) ∙ fold-roll-FlatExpr FlatExpr (replace_node place) (FlatExpr-F.All es) ∙ rolls-All (map (replaced place) es)
 
-  at_Any : (es : List FlatExpr) → replaced place (Any es) ≡ Any (map (replaced place) es)
+  pub at_Any : (es : List FlatExpr) → replaced place (Any es) ≡ Any (map (replaced place) es)
   at_Any es = ap (replaced place) (sym (rolls-Any es)) ∙ fold-roll-FlatExpr FlatExpr (replace_node place) (FlatExpr-F.Any es) ∙ rolls-Any (map (replaced place) es)
 
-  at_If : (bs : List (FlatExpr × FlatExpr)) (o : FlatExpr) → replaced place (If bs o) ≡ If (map (λ b. (replaced place b.0, replaced place b.1)) bs) (replaced place o)
+  pub at_If : (bs : List (FlatExpr × FlatExpr)) (o : FlatExpr) → replaced place (If bs o) ≡ If (map (λ b. (replaced place b.0, replaced place b.1)) bs) (replaced place o)
   at_If bs o = ap (replaced place) (sym (rolls-If bs o)) ∙ fold-roll-FlatExpr FlatExpr (replace_node place) (FlatExpr-F.If bs o) ∙ rolls-If (map (λ b. (replaced place b.0, replaced place b.1)) bs) (replaced place o)
 
-  at_Var : (v k : ℕ) → replaced place (Var v k) ≡ order_of (place v) k
+  pub at_Var : (v k : ℕ) → replaced place (Var v k) ≡ order_of (place v) k
   at_Var v k = ap (replaced place) (sym (rolls-Var v k)) ∙ fold-roll-FlatExpr FlatExpr (replace_node place) (FlatExpr-F.Var v k)
 
   -- ---- the forms of the table of derivatives

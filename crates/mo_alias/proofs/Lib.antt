@@ -1,5 +1,8 @@
 mod Chaining
 mod Climbing
+mod Counting
+mod Gathering
+mod Planting
 mod Putting
 mod Reading
 mod Growing

@@ -12,7 +12,7 @@ use crate::classify::{Finding, findings};
 use crate::found::{Aliases, Gone};
 use crate::trees::Trees;
 use mo_flat::FlatModel;
-use mo_syntax::{List, NoMemory};
+use mo_syntax::{List, NoMemory, both};
 use std::alloc::Global;
 
 /// Takes the next unknown: it is the first of its tree, or another one.
@@ -111,6 +111,26 @@ fn loops(
     Ok(loops)
 }
 
+/// The aliases that so many unknowns and what equations say of them have.
+fn found(alloc: Global, said: &[Option<Alias>], count: u32) -> Result<Aliases, NoMemory>
+    requires { AreWithin said.now (count + 1) }
+    ensures gone { IfOk result (λ a. AreGone said.now a.gone) }
+    ensures dropped { IfOk result (λ a. AreDropped said.now a.dropped) }
+    ensures loops { IfOk result (λ a. AreLoops said.now a.loops) }
+{
+    let (findings, trees) = findings(alloc, said, count)?;
+    let equations = both(
+        dropped(alloc, said, &findings),
+        loops(alloc, said, &findings, &trees),
+    );
+    let (gone, (dropped, loops)) = both(gone(alloc, &trees, count), equations)?;
+    Ok(Aliases {
+        gone,
+        dropped,
+        loops,
+    })
+}
+
 /// The aliases of a model: which unknowns are others of lesser number, or minus them; which equations say no more than that; and
 /// which contradict those before them, with the links of the chains that they close. Alias equations, those that say that one unknown
 /// of order 0 is another or minus it, are taken in flat order. `NoMemory` is the only other answer.
@@ -120,13 +140,5 @@ pub fn aliases(alloc: Global, m: &FlatModel) -> Result<Aliases, NoMemory>
     ensures loops { IfOk result (λ a. AreLoops (aliases_in m.now) a.loops) }
 {
     let (said, count) = aliases_in(alloc, m)?;
-    let (findings, trees) = findings(alloc, &said, count)?;
-    let gone = gone(alloc, &trees, count)?;
-    let dropped = dropped(alloc, &said, &findings)?;
-    let loops = loops(alloc, &said, &findings, &trees)?;
-    Ok(Aliases {
-        gone,
-        dropped,
-        loops,
-    })
+    found(alloc, &said, count)
 }

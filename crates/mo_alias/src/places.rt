@@ -34,7 +34,6 @@ fn note(said: &mut Vec<Option<Gone>>, g: Gone)
 }
 
 /// Nothing said of so many.
-#[tactic(auto, using(crate::proofs::Noting::none_more))]
 fn nothing_said(alloc: Global, size: usize) -> Result<Vec<Option<Gone>>, NoMemory>
     ensures size { IfOk result (λ said. length said.items ≡ size) }
     ensures nothing { IfOk result (λ said. (unknown : ℕ) → get_or said.items unknown None ≡ None) }
@@ -98,7 +97,7 @@ fn new_numbers(alloc: Global, stays: &[bool]) -> Result<Vec<u32>, NoMemory>
 }
 
 /// The number at a place of a table, and 0 past its end.
-fn number_at(table: &[u32], at: u32) -> u32
+pub(crate) fn number_at(table: &[u32], at: u32) -> u32
     ensures { result ≡ get_or table.now at 0 }
 {
     match table.get(at as usize) {

@@ -1,10 +1,13 @@
 //! The text of aliases.
-ghost use Rattle.std.specs.Prelude.{◌≡◌, ◌∷◌, ◌++◌, flat_map, string_bytes, IfOk, OnOk};
+ghost use Rattle.std.specs.Prelude.{◌≡◌, ◌∷◌, ◌++◌, codes, flat_map, string_bytes, IfOk, OnOk};
 ghost use Rattle.mo_flat.specs.Roles.{unknown_numbers};
+ghost use Rattle.mo_flat.specs.Text.{model_text};
 ghost use Rattle.mo_alias.specs.Text.{aliases_text, gone_line, loop_line, number_text, unknown_name};
+ghost use Rattle.mo_alias.specs.Without.{without};
 
 use crate::found::{Aliases, Gone};
 use crate::numbers::variables_of;
+use crate::places::number_at;
 use crate::without::without_aliases;
 use itoa::Buffer;
 use mo_flat::{FlatModel, FlatVar, flat_text};
@@ -16,10 +19,7 @@ fn name_of<'a>(vars: &'a [FlatVar], variables: &[u32], unknown: u32) -> &'a str
     requires { variables.now ≡ 0 ∷ unknown_numbers vars.now }
     ensures { result.now ≡ unknown_name vars.now unknown }
 {
-    let variable = match variables.get(unknown as usize) {
-        None => 0,
-        Some(variable) => *variable as usize,
-    };
+    let variable = number_at(variables, unknown) as usize;
     if variable == 0 {
         return "";
     }
@@ -96,20 +96,47 @@ fn write_loops(out: &mut String, loops: &[List<u32>]) -> Result<(), NoMemory>
     Ok(())
 }
 
+fn write_head(out: &mut String, name: &str) -> Result<(), NoMemory>
+    ensures { OnOk result (string_bytes out.new ≡ string_bytes out.old ++ (codes "alias " ++ name.now ++ codes "\n")) }
+{
+    out.push_str("alias ")?;
+    out.push_str(name)?;
+    out.push_str("\n")?;
+    Ok(())
+}
+
+/// Writes the unknowns that are others, and the loops of the equations that contradict.
+fn write_found(
+    alloc: Global,
+    out: &mut String,
+    vars: &[FlatVar],
+    a: &Aliases,
+) -> Result<(), NoMemory>
+    ensures { OnOk result (string_bytes out.new ≡ string_bytes out.old ++ flat_map (gone_line vars.now) a.now.gone ++ flat_map loop_line a.now.loops) }
+{
+    let variables = variables_of(alloc, vars)?;
+    write_all_gone(out, vars, &variables, a.gone.as_slice())?;
+    write_loops(out, a.loops.as_slice())
+}
+
+/// Writes the model without aliases.
+fn write_rest(alloc: Global, out: &mut String, m: &FlatModel, a: &Aliases) -> Result<(), NoMemory>
+    ensures { OnOk result (string_bytes out.new ≡ string_bytes out.old ++ model_text (without m.now a.now)) }
+{
+    let made = without_aliases(alloc, m, a)?;
+    let text = flat_text(alloc, &made)?;
+    out.push_str(text.as_str())?;
+    Ok(())
+}
+
 /// The text of a model's aliases, each line ended by a line feed: the unknowns that are others, the loops of the equations that
 /// contradict, and the model without aliases. `NoMemory` is the only other answer.
 pub fn aliases_text(alloc: Global, m: &FlatModel, a: &Aliases) -> Result<Text, NoMemory>
     ensures { IfOk result (λ text. text ≡ aliases_text m.now a.now) }
 {
-    let variables = variables_of(alloc, m.vars.as_slice())?;
-    let made = without_aliases(alloc, m, a)?;
-    let end = flat_text(alloc, &made)?;
     let mut out = String::new(alloc);
-    out.push_str("alias ")?;
-    out.push_str(m.name.as_str())?;
-    out.push_str("\n")?;
-    write_all_gone(&mut out, m.vars.as_slice(), &variables, a.gone.as_slice())?;
-    write_loops(&mut out, a.loops.as_slice())?;
-    out.push_str(end.as_str())?;
+    write_head(&mut out, m.name.as_str())?;
+    write_found(alloc, &mut out, m.vars.as_slice(), a)?;
+    write_rest(alloc, &mut out, m, a)?;
     Ok(Text::from_string(out))
 }

@@ -5,7 +5,7 @@ ghost use Rattle.std.specs.Prelude.{◌≡◌, ◌≢◌, ℕ, ◌+◌, ◌<◌,
 ghost use Rattle.mo_alias.specs.steps.Forests.{AreOnce, AreTrees, HaveRoot, IsLatest, IsPut, Reaches, since_in};
 
 use crate::alias::{Alias, sign_product};
-use mo_syntax::NoMemory;
+use mo_syntax::{NoMemory, both};
 use std::alloc::Global;
 
 /// What stands at the place of the link of a root.
@@ -35,6 +35,18 @@ pub(crate) struct Latest {
     pub far: u32,
 }
 
+/// Each of so many unknowns and 0 under itself.
+fn alone(alloc: Global, count: u32) -> Result<Vec<u32>, NoMemory>
+    ensures size { IfOk result (λ parent. length parent.items ≡ count + 1) }
+    ensures alone { IfOk result (λ parent. (u : ℕ) → get_or parent.items u u ≡ u) }
+{
+    let mut parent = Vec::new(alloc);
+    for unknown in 0..count as usize + 1 {
+        parent.push(unknown as u32)?;
+    }
+    Ok(parent)
+}
+
 impl Trees {
     /// Each of so many unknowns alone.
     pub(crate) fn new(alloc: Global, count: u32) -> Result<Trees, NoMemory>
@@ -42,17 +54,20 @@ impl Trees {
         ensures size { IfOk result (λ trees. length trees.parent.items ≡ count + 1) }
         ensures roots { IfOk result (λ trees. (u : ℕ) → since_in trees u ≡ 18446744073709551615) }
     {
-        let mut parent = Vec::new(alloc);
-        for unknown in 0..=count {
-            parent.push(unknown)?;
-        }
+        let parent = alone(alloc, count)?;
         let size = count as usize + 1;
+        let signs = both(vec![in alloc; false; size], vec![in alloc; NEVER; size]);
+        let others = both(
+            vec![in alloc; (0u32, 0u32); size],
+            vec![in alloc; 0u32; size],
+        );
+        let ((minus, since), (ends, height)) = both(signs, others)?;
         Ok(Trees {
             parent,
-            minus: vec![in alloc; false; size]?,
-            since: vec![in alloc; NEVER; size]?,
-            ends: vec![in alloc; (0u32, 0u32); size]?,
-            height: vec![in alloc; 0u32; size]?,
+            minus,
+            since,
+            ends,
+            height,
         })
     }
 
