@@ -4,10 +4,10 @@ ghost use Rattle.std.proofs.Common.{suc};
 ghost use Rattle.mo_incidence.specs.Signature.{equations};
 ghost use Rattle.mo_incidence.specs.Assignment.{Assigns, CoversAll};
 ghost use Rattle.mo_incidence.specs.Offsets.{HasFreedom, HasPairs, HasSizes, IsTight, by_number, by_place, c_of, d_of, differentiations, pairs_of};
-ghost use Rattle.mo_incidence.specs.Dummies.{states_to};
+ghost use Rattle.mo_incidence.specs.Dummies.{differentiated, states_to};
 ghost use Rattle.mo_select.specs.Levels.{level_of};
 ghost use Rattle.mo_select.specs.Selection.{levels, IsStage, AreStages, AreNested, dummies_in};
-ghost use Rattle.mo_select.specs.steps.Staging.{AreUnknowns, CanAssign, AreWhole};
+ghost use Rattle.mo_select.specs.steps.Staging.{AreUnknowns, CanAssign, IsNextStage, AreWhole};
 
 use crate::candidates::{forget_ranks, in_order, keep, note_ranks, numbers, places};
 use crate::levels::levels_of;
@@ -17,7 +17,7 @@ use crate::states::states;
 use crate::ties::Remaining;
 use mo_flat::FlatModel;
 use mo_incidence::{Incidence, Offsets};
-use mo_syntax::{List, NoMemory};
+use mo_syntax::{List, NoMemory, both};
 use std::alloc::Global;
 
 /// The unknowns of a list of pairs.
@@ -58,6 +58,41 @@ fn stage(
     Ok(made)
 }
 
+/// Makes the next stage with these equations, and puts its unknowns in the place of the candidates. All ranks are 0 before and after.
+fn next_stage(
+    alloc: Global,
+    inc: &Incidence,
+    remaining: &Remaining,
+    level: &[u32],
+    candidates: &mut Vec<u32>,
+    rank: &mut [usize],
+    stages: &mut List<Stage>,
+) -> Result<(), NoMemory>
+    requires sizes { (length remaining.now.c.now ≡ equations inc.now) × (length remaining.now.d.now ≡ inc.now.unknowns) × (length rank.old ≡ suc inc.now.unknowns) }
+    requires low { (j : ℕ) → by_number level.now j < levels }
+    requires active { (e : ℕ) → e < length remaining.now.active.now → slice_index remaining.now.active.now e < equations inc.now }
+    requires few { length remaining.now.active.now ≤ 50000 }
+    requires unknowns { AreUnknowns inc.now.unknowns candidates.old.items }
+    requires can { CanAssign inc.now (by_place remaining.now.c.now) (by_number remaining.now.d.now) remaining.now.active.now candidates.old.items }
+    requires clear { (j : ℕ) → slice_index rank.old j ≡ 0 }
+    ensures stage { OnOk result (IsNextStage inc.now (by_place remaining.now.c.now) (by_number remaining.now.d.now) (by_number level.now) remaining.now.active.now candidates.old.items stages.old candidates.new.items stages.new) }
+    ensures clear { OnOk result ((j : ℕ) → slice_index rank.new j ≡ 0) }
+{
+    let made = stage(alloc, inc, remaining, level, candidates, rank)?;
+    *candidates = unknowns_of(alloc, made.chosen.as_slice())?;
+    stages.push(made)?;
+    Ok(())
+}
+
+/// The places of the equations that are differentiated.
+fn first_active(alloc: Global, c: &[u32], m: u32) -> Result<Vec<u32>, NoMemory>
+    requires { m ≡ length c.now }
+    ensures { IfOk result (λ active. active.items ≡ differentiated (by_place c.now) 1 m) }
+{
+    let all = places(alloc, m)?;
+    keep(alloc, c, &all, 0)
+}
+
 /// All stages. All ranks are 0 before.
 fn stages(
     alloc: Global,
@@ -76,10 +111,11 @@ fn stages(
     ensures { IfOk result (AreWhole inc.now (by_place c.now) (by_number d.now) (by_number level.now)) }
 {
     let _equations = inc.equations();
+    let (mut candidates, mut active) = both(
+        numbers(alloc, inc.unknowns()),
+        first_active(alloc, c, inc.equations()),
+    )?;
     let mut stages = List::new(alloc);
-    let mut candidates = numbers(alloc, inc.unknowns())?;
-    let all = places(alloc, inc.equations())?;
-    let mut active = keep(alloc, c, &all, 0)?;
     let mut done = 0;
     'on: while !active.is_empty() {
         let remaining = Remaining {
@@ -87,9 +123,15 @@ fn stages(
             d,
             active: &active,
         };
-        let made = stage(alloc, inc, &remaining, level, &candidates, rank)?;
-        candidates = unknowns_of(alloc, made.chosen.as_slice())?;
-        stages.push(made)?;
+        next_stage(
+            alloc,
+            inc,
+            &remaining,
+            level,
+            &mut candidates,
+            rank,
+            &mut stages,
+        )?;
         done += 1;
         active = keep(alloc, c, &active, done)?;
     }

@@ -9,7 +9,7 @@ ghost use Rattle.mo_select.specs.steps.Growing.{IsGreedy, IsGrownTo};
 use mo_incidence::{Counted, Incidence};
 use mo_match::{Graph, Matching, Search};
 use mo_ports::Steps;
-use mo_syntax::NoMemory;
+use mo_syntax::{NoMemory, both};
 use std::alloc::Global;
 
 /// Gives each row in turn a number, if it can have one beside those before it.
@@ -43,8 +43,10 @@ pub(crate) fn greedy(alloc: Global, rows: &Incidence) -> Result<Vec<u32>, NoMemo
     ensures greedy { IfOk result (λ pairs. IsGreedy rows.now (by_place pairs.items)) }
 {
     let m = rows.equations();
-    let mut matching = Matching::new(alloc, m, rows.unknowns())?;
-    let mut search = Search::new(alloc, m)?;
+    let (mut matching, mut search) = both(
+        Matching::new(alloc, m, rows.unknowns()),
+        Search::new(alloc, m),
+    )?;
     let mut steps = Steps::new(());
     let counted = Counted::new(rows, &steps);
     let graph = Graph::of_entries(&counted);

@@ -6,7 +6,7 @@ ghost use Rattle.mo_incidence.specs.Signature.{equations};
 ghost use Rattle.mo_incidence.specs.Offsets.{by_place, by_number};
 ghost use Rattle.mo_incidence.specs.steps.Needing.{AreOwners};
 ghost use Rattle.mo_select.specs.Selection.{below_level, chosen_of, levels};
-ghost use Rattle.mo_select.specs.steps.Staging.{taken, IsGreedyChoice, IsLeft, AreEvidence, IsMade};
+ghost use Rattle.mo_select.specs.steps.Staging.{taken, IsGreedyChoice, IsLeft, IsOpened, AreEvidence, IsMade};
 
 use crate::grow::greedy;
 use crate::selection::Stage;
@@ -14,7 +14,7 @@ use crate::ties::{Remaining, open_rows, ties};
 use mo_incidence::{Counted, Incidence};
 use mo_match::{Work, assign};
 use mo_ports::Steps;
-use mo_syntax::{List, NoMemory};
+use mo_syntax::{List, NoMemory, both};
 use std::alloc::Global;
 
 /// For each candidate of the order the place in the list, from 1, of the equation that it gets, or 0.
@@ -106,6 +106,25 @@ fn numbers_at(alloc: Global, places: &[u32], active: &[u32]) -> Result<List<u32>
     Ok(numbers)
 }
 
+/// The listed equations with the candidates among the first `end` of the order at which they are tight.
+fn opened(
+    alloc: Global,
+    inc: &Incidence,
+    remaining: &Remaining,
+    rank: &[usize],
+    end: usize,
+) -> Result<Incidence, NoMemory>
+    requires sizes { (length remaining.now.c.now ≡ equations inc.now) × (length remaining.now.d.now ≡ inc.now.unknowns) × (length rank.now ≡ suc inc.now.unknowns) }
+    requires active { (e : ℕ) → e < length remaining.now.active.now → slice_index remaining.now.active.now e < equations inc.now }
+    ensures { IfOk result (IsOpened inc.now (by_place remaining.now.c.now) (by_number remaining.now.d.now) remaining.now.active.now rank.now end) }
+{
+    let rows = open_rows(alloc, inc, remaining, rank, end)?;
+    match Incidence::from_rows(alloc, inc.unknowns(), &rows) {
+        Ok(opened) => Ok(opened),
+        Err(_) => Err(NoMemory),
+    }
+}
+
 /// The numbers of the listed equations that some largest assignment of the first candidates of the order leaves out.
 fn left_out(
     alloc: Global,
@@ -122,10 +141,7 @@ fn left_out(
     ensures { IfOk result (λ without. IsLeft inc.now (by_place remaining.now.c.now) (by_number remaining.now.d.now) remaining.now.active.now (take end _order.now) without) }
 {
     let _equations = inc.equations();
-    let rows = open_rows(alloc, inc, remaining, rank, end)?;
-    let Ok(opened) = Incidence::from_rows(alloc, inc.unknowns(), &rows) else {
-        return Err(NoMemory);
-    };
+    let opened = opened(alloc, inc, remaining, rank, end)?;
     let mut work = Work::new(
         alloc,
         opened.equations(),
@@ -135,8 +151,7 @@ fn left_out(
     let mut steps = Steps::new(());
     let counted = Counted::new(&opened, &steps);
     let _assigned = assign(&counted, &mut work, &mut steps);
-    let numbers = numbers_at(alloc, work.deficit().equations.as_slice(), remaining.active)?;
-    Ok(numbers)
+    numbers_at(alloc, work.deficit().equations.as_slice(), remaining.active)
 }
 
 /// For each level how many candidates of it or below get an equation, and the equations that they can leave out.
@@ -185,8 +200,10 @@ pub(crate) fn ranked_stage(
     ensures { IfOk result (IsMade inc.now (by_place remaining.now.c.now) (by_number remaining.now.d.now) remaining.now.active.now candidates.now order.now ends.now rank.now) }
 {
     let pairs = pairs_of(alloc, inc, remaining, order, rank)?;
-    let chosen = chosen_among(alloc, candidates, rank, &pairs, remaining.active)?;
-    let (counts, without) = evidence(alloc, inc, remaining, order, ends, rank, &pairs)?;
+    let (chosen, (counts, without)) = both(
+        chosen_among(alloc, candidates, rank, &pairs, remaining.active),
+        evidence(alloc, inc, remaining, order, ends, rank, &pairs),
+    )?;
     Ok(Stage {
         chosen,
         counts,

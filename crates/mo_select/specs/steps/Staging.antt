@@ -1,13 +1,16 @@
 -- Words on one stage, with the order of its candidates.
-use Rattle.std.specs.Prelude.{◌≡◌, ◌≢◌, ℕ, ◌+◌, ◌-◌, ◌<◌, ◌≤◌, ◌==◌, if◌then◌else◌, List, [], length, take}
+use Rattle.std.specs.Prelude.{◌≡◌, ◌≢◌, ℕ, ◌+◌, ◌-◌, ◌<◌, ◌≤◌, ◌==◌, if◌then◌else◌, List, [], ◌∷◌, ◌++◌, Vec, length, map, take}
+use Rattle.std.specs.Global.{Global}
 use Rattle.std.proofs.Common.{get_or, suc}
 use Rattle.mo_graph.specs.Counting.{count_below}
 use Rattle.mo_incidence.specs.Signature.{Signature, equations}
 use Rattle.mo_incidence.specs.Assignment.{Assigns}
 use Rattle.mo_incidence.specs.Offsets.{by_place, IsTight}
+use Rattle.mo_incidence.specs.steps.Given.{given}
 use Rattle.mo_incidence.specs.Dummies.{differentiated, greatest}
 use Rattle.mo_select.specs.declared.selection.Stage.{Stage}
 use Rattle.mo_select.specs.Selection.{CanHave, chosen_of, IsTiedTo, IsLargestOf, IsWithout, IsStage, no_stage, candidates_at, AreStages}
+use Rattle.mo_select.specs.steps.Ties.{entries_in, AreOpenRows}
 
 -- the equation of an unknown, by its place in the list from 1, or 0: that of the candidate at the place before its rank
 abbrev pub taken : (rank pairs : List ℕ) → ℕ → ℕ
@@ -27,6 +30,13 @@ pub record IsLeft (g : Signature) (c d : ℕ → ℕ) (active unknowns left : Li
   pub by : ℕ → ℕ
   pub largest : IsLargestOf (IsTiedTo g c d active unknowns) (length active) by
   pub without : IsWithout g c d active unknowns (count_below by (length active)) left
+
+-- the incidence of the listed equations with the candidates before `end` at which they are tight
+pub record IsOpened (g : Signature) (c d : ℕ → ℕ) (active rank : List ℕ) (end : ℕ) (opened : Signature) : Type 0 where
+  pub rows : List (Vec (ℕ × ℕ) Global)
+  pub is : opened ≡ given g.unknowns rows
+  pub size : length (entries_in rows) ≡ length active
+  pub row_is : AreOpenRows g c d active rank end (entries_in rows)
 
 -- what is said of each of the first `upto` levels, by where it ends in the order
 pub record AreEvidence (g : Signature) (c d : ℕ → ℕ) (active order ends pairs : List ℕ) (upto : ℕ) (counts : List ℕ) (without : List (List ℕ)) : Type 0 where
@@ -60,6 +70,13 @@ pub record CanAssign (g : Signature) (c d : ℕ → ℕ) (active candidates : Li
   pub by : ℕ → ℕ
   pub assigns : Assigns (λ e j. StandsAt candidates j × IsTight g c d (get_or active e 0) j) (length active) by
   pub covers : (e : ℕ) → e < length active → by e ≢ 0
+
+-- one more stage, and its unknowns as the next candidates
+pub record IsNextStage (g : Signature) (c d level : ℕ → ℕ) (active candidates : List ℕ) (stages : List Stage) (candidates' : List ℕ) (stages' : List Stage) : Type 0 where
+  pub made : Stage
+  pub is_stage : IsStage g c d level active candidates made
+  pub stages_are : stages' ≡ stages ++ made ∷ []
+  pub candidates_are : candidates' ≡ map (λ x. x.0) made.chosen
 
 -- Before the stage with `done` stages before it: the stages so far, its candidates and its equations.
 pub record AreMadeTo (g : Signature) (c d level : ℕ → ℕ) (stages : List Stage) (candidates active : List ℕ) (done : ℕ) : Type 0 where

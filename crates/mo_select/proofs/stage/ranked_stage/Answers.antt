@@ -14,12 +14,15 @@ pub chosen_among-requires-clause-places : goal.chosen_among-requires-clause-plac
 chosen_among-requires-clause-places c = λ e l. omega (arith, c.requires.active e l)
 
 pub returns : goal.returns
-returns c = record {
-  pairs = c.in_ok-pairs.pairs.items;
-  greedy = c.in_ok-pairs.ensures;
-  chosen = rw c.deref.ensures.value at c.in_ok-chosen.ensures;
-  evidence = rw c.deref-2.ensures.value at c.in_ok-counts.ensures;
-}
+returns c =
+    let chosen = rw c.in_ok-chosen.ensures.values.0 at c.chosen_among.ensures in
+    let evidence = rw c.in_ok-chosen.ensures.values.1 at c.evidence.ensures in
+    record {
+      pairs = c.in_ok-pairs.pairs.items;
+      greedy = c.in_ok-pairs.ensures;
+      chosen = rw c.deref.ensures.value at chosen;
+      evidence = rw c.deref-2.ensures.value at evidence;
+    }
 
 pub evidence-requires-clause-pairs : goal.evidence-requires-clause-pairs
 evidence-requires-clause-pairs c = (
