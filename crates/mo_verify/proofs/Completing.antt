@@ -67,6 +67,37 @@ same_printed p q c d pairs orders = go p.c p.d p.pairs p.orders c d pairs orders
     go : (a b x y : List ℕ) → a ≡ q.c → b ≡ q.d → x ≡ q.pairs → y ≡ q.orders → record { c = a; d = b; pairs = x; orders = y } ≡ q
     go a b x y e f h k = rw (e, f, h, k) refl
 
+-- ---- counting
+below_same : (i a b : ℕ) → i < a → a ≡ b → i < b
+below_same i a b l e = omega arith
+
+in_first : (i a b : ℕ) → i < a → i < a + b
+in_first i a b l = omega arith
+
+in_second : (j a b : ℕ) → j < b → a + j < a + b
+in_second j a b l = omega arith
+
+within_same : (i a b : ℕ) → i ≤ a → a ≡ b → i ≤ b
+within_same i a b l e = omega arith
+
+below_two : (i a : ℕ) → i < 2 → a ≡ 2 → i < a
+below_two i a l e = omega arith
+
+is_apart : (a b : ℕ) → a < b → a ≡ b → ⊥
+is_apart a b l e = omega arith
+
+sum_apart : (a b d : ℕ) → a + b < d → d ≡ b + a → ⊥
+sum_apart a b d l e = omega arith
+
+low_apart : (a b d : ℕ) → d < a + b → b + a ≤ d → ⊥
+low_apart a b d l k = omega arith
+
+three_on : (n : ℕ) → n + 3 ≡ suc (n + 2)
+three_on n = omega arith
+
+one_on : (n : ℕ) → n + 1 ≡ suc n
+one_on n = omega arith
+
 -- following reasons is a chain
 chain_of : (g : Signature) (p : Printed) (by : ℕ → ℕ) → ((i : ℕ) → i < equations g → get_or p.c i 0 ≢ 0 → IsReason g (by_place p.c) (by_number p.d) (by_place p.pairs) i (by i))
     → (n i : ℕ) → i < equations g → get_or p.c (after_reasons by n i) 0 ≡ 0 → IsWithin g (by_place p.c) (by_number p.d) (by_place p.pairs) n i
@@ -148,7 +179,7 @@ module _ (m : FlatModel) (names : HasNames m) (sound : IsSound (incidence_of m))
   head_at n below =
       let rest = body m p (square_list r) in
       let left : get_or (lines_of (report_lines r)) n [] ≡ get_or (head_two m) n [] =
-      ap (λ (ls : List (List ℕ)). get_or ls n []) (lines_are m names sound p r right few) ∙ at_left (head_two m) (body m p (square_list r)) n (omega (arith, below, two_lines)) in
+      ap (λ (ls : List (List ℕ)). get_or ls n []) (lines_are m names sound p r right few) ∙ at_left (head_two m) (body m p (square_list r)) n (below_two n _ below two_lines) in
       let head : lines_of (head_text m) ≡ head_two m = ap lines_of (head_together m) ∙ lines_together (head_two m) (λ i l. let h = good_head m names sound i l in record { text = h.text; is = h.is; plain = h.plain }) in
       left ∙ ap (λ (ls : List (List ℕ)). get_or ls n []) (sym head)
 
@@ -163,7 +194,7 @@ module _ (m : FlatModel) (names : HasNames m) (sound : IsSound (incidence_of m))
       let here : get_or (lines_of (report_lines r)) (i + 2) [] ≡ equation_text us p i ++ 10 ∷ [] =
       behind_at i ∙ (at_left (listed (λ x. equation_text us p x ++ 10 ∷ []) (length m.equations)) (listed (λ j. unknown_text us p j ++ 10 ∷ []) (length us) ++ square_list r) i (omega (arith, size, below)) ∙
       listed_at (λ x. equation_text us p x ++ 10 ∷ []) (length m.equations) i below) in
-      let three : i + 3 ≡ suc (i + 2) = omega arith in
+      let three = three_on i in
       let plain = equation_plain (equation_text us p i) _ _ _ _ (equation_said m names sound p r right few i below) in
       rw (three, here) (cut_one (equation_text us p i) plain)
 
@@ -176,7 +207,7 @@ module _ (m : FlatModel) (names : HasNames m) (sound : IsSound (incidence_of m))
       behind_at (length m.equations + j) ∙
       (at_right (listed (λ x. equation_text us p x ++ 10 ∷ []) (length m.equations)) (listed (λ x. unknown_text us p x ++ 10 ∷ []) (length us) ++ square_list r) j (length m.equations + j) (omega (arith, size)) ∙
       (at_left (listed (λ x. unknown_text us p x ++ 10 ∷ []) (length us)) (square_list r) j (omega (arith, size', below)) ∙ listed_at (λ x. unknown_text us p x ++ 10 ∷ []) (length us) j below)) in
-      let three : length m.equations + j + 3 ≡ suc (length m.equations + j + 2) = omega arith in
+      let three = three_on (length m.equations + j) in
       let plain = unknown_plain (unknown_text us p j) _ _ (unknown_said m names sound p r right few j below) in
       rw (three, here) (cut_one (unknown_text us p j) plain)
 
@@ -187,12 +218,12 @@ module _ (m : FlatModel) (names : HasNames m) (sound : IsSound (incidence_of m))
       record {
         name = unknown_name (unknown_names m.vars) (get_or p.pairs i 0);
         line = rw (equation_there i below) (equation_said m names sound p r right few i below);
-        is_number = numbered m names (get_or p.pairs i 0) known.0 (omega (arith, known.1, unknowns_of m []));
+        is_number = numbered m names (get_or p.pairs i 0) known.0 (within_same _ _ _ known.1 (unknowns_of m []));
       }
 
   unknown_at_line : (j : ℕ) → j < length (unknown_names m.vars) → IsUnknownAt (unknown_names m.vars) (report_lines r) (length m.equations) j (get_or p.d j 0)
   unknown_at_line j below =
-      let next : j + 1 ≡ suc j = omega arith in
+      let next = one_on j in
       let name : unknown_name (unknown_names m.vars) (j + 1) ≡ get_or (unknown_names m.vars) j [] = rw next (name_is (unknown_names m.vars) j) in
       rw (unknown_there j below) (renamed (unknown_text (unknown_names m.vars) p j) _ _ _ name (unknown_said m names sound p r right few j below))
 
@@ -202,19 +233,19 @@ module _ (m : FlatModel) (names : HasNames m) (sound : IsSound (incidence_of m))
       let sizes = right.sizes in
       let says : (i : ℕ) → i < length m.equations → (get_or q.c i 0 ≡ get_or p.c i 0) × (get_or q.pairs i 0 ≡ get_or p.pairs i 0) × (get_or q.orders i 0 ≡ get_or p.orders i 0) =
       λ i l.
-      let there = a.lines.equation i l (omega (arith, l)) in
+      let there = a.lines.equation i l (in_first i (length m.equations) (length (unknown_names m.vars)) l) in
       let here = equation_at i l in
       let one = one_equation_line (text_at (report_lines r) (i + 3)) _ _ there.name _ _ _ here.name _ there.line here.line in
       let number : Some (get_or q.pairs i 0) ≡ Some (get_or p.pairs i 0) = sym there.is_number ∙ (ap (number_of (unknown_names m.vars)) one.2 ∙ here.is_number) in
       (one.1, some_is _ _ number, one.3) in
       same_printed q p
-      (same_numbers q.c p.c (a.c_all ∙ sym (sizes.c_all ∙ equations_of m [])) (λ i l. (says i (omega (arith, l, a.c_all))).0))
+      (same_numbers q.c p.c (a.c_all ∙ sym (sizes.c_all ∙ equations_of m [])) (λ i l. (says i (below_same i _ _ l a.c_all)).0))
       (same_numbers q.d p.d (a.d_all ∙ sym (sizes.d_all ∙ unknowns_of m []))
       (λ j l.
-      let below : j < length (unknown_names m.vars) = omega (arith, l, a.d_all) in
-      (one_unknown_line (text_at (report_lines r) (length m.equations + j + 3)) _ _ _ _ (a.lines.unknown j below (omega (arith, below))) (unknown_at_line j below)).1))
-      (same_numbers q.pairs p.pairs (a.pairs_all ∙ sym (sizes.pairs_all ∙ equations_of m [])) (λ i l. (says i (omega (arith, l, a.pairs_all))).1))
-      (same_numbers q.orders p.orders (a.orders_all ∙ sym (sizes.orders_all ∙ equations_of m [])) (λ i l. (says i (omega (arith, l, a.orders_all))).2))
+      let below : j < length (unknown_names m.vars) = below_same j _ _ l a.d_all in
+      (one_unknown_line (text_at (report_lines r) (length m.equations + j + 3)) _ _ _ _ (a.lines.unknown j below (in_second j (length m.equations) (length (unknown_names m.vars)) below)) (unknown_at_line j below)).1))
+      (same_numbers q.pairs p.pairs (a.pairs_all ∙ sym (sizes.pairs_all ∙ equations_of m [])) (λ i l. (says i (below_same i _ _ l a.pairs_all)).1))
+      (same_numbers q.orders p.orders (a.orders_all ∙ sym (sizes.orders_all ∙ equations_of m [])) (λ i l. (says i (below_same i _ _ l a.orders_all)).2))
 
   not_misshapen : (k : ℕ) → IsMisshapen (unknown_names m.vars) (length m.equations) (report_lines r) k → ⊥
   not_misshapen k shape = elim (cases_lt k (length m.equations)) [
@@ -263,22 +294,22 @@ module _ (m : FlatModel) (names : HasNames m) (sound : IsSound (incidence_of m))
       let inside : i < equations (incidence_of m) = rw (equations_of m []) below in
       let low = rw same at here in
       let entry = right.least.admissible.fits.entry i k inside within in
-      absurd (omega (arith, low, entry))
+      absurd (low_apart _ _ _ low entry)
   square_complete v (verdict.loose q i read have fit meet below here a b c f h) =
       let same = read_once q read.printed in
       let inside : i < equations (incidence_of m) = rw (equations_of m []) below in
       let loose = rw same at here in
       let sum = tight_sigma i inside in
-      absurd (omega (arith, loose, sum))
+      absurd (sum_apart _ _ _ loose sum)
   square_complete v (verdict.twice q i k read have fit meet apart before below one a b c) =
       let same = read_once q read.printed in
       let pairs : get_or p.pairs i 0 ≡ get_or p.pairs k 0 = rw same at one in
       let inside : k < equations (incidence_of m) = rw (equations_of m []) below in
       let first : i < equations (incidence_of m) = omega (arith, before, inside) in
       let equal : i ≡ k = (tight m sound p r right few).apart i k first inside (right.all i first) pairs in
-      absurd (omega (arith, equal, before))
-  square_complete v (verdict.undetermined_differs q s line other good u differ a b) = absurd (omega (arith, u.fewer, right.report.square))
-  square_complete v (verdict.undetermined q s good u is) = absurd (omega (arith, u.fewer, right.report.square))
+      absurd (is_apart _ _ before equal)
+  square_complete v (verdict.undetermined_differs q s line other good u differ a b) = absurd (is_apart _ _ u.fewer right.report.square)
+  square_complete v (verdict.undetermined q s good u is) = absurd (is_apart _ _ u.fewer right.report.square)
   square_complete v (verdict.not_least q i good even chains below none a b c less) =
       let same = read_once q good.read.printed in
       let inside : i < equations (incidence_of m) = rw (equations_of m []) below in

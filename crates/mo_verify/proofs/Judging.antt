@@ -1,7 +1,8 @@
 -- From the steps to the verdict.
 use Rattle.std.proofs.Common.{◌≡◌, ℕ, ◌+◌, ◌<◌, ◌≤◌, Bool, true, false, List, [], ◌∷◌, length, get_or, Option, Some, None, Result, Ok, Err, IfOk, refl, sym, ap, ◌∙◌, arith}
 use Rattle.std.proofs.lemmas.List.{length-map}
-use Rattle.std.specs.Prelude.{option_map, if◌then◌else◌}
+use Rattle.std.proofs.lemmas.Bool.{false≢true}
+use Rattle.std.specs.Prelude.{IfSome, IfNone, option_map, if◌then◌else◌}
 use Rattle.std.specs.Str.{bytes_eq}
 use Rattle.mo_flat.specs.declared.model.FlatModel.{FlatModel}
 use Rattle.mo_flat.specs.declared.model.FlatVar.{FlatVar}
@@ -29,6 +30,41 @@ use Rattle.mo_verify.specs.Verdict.{head_text, IsBegun, IsRead, AreAdmissible, I
 pub ok_through : {T E : Type 0} (r : Result T E) (P Q : T → Type 0) → ((v : T) → P v → Q v) → IfOk r P → IfOk r Q
 ok_through (Ok v) P Q f h = f v h
 ok_through (Err e) P Q f h = h
+
+pub some_through : {T E : Type 0} (r : Result (Option T) E) (P Q : T → Type 0) → ((v : T) → P v → Q v) → IfOk r (λ o. IfSome o P) → IfOk r (λ o. IfSome o Q)
+some_through (Ok (Some v)) P Q f h = f v h
+some_through (Ok None) P Q f h = h
+some_through (Err e) P Q f h = h
+
+pub none_through : {T E : Type 0} (r : Result (Option T) E) (P Q : Type 0) → (P → Q) → IfOk r (λ o. IfNone o P) → IfOk r (λ o. IfNone o Q)
+none_through (Ok (Some v)) P Q f h = h
+none_through (Ok None) P Q f h = f h
+none_through (Err e) P Q f h = h
+
+-- ---- verdicts of other kinds
+abbrev is_yes : Verdict → Bool
+is_yes Yes = true
+is_yes v = false
+
+abbrev is_admissible : Verdict → Bool
+is_admissible Admissible = true
+is_admissible v = false
+
+abbrev is_smaller : Verdict → Bool
+is_smaller (NotLeast equation printed smaller) = true
+is_smaller v = false
+
+not_yes : {v : Verdict} → is_yes v ≡ false → v ≡ Yes → ⊥
+not_yes other e = false≢true (sym other ∙ ap is_yes e)
+
+not_admissible : {v : Verdict} → is_admissible v ≡ false → v ≡ Admissible → ⊥
+not_admissible other e = false≢true (sym other ∙ ap is_admissible e)
+
+not_smaller : {v : Verdict} {i printed less : ℕ} → is_smaller v ≡ false → v ≡ NotLeast i printed less → ⊥
+not_smaller other e = false≢true (sym other ∙ ap is_smaller e)
+
+same_place : (i x n : ℕ) → n ≡ i + 1 → n ≡ x + 1 → i ≡ x
+same_place i x n one other = omega arith
 
 -- the number of a name is that of an unknown
 known_number : (names : List (List ℕ)) (name : List ℕ) (j : ℕ) → number_of names name ≡ Some j → (0 < j) × (j ≤ length names)
@@ -145,19 +181,19 @@ module _ (m : FlatModel) (report : List ℕ) where
   }
 
   pub yes_is_right : IsSound (incidence_of m) → (v : Verdict) → IsVerdict m report v → v ≡ Yes → IsRightText m report
-  yes_is_right sound v (verdict.unreadable f) e = cc
-  yes_is_right sound v (verdict.head line other readable d within a b) e = cc
-  yes_is_right sound v (verdict.deficit_differs r line other b d differ f h) e = cc
+  yes_is_right sound v (verdict.unreadable f) e = absurd (not_yes refl e)
+  yes_is_right sound v (verdict.head line other readable d within a b) e = absurd (not_yes refl e)
+  yes_is_right sound v (verdict.deficit_differs r line other b d differ f h) e = absurd (not_yes refl e)
   yes_is_right sound v (verdict.deficit r b d is) e = verdict.singular r d is
-  yes_is_right sound v (verdict.shape p k b can before here f h i) e = cc
-  yes_is_right sound v (verdict.order p i read before below a b c sigma apart) e = cc
-  yes_is_right sound v (verdict.low p i k read have fit below within here a b c f h) e = cc
-  yes_is_right sound v (verdict.loose p i read have fit meet below here a b c f h) e = cc
-  yes_is_right sound v (verdict.twice p i k read have fit meet apart before below one a b c) e = cc
-  yes_is_right sound v (verdict.undetermined_differs p r line other right u differ a b) e = cc
-  yes_is_right sound v (verdict.undetermined p r right u is) e = cc
-  yes_is_right sound v (verdict.not_least p i right square chains below none a b c less) e = cc
-  yes_is_right sound v (verdict.square_differs p r line other right chains s differ a b) e = cc
+  yes_is_right sound v (verdict.shape p k b can before here f h i) e = absurd (not_yes refl e)
+  yes_is_right sound v (verdict.order p i read before below a b c sigma apart) e = absurd (not_yes refl e)
+  yes_is_right sound v (verdict.low p i k read have fit below within here a b c f h) e = absurd (not_yes refl e)
+  yes_is_right sound v (verdict.loose p i read have fit meet below here a b c f h) e = absurd (not_yes refl e)
+  yes_is_right sound v (verdict.twice p i k read have fit meet apart before below one a b c) e = absurd (not_yes refl e)
+  yes_is_right sound v (verdict.undetermined_differs p r line other right u differ a b) e = absurd (not_yes refl e)
+  yes_is_right sound v (verdict.undetermined p r right u is) e = absurd (not_yes refl e)
+  yes_is_right sound v (verdict.not_least p i right square chains below none a b c less) e = absurd (not_yes refl e)
+  yes_is_right sound v (verdict.square_differs p r line other right chains s differ a b) e = absurd (not_yes refl e)
   yes_is_right sound v (verdict.square p r right chains s is) e =
       verdict.least p r
       (record {
@@ -172,16 +208,16 @@ module _ (m : FlatModel) (report : List ℕ) where
 
   -- ---- what an admissible report says, and what a smaller offset
   pub admissible_is_shown : (v : Verdict) → IsVerdict m report v → v ≡ Admissible → IsAdmissibleText m report
-  admissible_is_shown v (verdict.unreadable f) e = cc
-  admissible_is_shown v (verdict.head line other readable d within a b) e = cc
-  admissible_is_shown v (verdict.deficit_differs r line other b d differ f h) e = cc
-  admissible_is_shown v (verdict.deficit r b d is) e = cc
-  admissible_is_shown v (verdict.shape p k b can before here f h i) e = cc
-  admissible_is_shown v (verdict.order p i read before below a b c sigma apart) e = cc
-  admissible_is_shown v (verdict.low p i k read have fit below within here a b c f h) e = cc
-  admissible_is_shown v (verdict.loose p i read have fit meet below here a b c f h) e = cc
-  admissible_is_shown v (verdict.twice p i k read have fit meet apart before below one a b c) e = cc
-  admissible_is_shown v (verdict.undetermined_differs p r line other right u differ a b) e = cc
+  admissible_is_shown v (verdict.unreadable f) e = absurd (not_admissible refl e)
+  admissible_is_shown v (verdict.head line other readable d within a b) e = absurd (not_admissible refl e)
+  admissible_is_shown v (verdict.deficit_differs r line other b d differ f h) e = absurd (not_admissible refl e)
+  admissible_is_shown v (verdict.deficit r b d is) e = absurd (not_admissible refl e)
+  admissible_is_shown v (verdict.shape p k b can before here f h i) e = absurd (not_admissible refl e)
+  admissible_is_shown v (verdict.order p i read before below a b c sigma apart) e = absurd (not_admissible refl e)
+  admissible_is_shown v (verdict.low p i k read have fit below within here a b c f h) e = absurd (not_admissible refl e)
+  admissible_is_shown v (verdict.loose p i read have fit meet below here a b c f h) e = absurd (not_admissible refl e)
+  admissible_is_shown v (verdict.twice p i k read have fit meet apart before below one a b c) e = absurd (not_admissible refl e)
+  admissible_is_shown v (verdict.undetermined_differs p r line other right u differ a b) e = absurd (not_admissible refl e)
   admissible_is_shown v (verdict.undetermined p r right u is) e = record {
     printed = p;
     shown = r;
@@ -192,9 +228,9 @@ module _ (m : FlatModel) (report : List ℕ) where
     all = covers (incidence_of m) p (sizes_of p right.read.printed) (no_fault p right);
     admissible = admissible (incidence_of m) p (sizes_of p right.read.printed) (no_fault p right);
   }
-  admissible_is_shown v (verdict.not_least p i right square chains below none a b c less) e = cc
-  admissible_is_shown v (verdict.square_differs p r line other right chains s differ a b) e = cc
-  admissible_is_shown v (verdict.square p r right chains s is) e = cc
+  admissible_is_shown v (verdict.not_least p i right square chains below none a b c less) e = absurd (not_admissible refl e)
+  admissible_is_shown v (verdict.square_differs p r line other right chains s differ a b) e = absurd (not_admissible refl e)
+  admissible_is_shown v (verdict.square p r right chains s is) e = absurd (not_admissible refl e)
 
   abbrev place_in : Verdict → ℕ
   place_in (NotLeast equation printed smaller) = equation
@@ -211,19 +247,19 @@ module _ (m : FlatModel) (report : List ℕ) where
   has_less i x n y one two less = rw (sym one, sym two) less
 
   pub less_is_shown : (v : Verdict) → IsVerdict m report v → (x printed less : ℕ) → v ≡ NotLeast (x + 1) printed less → HasOffset (incidence_of m) x less
-  less_is_shown v (verdict.unreadable f) x printed less e = cc
-  less_is_shown v (verdict.head line other readable d within a b) x printed less e = cc
-  less_is_shown v (verdict.deficit_differs r line other b d differ f h) x printed less e = cc
-  less_is_shown v (verdict.deficit r b d is) x printed less e = cc
-  less_is_shown v (verdict.shape p k b can before here f h i) x printed less e = cc
-  less_is_shown v (verdict.order p i read before below a b c sigma apart) x printed less e = cc
-  less_is_shown v (verdict.low p i k read have fit below within here a b c f h) x printed less e = cc
-  less_is_shown v (verdict.loose p i read have fit meet below here a b c f h) x printed less e = cc
-  less_is_shown v (verdict.twice p i k read have fit meet apart before below one a b c) x printed less e = cc
-  less_is_shown v (verdict.undetermined_differs p r line other right u differ a b) x printed less e = cc
-  less_is_shown v (verdict.undetermined p r right u is) x printed less e = cc
+  less_is_shown v (verdict.unreadable f) x printed less e = absurd (not_smaller refl e)
+  less_is_shown v (verdict.head line other readable d within a b) x printed less e = absurd (not_smaller refl e)
+  less_is_shown v (verdict.deficit_differs r line other b d differ f h) x printed less e = absurd (not_smaller refl e)
+  less_is_shown v (verdict.deficit r b d is) x printed less e = absurd (not_smaller refl e)
+  less_is_shown v (verdict.shape p k b can before here f h i) x printed less e = absurd (not_smaller refl e)
+  less_is_shown v (verdict.order p i read before below a b c sigma apart) x printed less e = absurd (not_smaller refl e)
+  less_is_shown v (verdict.low p i k read have fit below within here a b c f h) x printed less e = absurd (not_smaller refl e)
+  less_is_shown v (verdict.loose p i read have fit meet below here a b c f h) x printed less e = absurd (not_smaller refl e)
+  less_is_shown v (verdict.twice p i k read have fit meet apart before below one a b c) x printed less e = absurd (not_smaller refl e)
+  less_is_shown v (verdict.undetermined_differs p r line other right u differ a b) x printed less e = absurd (not_smaller refl e)
+  less_is_shown v (verdict.undetermined p r right u is) x printed less e = absurd (not_smaller refl e)
   less_is_shown v (verdict.not_least p i right square chains below none a b c has) x printed less e =
       let both = same_less _ _ _ _ _ _ e in
-      has_less i x _ less (omega (arith, a, both.0)) both.1 has
-  less_is_shown v (verdict.square_differs p r line other right chains s differ a b) x printed less e = cc
-  less_is_shown v (verdict.square p r right chains s is) x printed less e = cc
+      has_less i x _ less (same_place i x _ a both.0) both.1 has
+  less_is_shown v (verdict.square_differs p r line other right chains s differ a b) x printed less e = absurd (not_smaller refl e)
+  less_is_shown v (verdict.square p r right chains s is) x printed less e = absurd (not_smaller refl e)

@@ -19,7 +19,7 @@ use Rattle.mo_incidence.specs.Model.{incidence_of}
 use Rattle.mo_report.specs.declared.report.Report.{Report}
 use Rattle.mo_report.specs.Right.{index_of, singular}
 use Rattle.mo_verify.specs.Printed.{Printed}
-use Rattle.mo_verify.specs.Steps.{IsBlankReport}
+use Rattle.mo_verify.specs.Steps.{IsBlankReport, PutsReasons, PutsBlocks, PutsDummies}
 use Rattle.mo_verify.specs.Verdict.{IsDeficitReport, IsUndeterminedReport, IsSquareReport}
 use Rattle.mo_verify.proofs.Judging.{equations_of}
 
@@ -107,3 +107,10 @@ module _ (m : FlatModel) (g : Signature) (same : g ≡ incidence_of m) (blank : 
             freedom = freedom_of;
           };
         }
+
+    -- the same, put into the report one after the other
+    pub square_put : (one two three : Report) → equations g ≡ g.unknowns → PutsReasons g offsets blank one → PutsBlocks g offsets one two → PutsDummies g offsets two three
+        → IsSquareReport m p (record three { orders = orders; offsets = Some offsets })
+    square_put one two three square reasons blocks dummies =
+        rw (dummies.is, blocks.is, reasons.is)
+        (square_shown reasons.reasons blocks.blocks dummies.dummies dummies.index dummies.freedom square reasons.are blocks.are dummies.chosen dummies.states dummies.index_is dummies.freedom_is dummies.counted)

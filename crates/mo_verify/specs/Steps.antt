@@ -1,20 +1,26 @@
 -- Words on the steps of a verdict.
-use Rattle.std.specs.Prelude.{◌≡◌, ℕ, ◌+◌, ◌<◌, ◌≤◌, List, [], Option, None, drop}
+use Rattle.std.specs.Prelude.{◌≡◌, ℕ, ◌+◌, ◌<◌, ◌≤◌, List, [], Option, None, Vec, drop, length}
+use Rattle.std.specs.Global.{Global}
 use Rattle.std.specs.HashMap.{get_by}
 use Rattle.std.specs.Str.{bytes_eq}
 use Rattle.std.proofs.Common.{get_or}
 use Rattle.mo_flat.specs.declared.model.FlatModel.{FlatModel}
 use Rattle.mo_incidence.specs.Signature.{Signature, equations}
-use Rattle.mo_incidence.specs.Offsets.{by_place}
+use Rattle.mo_incidence.specs.declared.findings.Blocks.{Blocks}
+use Rattle.mo_incidence.specs.declared.findings.Dummies.{Dummies}
+use Rattle.mo_incidence.specs.declared.findings.Offsets.{Offsets}
+use Rattle.mo_incidence.specs.declared.findings.Reason.{Reason}
+use Rattle.mo_incidence.specs.Blocks.{AreBlocksInOrder, numbers_in}
+use Rattle.mo_incidence.specs.Counting.{sum_below}
+use Rattle.mo_incidence.specs.Dummies.{dummies_of, states_of}
+use Rattle.mo_incidence.specs.Offsets.{sum_unknowns, c_of, d_of, pairs_of}
+use Rattle.mo_incidence.specs.Reasons.{AreReasonsOf}
 use Rattle.mo_report.specs.declared.report.Report.{Report}
-use Rattle.mo_report.specs.Right.{HasNoSquareParts}
+use Rattle.mo_report.specs.Right.{HasNoSquareParts, index_of}
 use Rattle.mo_report.specs.Size.{unknown_names}
 use Rattle.mo_report_lines.specs.Lines.{lines_of, without_feed, DifferFirst}
 use Rattle.mo_verify.specs.declared.claims.Claims.{Claims}
 use Rattle.mo_verify.specs.declared.numbers.Numbers.{Numbers}
-use Rattle.mo_verify.specs.declared.whole.Ground.{Ground}
-use Rattle.mo_incidence.specs.Assignment.{IsAssignment, CoversAll}
-use Rattle.mo_match.specs.Results.{IsMadeFor}
 use Rattle.mo_verify.specs.declared.verdict.Verdict.{Verdict}
 use Rattle.mo_verify.specs.declared.verdict.Verdict.TheVariants.{Line, Shape}
 use Rattle.mo_verify.specs.declared.verdict.Step.{Step}
@@ -62,12 +68,29 @@ pub record IsBlankReport (m : FlatModel) (g : Signature) (r : Report) : Type 0 w
   pub loose : r.loose.items ≡ []
   pub square : HasNoSquareParts r
 
--- a report with the names alone, and a work space with an assignment of all equations
-pub record IsGround (m : FlatModel) (g : Signature) (ground : Ground) : Type 0 where
-  pub blank : IsBlankReport m g ground.blank
-  pub made : IsMadeFor g ground.work
-  pub assigned : IsAssignment g (by_place ground.work.assignment)
-  pub all : CoversAll g (by_place ground.work.assignment)
+-- besides what was in the report, it has the reasons of these offsets
+pub record PutsReasons (g : Signature) (offsets : Offsets) (before after : Report) : Type 0 where
+  pub reasons : Vec Reason Global
+  pub is : after ≡ record before { reasons = reasons }
+  pub are : AreReasonsOf g (c_of offsets) (d_of offsets) (pairs_of offsets) reasons.items
+
+-- it has their blocks
+pub record PutsBlocks (g : Signature) (offsets : Offsets) (before after : Report) : Type 0 where
+  pub blocks : Blocks
+  pub is : after ≡ record before { blocks = blocks }
+  pub are : AreBlocksInOrder g (c_of offsets) (d_of offsets) (pairs_of offsets) (numbers_in blocks.0.items)
+
+-- it has their dummies, index and freedom
+pub record PutsDummies (g : Signature) (offsets : Offsets) (before after : Report) : Type 0 where
+  pub dummies : Dummies
+  pub index : ℕ
+  pub freedom : ℕ
+  pub is : after ≡ record before { dummies = dummies; index = index; freedom = freedom }
+  pub chosen : dummies.chosen.items ≡ dummies_of (c_of offsets) (d_of offsets) (pairs_of offsets) (equations g)
+  pub states : dummies.states.items ≡ states_of (c_of offsets) (d_of offsets) (pairs_of offsets) (equations g) g.unknowns
+  pub index_is : index ≡ index_of g (c_of offsets) (d_of offsets)
+  pub freedom_is : freedom ≡ length dummies.states.items
+  pub counted : length dummies.states.items + sum_below (c_of offsets) (equations g) ≡ sum_unknowns g (d_of offsets)
 
 -- ---- names
 abbrev pub number_held : Numbers → List ℕ → Option ℕ

@@ -1,12 +1,16 @@
 //! The verdict on a printed report, in its steps.
-ghost use Rattle.std.specs.Prelude.{◌≡◌, ◌≤◌, None, IfOk, length};
+ghost use Rattle.std.specs.Prelude.{◌≡◌, ◌≤◌, None, IfOk, IfSome, IfNone, length};
 ghost use Rattle.mo_flat.specs.Sound.{IsSoundModel};
 ghost use Rattle.mo_incidence.specs.Signature.{equations};
+ghost use Rattle.mo_incidence.specs.Assignment.{IsAssignment, CoversAll, CanCoverAll};
+ghost use Rattle.mo_incidence.specs.Offsets.{by_place};
 ghost use Rattle.mo_incidence.specs.Model.{incidence_of, refusal_of};
+ghost use Rattle.mo_match.specs.Results.{IsMadeFor};
 ghost use Rattle.mo_report.specs.Lines.{report_lines};
 ghost use Rattle.mo_report_lines.specs.Lines.{AreReadable};
-ghost use Rattle.mo_verify.specs.Finding.{HaveSizes, HasNoFault};
-ghost use Rattle.mo_verify.specs.Steps.{printed_of, IsBlankReport, IsGround, ComparesWith};
+ghost use Rattle.mo_verify.specs.Faults.{AreChainedTo};
+ghost use Rattle.mo_verify.specs.Finding.{HasNoFault};
+ghost use Rattle.mo_verify.specs.Steps.{printed_of, IfNext, IfVerdict, IsBlankReport, ComparesWith};
 ghost use Rattle.mo_verify.specs.Verdict.{IsBegun, IsRead, IsVerdict, IsRightText, IsAdmissibleText, HasNames, HasSmallerOffset};
 
 use crate::chains::unchained;
@@ -42,98 +46,123 @@ fn compared(
     }
 }
 
-/// What the steps need beside what is printed: a report with nothing in it but the names, and a work space with an assignment of all
-/// equations.
-#[derive(Drop)]
-pub(crate) struct Ground {
-    blank: Report,
-    work: Work,
-}
-
-/// The verdict on admissible offsets of a square model.
-fn square_verdict(
-    alloc: Global,
-    m: &FlatModel,
-    text: &[u8],
-    inc: &Incidence,
-    ground: Ground,
-    claims: Claims,
-) -> Result<Verdict, NoMemory>
-    requires few { length text.now ≤ 67108864 }
-    requires model { inc.now ≡ incidence_of m.now }
-    requires ground { IsGround m.now inc.now ground }
-    requires read { IsRead m.now text.now (printed_of claims) }
-    requires sizes { HaveSizes inc.now (printed_of claims) }
-    requires right { HasNoFault inc.now (printed_of claims) }
-    requires square { equations inc.now ≡ inc.now.unknowns }
-    ensures { IfOk result (IsVerdict m.now text.now) }
-{
-    if let Some(verdict) = unchained(alloc, inc, &claims.seen())? {
-        return Ok(verdict);
-    }
-    let Ground { blank, work } = ground;
-    let report = square_report(alloc, m, inc, blank, claims, work)?;
-    compared(alloc, text, &report, Verdict::Yes)
-}
-
-/// The verdict on what is printed of equations and unknowns.
+/// The verdict on the first fault of what is printed of equations and unknowns, or on a printed offset of a square model that is not the
+/// least.
 fn claims_verdict(
     alloc: Global,
     m: &FlatModel,
     text: &[u8],
     inc: &Incidence,
-    ground: Ground,
+    claims: &Claims,
+) -> Result<Option<Verdict>, NoMemory>
+    requires model { inc.now ≡ incidence_of m.now }
+    requires read { IsRead m.now text.now (printed_of claims.now) }
+    ensures some { IfOk result (λ r. IfSome r (IsVerdict m.now text.now)) }
+    ensures none { IfOk result (λ r. IfNone r (HasNoFault inc.now (printed_of claims.now))) }
+    ensures chained { IfOk result (λ r. IfNone r (equations inc.now ≡ inc.now.unknowns → AreChainedTo inc.now (printed_of claims.now) (equations inc.now))) }
+{
+    let seen = claims.seen();
+    if let Some(verdict) = first_fault(alloc, inc, &seen)? {
+        return Ok(Some(verdict));
+    }
+    if inc.equations() != inc.unknowns() {
+        return Ok(None);
+    }
+    unchained(alloc, inc, &seen)
+}
+
+/// What is printed of equations and unknowns where the offsets are admissible, and the least in a square model, or else the verdict. The
+/// report has the names of the unknowns.
+fn right_claims(
+    alloc: Global,
+    m: &FlatModel,
+    text: &[u8],
+    inc: &Incidence,
+    blank: &Report,
+) -> Result<Step<Claims>, NoMemory>
+    requires model { inc.now ≡ incidence_of m.now }
+    requires blank { IsBlankReport m.now inc.now blank.now }
+    requires begun { IsBegun m.now text.now }
+    requires can { CanCoverAll (incidence_of m.now) }
+    ensures verdict { IfOk result (λ step. IfVerdict step (IsVerdict m.now text.now)) }
+    ensures read { IfOk result (λ step. IfNext step (λ claims. IsRead m.now text.now (printed_of claims))) }
+    ensures right { IfOk result (λ step. IfNext step (λ claims. HasNoFault inc.now (printed_of claims))) }
+    ensures chained { IfOk result (λ step. IfNext step (λ claims. equations inc.now ≡ inc.now.unknowns → AreChainedTo inc.now (printed_of claims) (equations inc.now))) }
+{
+    let names = blank.unknowns.as_slice();
+    match read_claims(alloc, text, inc.equations(), names)? {
+        Step::Verdict(verdict) => Ok(Step::Verdict(verdict)),
+        Step::Next(claims) => match claims_verdict(alloc, m, text, inc, &claims)? {
+            Some(verdict) => Ok(Step::Verdict(verdict)),
+            None => Ok(Step::Next(claims)),
+        },
+    }
+}
+
+/// The verdict on what is printed where the offsets are admissible, and the least in a square model. The report has the names alone before.
+fn shown_verdict(
+    alloc: Global,
+    m: &FlatModel,
+    text: &[u8],
+    inc: &Incidence,
+    report: &mut Report,
     claims: Claims,
+    work: Work,
 ) -> Result<Verdict, NoMemory>
     requires few { length text.now ≤ 67108864 }
     requires model { inc.now ≡ incidence_of m.now }
-    requires ground { IsGround m.now inc.now ground }
+    requires blank { IsBlankReport m.now inc.now report.old }
     requires read { IsRead m.now text.now (printed_of claims) }
+    requires right { HasNoFault inc.now (printed_of claims) }
+    requires chained { equations inc.now ≡ inc.now.unknowns → AreChainedTo inc.now (printed_of claims) (equations inc.now) }
+    requires made { IsMadeFor inc.now work }
+    requires assigned { IsAssignment inc.now (by_place work.assignment) }
+    requires all { CoversAll inc.now (by_place work.assignment) }
     ensures { IfOk result (IsVerdict m.now text.now) }
 {
-    if let Some(verdict) = first_fault(alloc, inc, &claims.seen())? {
-        return Ok(verdict);
-    }
     if inc.equations() < inc.unknowns() {
-        let Ground { blank, work } = ground;
-        let report = undetermined_report(m, inc, blank, claims, work);
-        return compared(alloc, text, &report, Verdict::Admissible);
+        undetermined_report(m, inc, report, claims, work);
+        return compared(alloc, text, report, Verdict::Admissible);
     }
-    square_verdict(alloc, m, text, inc, ground, claims)
+    square_report(alloc, m, inc, report, claims, work)?;
+    compared(alloc, text, report, Verdict::Yes)
 }
 
-/// The verdict where every equation can have an unknown of its own.
+/// The verdict where every equation can have an unknown of its own. The report has the names alone before.
 fn assigned_verdict(
     alloc: Global,
     m: &FlatModel,
     text: &[u8],
     inc: &Incidence,
-    ground: Ground,
+    report: &mut Report,
+    work: Work,
 ) -> Result<Verdict, NoMemory>
     requires few { length text.now ≤ 67108864 }
     requires model { inc.now ≡ incidence_of m.now }
-    requires ground { IsGround m.now inc.now ground }
+    requires blank { IsBlankReport m.now inc.now report.old }
     requires begun { IsBegun m.now text.now }
+    requires made { IsMadeFor inc.now work }
+    requires assigned { IsAssignment inc.now (by_place work.assignment) }
+    requires all { CoversAll inc.now (by_place work.assignment) }
     ensures { IfOk result (IsVerdict m.now text.now) }
 {
-    let names = ground.blank.unknowns.as_slice();
-    match read_claims(alloc, text, inc.equations(), names)? {
+    match right_claims(alloc, m, text, inc, report)? {
         Step::Verdict(verdict) => Ok(verdict),
-        Step::Next(claims) => claims_verdict(alloc, m, text, inc, ground, claims),
+        Step::Next(claims) => shown_verdict(alloc, m, text, inc, report, claims, work),
     }
 }
 
-/// The verdict on a report whose first two lines are the model's.
+/// The verdict on a report whose first two lines are the model's. The report that is written has the names alone before.
 fn begun_verdict(
     alloc: Global,
     m: &FlatModel,
     text: &[u8],
     inc: &Incidence,
-    blank: Report,
+    report: &mut Report,
 ) -> Result<Verdict, NoMemory>
     requires few { length text.now ≤ 67108864 }
     requires model { inc.now ≡ incidence_of m.now }
-    requires blank { IsBlankReport m.now inc.now blank }
+    requires blank { IsBlankReport m.now inc.now report.old }
     requires begun { IsBegun m.now text.now }
     ensures { IfOk result (IsVerdict m.now text.now) }
 {
@@ -143,10 +172,49 @@ fn begun_verdict(
     match assign(&counted, &mut work, &mut steps) {
         Assigned::Missing(missing) => {
             let Work { deficit, .. } = work;
-            let report = deficit_report(m, inc, blank, deficit, missing);
-            compared(alloc, text, &report, Verdict::Yes)
+            deficit_report(m, inc, report, deficit, missing);
+            compared(alloc, text, report, Verdict::Yes)
         }
-        Assigned::All => assigned_verdict(alloc, m, text, inc, Ground { blank, work }),
+        Assigned::All => assigned_verdict(alloc, m, text, inc, report, work),
+    }
+}
+
+/// The verdict on the first two lines; None where they are the model's.
+fn head_verdict(
+    alloc: Global,
+    m: &FlatModel,
+    text: &[u8],
+    _inc: &Incidence,
+    blank: &Report,
+) -> Result<Option<Verdict>, NoMemory>
+    requires few { length text.now ≤ 67108864 }
+    requires model { _inc.now ≡ incidence_of m.now }
+    requires blank { IsBlankReport m.now _inc.now blank.now }
+    requires readable { AreReadable text.now }
+    ensures some { IfOk result (λ r. IfSome r (IsVerdict m.now text.now)) }
+    ensures none { IfOk result (λ r. IfNone r (IsBegun m.now text.now)) }
+{
+    let head = report_text(alloc, blank)?;
+    line_verdict(alloc, text, head.as_str(), 2)
+}
+
+/// The verdict on a report whose lines are readable. The report that is written has the names alone before.
+fn lines_verdict(
+    alloc: Global,
+    m: &FlatModel,
+    text: &[u8],
+    inc: &Incidence,
+    report: &mut Report,
+) -> Result<Verdict, NoMemory>
+    requires few { length text.now ≤ 67108864 }
+    requires model { inc.now ≡ incidence_of m.now }
+    requires blank { IsBlankReport m.now inc.now report.old }
+    requires readable { AreReadable text.now }
+    ensures { IfOk result (IsVerdict m.now text.now) }
+{
+    match head_verdict(alloc, m, text, inc, report)? {
+        Some(verdict) => Ok(verdict),
+        None => begun_verdict(alloc, m, text, inc, report),
     }
 }
 
@@ -162,12 +230,8 @@ fn readable_verdict(
     requires readable { AreReadable text.now }
     ensures { IfOk result (IsVerdict m.now text.now) }
 {
-    let blank = blank_report(alloc, m, inc)?;
-    let head = report_text(alloc, &blank)?;
-    match line_verdict(alloc, text, head.as_str(), 2)? {
-        Some(verdict) => Ok(verdict),
-        None => begun_verdict(alloc, m, text, inc, blank),
-    }
+    let mut report = blank_report(alloc, m, inc)?;
+    lines_verdict(alloc, m, text, inc, &mut report)
 }
 
 /// The verdict on a text, with the incidence of the model.
