@@ -1,6 +1,6 @@
 -- Tables that are merged of what is left of modifiers.
 use Rattle.std.proofs.Common.{◌≡◌, ℕ, ◌<◌, length, arith, Bool, true, false, cond, List, [], ◌∷◌, map, Option, Some, None, refl, ap, sym, ◌∙◌, subst, nat_cmp}
-use Rattle.std.specs.Prelude.{option_map, IfOk, MatchOption, Result, Ok, Err}
+use Rattle.std.specs.Prelude.{option_map, IfOk, MatchOption, Result, Ok}
 use Rattle.std.specs.Borrow.{Bor}
 use Rattle.std.specs.BTreeMap.{BTreeMap, UpdatesBy, is_at}
 use Rattle.std.specs.Cmp.Lexicographic.{slice_cmp}
@@ -12,16 +12,19 @@ use Rattle.mo_scope.specs.Rows.{Table}
 use Rattle.mo_scope.specs.Sights.{source_seen}
 use Rattle.mo_scope.specs.Worlds.{sources_in}
 use Rattle.mo_scope.specs.declared.source.Source.{Source as SourceAt}
-use Rattle.mo_mods.specs.declared.env.MergedEnv.{MergedEnv, MergedEnv-F, out-MergedEnv, roll-MergedEnv}
+use Rattle.mo_mods.specs.declared.env.MergedEnv.{MergedEnv, out-MergedEnv}
+use Rattle.mo_mods.specs.declared.env.MergedValue.{MergedValue}
+use Rattle.mo_mods.specs.declared.env.RedeclaredAt.{RedeclaredAt}
 use Rattle.mo_mods.specs.declared.left.Said.{Said as SaidAt}
 use Rattle.mo_mods.specs.Left.{Left, Said, all_say, anew_along, anew_first, left_of, lefts_said, value_along, value_left, IsElementOf, IsMergedOf}
+use Rattle.mo_mods.specs.Made.{AreParts}
 use Rattle.mo_mods.specs.Marks.{unmarked}
 use Rattle.mo_mods.specs.Merged.{Merged, StandsFor, Table_of, Below, Merged_value, Redeclared, nothing_merged, at_path, redeclared_here, table_for, value_here}
 use Rattle.mo_mods.specs.Sights.{below_seen, left_of_source, merged_in, merged_or, name_cmp, redeclared_in, said_held, said_in, said_or_none, value_in}
 use Rattle.mo_mods.proofs.Finding.{looked_up, nothing_at}
 use Rattle.mo_mods.proofs.Grouping.{at_name, after_update}
 use Rattle.mo_mods.proofs.LeftSources.{stands_for}
-use Rattle.mo_mods.proofs.Making.{env_is, env_made, made_of}
+use Rattle.mo_mods.proofs.Making.{env_is, none_seen}
 
 -- ---- nothing is left
 
@@ -57,16 +60,6 @@ merged_parts table value below lefts is elements = record { values = values; red
     redeclarations name [] = (elements name).anew
     redeclarations name (next ∷ names) = (elements name).below.redeclarations next names
 
-pub merged_is : (table : Table) (frames : List Frame) (layer : MergedEnv-F MergedEnv) (lefts : List Left) → layer.redeclared ≡ None → option_map (value_in frames) layer.value ≡ value_left lefts →
-    ((name : List ℕ) → IsElementOf table (table_for name (below_seen frames layer.below.entries)) (all_say table name lefts)) → IsMergedOf table (merged_in frames (roll-MergedEnv layer)) lefts
-merged_is table frames layer lefts none is elements =
-    subst (λ m. IsMergedOf table m lefts)
-    (sym (env_made frames layer ∙ made_of _ _ _ _ _ _ refl (ap (option_map (redeclared_in frames)) none) refl))
-    (merged_parts table (option_map (value_in frames) layer.value) (below_seen frames layer.below.entries) lefts is elements)
-
-pub merged_none : (frames : List Frame) (layer : MergedEnv-F MergedEnv) → layer.redeclared ≡ None → redeclared_here (merged_in frames (roll-MergedEnv layer)) ≡ None
-merged_none frames layer none = ap redeclared_here (env_made frames layer) ∙ ap (option_map (redeclared_in frames)) none
-
 -- what a table is merged of does not tell what declares it anew
 other_anew : (table : Table) (value : Option Merged_value) (one other : Option Redeclared) (below : Below) (lefts : List Left) → IsMergedOf table (Table_of value one below) lefts →
     IsMergedOf table (Table_of value other below) lefts
@@ -76,15 +69,24 @@ other_anew table value one other below lefts is = record { values = values; rede
     values [] = is.values []
     values (name ∷ names) = is.values (name ∷ names)
 
-pub element_is : (table : Table) (frames : List Frame) (env : MergedEnv) (layer : MergedEnv-F MergedEnv) (said : List Said) →
-    layer.value ≡ (out-MergedEnv env).value → layer.below ≡ (out-MergedEnv env).below → option_map (redeclared_in frames) layer.redeclared ≡ anew_first said →
-    IsMergedOf table (merged_in frames env) (lefts_said true said) → IsElementOf table (merged_in frames (roll-MergedEnv layer)) said
-element_is table frames env layer said values below anew is = record {
-  below =
-      subst (λ m. IsMergedOf table m (lefts_said true said))
-      (sym (env_made frames layer ∙ made_of _ _ _ _ _ _ (ap (option_map (value_in frames)) values) refl (ap (λ b. below_seen frames b.entries) below)))
-      (other_anew table _ _ _ _ (lefts_said true said) (subst (λ m. IsMergedOf table m (lefts_said true said)) (env_is frames env) is));
-  anew = ap redeclared_here (env_made frames layer) ∙ anew;
+pub merged_is : (table : Table) (frames : List Frame) (env : MergedEnv) (lefts : List Left) → option_map (value_in frames) (out-MergedEnv env).value ≡ value_left lefts →
+    ((name : List ℕ) → IsElementOf table (table_for name (below_seen frames (out-MergedEnv env).below.entries)) (all_say table name lefts)) → IsMergedOf table (merged_in frames env) lefts
+merged_is table frames env lefts is elements =
+    subst (λ m. IsMergedOf table m lefts) (sym (env_is frames env))
+    (other_anew table _ None _ _ lefts (merged_parts table (option_map (value_in frames) (out-MergedEnv env).value) (below_seen frames (out-MergedEnv env).below.entries) lefts is elements))
+
+pub redeclared_is : (frames : List Frame) (env : MergedEnv) (redeclared : Option Redeclared) → option_map (redeclared_in frames) (out-MergedEnv env).redeclared ≡ redeclared →
+    redeclared_here (merged_in frames env) ≡ redeclared
+redeclared_is frames env redeclared is = ap redeclared_here (env_is frames env) ∙ is
+
+-- the table of an element by its parts
+pub element_is : {E : Type 0} (table : Table) (frames : List Frame) (env : MergedEnv) (said : List Said) (value : Result (Option MergedValue) E) (redeclared : Result (Option RedeclaredAt) E)
+    (below : Result (BTreeMap (Bor (List ℕ)) MergedEnv) E) → AreParts value redeclared below (out-MergedEnv env) →
+    IfOk value (λ made. option_map (value_in frames) made ≡ value_left (lefts_said true said)) → IfOk redeclared (λ made. option_map (redeclared_in frames) made ≡ anew_first said) →
+    IfOk below (λ made. (name : List ℕ) → IsElementOf table (table_for name (below_seen frames made.entries)) (all_say table name (lefts_said true said))) → IsElementOf table (merged_in frames env) said
+element_is table frames env said value redeclared below parts values anew elements = record {
+  below = merged_is table frames env (lefts_said true said) (rw parts.value_is at values) (rw parts.below_is at elements);
+  anew = redeclared_is frames env (anew_first said) (rw parts.redeclared_is at anew);
 }
 
 -- ---- the tables of elements
@@ -163,11 +165,12 @@ left_sources : (frames : List Frame) (sources : List SourceAt) → map (left_of_
 left_sources frames [] = refl
 left_sources frames (source ∷ sources) = ap (λ xs. left_of_source frames source ∷ xs) (left_sources frames sources)
 
-pub merged_stands : (table : Table) (frames : List Frame) (env : MergedEnv) (lefts : List Left) (sources : List SourceAt) → lefts ≡ map (left_of_source frames) sources → IsMergedOf table (merged_in frames env) lefts →
-    redeclared_here (merged_in frames env) ≡ None → StandsFor table (merged_in frames env) (sources_in frames (map source_seen sources))
-merged_stands table frames env lefts sources made is none =
-    stands_for table (merged_in frames env) (sources_in frames (map source_seen sources)) (subst (IsMergedOf table (merged_in frames env)) (made ∙ left_sources frames sources) is) none
-
-pub if_both : {T E : Type 0} (r : Result T E) {P Q R : T → Type 0} → ((x : T) → P x → Q x → R x) → IfOk r P → IfOk r Q → IfOk r R
-if_both (Ok x) f p q = f x p q
-if_both (Err e) f p q = p
+pub merged_stands : {E : Type 0} (table : Table) (frames : List Frame) (env : MergedEnv) (lefts : List Left) (sources : List SourceAt) (value : Result (Option MergedValue) E) (redeclared : Result (Option RedeclaredAt) E)
+    (below : Result (BTreeMap (Bor (List ℕ)) MergedEnv) E) → AreParts value redeclared below (out-MergedEnv env) → lefts ≡ map (left_of_source frames) sources →
+    IfOk value (λ made. option_map (value_in frames) made ≡ value_left lefts) → redeclared ≡ Ok None →
+    IfOk below (λ made. (name : List ℕ) → IsElementOf table (table_for name (below_seen frames made.entries)) (all_say table name lefts)) →
+    StandsFor table (merged_in frames env) (sources_in frames (map source_seen sources))
+merged_stands table frames env lefts sources value redeclared below parts made values none elements =
+    stands_for table (merged_in frames env) (sources_in frames (map source_seen sources))
+    (subst (IsMergedOf table (merged_in frames env)) (made ∙ left_sources frames sources) (merged_is table frames env lefts (rw parts.value_is at values) (rw parts.below_is at elements)))
+    (redeclared_is frames env None (none_seen frames (out-MergedEnv env).redeclared (sym none ∙ parts.redeclared_is)))

@@ -1,20 +1,32 @@
 -- Tables that are made of the parts of others.
-use Rattle.std.proofs.Common.{◌≡◌, ℕ, List, [], ◌∷◌, ◌++◌, Option, None, Ordering, Less, Equal, Greater, nat_cmp, refl, ap, sym, ◌∙◌}
-use Rattle.std.specs.Prelude.{option_map}
+use Rattle.std.proofs.Common.{◌≡◌, ℕ, Bool, List, [], ◌∷◌, ◌++◌, Option, None, Ordering, Less, Equal, Greater, nat_cmp, refl, ap, sym, ◌∙◌}
+use Rattle.std.specs.Prelude.{IfOk, Ok, Result, option_map}
 use Rattle.std.specs.Borrow.{Bor}
-use Rattle.std.specs.BTreeMap.{insert_entry}
+use Rattle.std.specs.BTreeMap.{BTreeMap, insert_entry}
 use Rattle.std.specs.Cmp.Lexicographic.{slice_cmp}
 use Rattle.std.specs.List.{AllByRecursion}
 use Rattle.std.specs.List.Sorted.{IsStrictlySortedBy}
 use Rattle.std.specs.Map.{keys_of}
 use Rattle.std.specs.Ordering.{match_ordering, ordering_reverse}
 use Rattle.std.proofs.lemmas.Cmp.{nat_list_cmp_total}
+use Rattle.mo_syntax.specs.declared.expr.Expr.{Expr}
 use Rattle.mo_scope.specs.Frames.{Frame}
-use Rattle.mo_mods.specs.declared.env.MergedEnv.{MergedEnv, MergedEnv-F, fold_out-MergedEnv, fold-roll-MergedEnv, out-MergedEnv, roll-MergedEnv}
+use Rattle.mo_scope.specs.Worlds.{scope_in}
+use Rattle.mo_scope.specs.declared.source.ScopeAt.{ScopeAt}
+use Rattle.mo_mods.specs.declared.env.MergedEnv.{MergedEnv, fold_out-MergedEnv, out-MergedEnv}
+use Rattle.mo_mods.specs.declared.env.MergedValue.{MergedValue}
+use Rattle.mo_mods.specs.declared.env.RedeclaredAt.{RedeclaredAt}
+use Rattle.mo_mods.specs.Made.{AreParts}
 use Rattle.mo_mods.specs.Merged.{Merged, Table_of, Below, Nothing_below, Below_then, Merged_value, Redeclared}
 use Rattle.mo_mods.specs.Steps.{entered_value, entered_table, entered_below, stepped}
 use Rattle.mo_mods.specs.Sights.{below_seen, merged_in, merged_node, name_cmp, redeclared_in, value_in}
 use Rattle.mo_mods.proofs.Finding.{below_map}
+
+-- a value by its parts
+pub value_made : (frames : List Frame) (made : MergedValue) (value : Expr) (pending : List ℕ) (scope : ScopeAt) (each : List Bool) → made.value.now ≡ value → made.pending ≡ pending →
+    made.scope ≡ scope → made.each ≡ each →
+    value_in frames made ≡ record { picked = record { value = value; scope = scope_in frames scope.frame.0 scope.iters; pending = pending }; each = each }
+value_made frames made value pending scope each v p s e = rw (sym v, sym p, sym s, sym e) refl
 
 -- a table by its parts
 pub env_is : (frames : List Frame) (env : MergedEnv) →
@@ -24,12 +36,8 @@ env_is frames env =
     fold_out-MergedEnv Merged (merged_node frames) env
     ∙ ap (Table_of (option_map (value_in frames) (out-MergedEnv env).value) (option_map (redeclared_in frames) (out-MergedEnv env).redeclared)) (below_map frames (out-MergedEnv env).below.entries)
 
-pub env_made : (frames : List Frame) (layer : MergedEnv-F MergedEnv) →
-    merged_in frames (roll-MergedEnv layer)
-    ≡ Table_of (option_map (value_in frames) layer.value) (option_map (redeclared_in frames) layer.redeclared) (below_seen frames layer.below.entries)
-env_made frames layer =
-    fold-roll-MergedEnv Merged (merged_node frames) layer
-    ∙ ap (Table_of (option_map (value_in frames) layer.value) (option_map (redeclared_in frames) layer.redeclared)) (below_map frames layer.below.entries)
+pub none_seen : {E : Type 0} (frames : List Frame) (made : Option RedeclaredAt) → ◌≡◌ {A = Result (Option RedeclaredAt) E} (Ok None) (Ok made) → option_map (redeclared_in frames) made ≡ None
+none_seen frames made same = let is : None ≡ made = cc in ap (option_map (redeclared_in frames)) (sym is)
 
 -- a table made of the parts of another one
 pub made_of : (value value_is : Option Merged_value) (redeclared redeclared_is : Option Redeclared) (below below_is : Below) → value ≡ value_is → redeclared ≡ redeclared_is → below ≡ below_is →
@@ -37,21 +45,24 @@ pub made_of : (value value_is : Option Merged_value) (redeclared redeclared_is :
 made_of value value_is redeclared redeclared_is below below_is v r b =
     ap (λ x. Table_of x redeclared below) v ∙ ap (λ x. Table_of value_is x below) r ∙ ap (Table_of value_is redeclared_is) b
 
-pub entered_is : (frames : List Frame) (index : List ℕ) (layer : MergedEnv-F MergedEnv) (env : MergedEnv) →
-    option_map (value_in frames) layer.value ≡ option_map (entered_value index) (option_map (value_in frames) (out-MergedEnv env).value) →
-    option_map (redeclared_in frames) layer.redeclared ≡ option_map (redeclared_in frames) (out-MergedEnv env).redeclared →
-    below_seen frames layer.below.entries ≡ entered_below index (below_seen frames (out-MergedEnv env).below.entries) →
-    merged_in frames (roll-MergedEnv layer) ≡ entered_table index (merged_in frames env)
-entered_is frames index layer env v r b =
-    env_made frames layer ∙ made_of _ _ _ _ _ _ v r b ∙ sym (ap (entered_table index) (env_is frames env))
+pub entered_is : {E : Type 0} (frames : List Frame) (index : List ℕ) (made env : MergedEnv) (value : Result (Option MergedValue) E) (redeclared : Result (Option RedeclaredAt) E)
+    (below : Result (BTreeMap (Bor (List ℕ)) MergedEnv) E) → AreParts value redeclared below (out-MergedEnv made) →
+    IfOk value (λ one. option_map (value_in frames) one ≡ option_map (entered_value index) (option_map (value_in frames) (out-MergedEnv env).value)) →
+    IfOk redeclared (λ one. option_map (redeclared_in frames) one ≡ option_map (redeclared_in frames) (out-MergedEnv env).redeclared) →
+    IfOk below (λ one. below_seen frames one.entries ≡ entered_below index (below_seen frames (out-MergedEnv env).below.entries)) →
+    merged_in frames made ≡ entered_table index (merged_in frames env)
+entered_is frames index made env value redeclared below parts v r b =
+    env_is frames made ∙ made_of _ _ _ _ _ _ (rw parts.value_is at v) (rw parts.redeclared_is at r) (rw parts.below_is at b) ∙ sym (ap (entered_table index) (env_is frames env))
 
-pub stepped_is : (frames : List Frame) (index : List ℕ) (layer : MergedEnv-F MergedEnv) (env : MergedEnv) →
-    option_map (value_in frames) layer.value ≡ option_map (entered_value index) (option_map (value_in frames) (out-MergedEnv env).value) →
-    option_map (redeclared_in frames) layer.redeclared ≡ None →
-    below_seen frames layer.below.entries ≡ entered_below index (below_seen frames (out-MergedEnv env).below.entries) →
-    merged_in frames (roll-MergedEnv layer) ≡ stepped index (merged_in frames env)
-stepped_is frames index layer env v r b =
-    env_made frames layer ∙ made_of _ _ _ _ _ _ v r b ∙ sym (ap (stepped index) (env_is frames env))
+pub stepped_is : {E : Type 0} (frames : List Frame) (index : List ℕ) (made env : MergedEnv) (value : Result (Option MergedValue) E) (redeclared : Result (Option RedeclaredAt) E)
+    (below : Result (BTreeMap (Bor (List ℕ)) MergedEnv) E) → AreParts value redeclared below (out-MergedEnv made) →
+    IfOk value (λ one. option_map (value_in frames) one ≡ option_map (entered_value index) (option_map (value_in frames) (out-MergedEnv env).value)) →
+    redeclared ≡ Ok None → IfOk below (λ one. below_seen frames one.entries ≡ entered_below index (below_seen frames (out-MergedEnv env).below.entries)) →
+    merged_in frames made ≡ stepped index (merged_in frames env)
+stepped_is frames index made env value redeclared below parts v none b =
+    env_is frames made
+    ∙ made_of _ _ _ _ _ _ (rw parts.value_is at v) (none_seen frames (out-MergedEnv made).redeclared (sym none ∙ parts.redeclared_is)) (rw parts.below_is at b)
+    ∙ sym (ap (stepped index) (env_is frames env))
 
 -- ---- a table that is put under a name
 

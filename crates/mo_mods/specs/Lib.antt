@@ -1,5 +1,6 @@
 pub mod Calls
 pub mod Left
+pub mod Made
 pub mod Marks
 pub mod Merged
 pub mod Passes

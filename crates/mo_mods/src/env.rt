@@ -1,13 +1,10 @@
 //! The modifiers of a frame as one table.
-ghost use Rattle.std.specs.Prelude.{◌≡◌, ℕ, List as Seq, if◌then◌else◌, OnOk};
-ghost use Rattle.std.specs.BTreeMap.{insert_entry};
-ghost use Rattle.std.specs.Str.{bytes_eq};
-ghost use Rattle.mo_scope.specs.Frames.{Frame};
-ghost use Rattle.mo_mods.specs.Merged.{table_for};
-ghost use Rattle.mo_mods.specs.Sights.{below_seen, merged_in, name_cmp};
+ghost use Rattle.std.specs.Prelude.{IfOk};
+ghost use Rattle.mo_mods.specs.declared.env.MergedEnv.{out-MergedEnv};
+ghost use Rattle.mo_mods.specs.Made.{AreParts, AreValueParts};
 
 use mo_scope::{Declares, ScopeAt};
-use mo_syntax::{Expr, List, NoMemory};
+use mo_syntax::{Expr, List, NoMemory, both};
 use std::collections::BTreeMap;
 
 /// A value with the scope where it was written.
@@ -36,15 +33,40 @@ pub struct MergedEnv<'t> {
     pub below: BTreeMap<&'t str, MergedEnv<'t>>,
 }
 
-/// Puts a table under a name.
-pub(crate) fn put<'t>(
-    made: &mut BTreeMap<&'t str, MergedEnv<'t>>,
-    name: &'t str,
-    env: MergedEnv<'t>,
-) -> Result<(), NoMemory>
-    ensures entries { OnOk result (made.new.entries ≡ insert_entry name_cmp made.old.entries name.entry env.entry) }
-    ensures tables { OnOk result ((frames : Seq Frame) → (other : Seq ℕ) → table_for other (below_seen frames made.new.entries) ≡ (if bytes_eq name.now other then merged_in frames env.entry else table_for other (below_seen frames made.old.entries))) }
+/// A value with what is read of it on the way to its path; else the error of the first that is none.
+pub(crate) fn value_of<'t>(
+    value: &'t Expr,
+    pending: Result<List<u32>, NoMemory>,
+    scope: Result<ScopeAt, NoMemory>,
+    each: Result<List<bool>, NoMemory>,
+) -> Result<MergedValue<'t>, NoMemory>
+    ensures { IfOk result (AreValueParts value.now pending scope each) }
 {
-    made.insert(name, env)?;
-    Ok(())
+    match both(both(pending, scope), each) {
+        Ok(((pending, scope), each)) => Ok(MergedValue {
+            value,
+            scope,
+            pending,
+            each,
+        }),
+        Err(error) => Err(error),
+    }
+}
+
+/// A table of its parts; else the error of the first that is none.
+pub(crate) fn table_of<'t>(
+    value: Result<Option<MergedValue<'t>>, NoMemory>,
+    redeclared: Result<Option<RedeclaredAt<'t>>, NoMemory>,
+    below: Result<BTreeMap<&'t str, MergedEnv<'t>>, NoMemory>,
+) -> Result<MergedEnv<'t>, NoMemory>
+    ensures { IfOk result (λ made. AreParts value.entry redeclared.entry below.entry (out-MergedEnv made)) }
+{
+    match both(both(value, redeclared), below) {
+        Ok(((value, redeclared), below)) => Ok(MergedEnv {
+            value,
+            redeclared,
+            below,
+        }),
+        Err(error) => Err(error),
+    }
 }

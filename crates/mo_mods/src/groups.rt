@@ -8,6 +8,7 @@ ghost use Rattle.mo_scope.specs.Worlds.{table_in};
 ghost use Rattle.mo_mods.specs.Left.{all_say, element_says, elements_say, left_behind as left_behind_name, left_says, list_says, rest_says, said_by as said_by_argument};
 ghost use Rattle.mo_mods.specs.Sights.{left_in, said_held, said_in, said_or_none};
 
+use crate::answers::{put_under, with_item};
 use crate::left::{Left, Said, left_behind, said_by};
 use mo_scope::{Given, Scopes, nested_list, replacing};
 use mo_syntax::{Argument, Element, Item, List, NoMemory};
@@ -33,10 +34,8 @@ fn put<'s, 't>(
 ) -> Result<(), NoMemory>
     ensures { OnOk result ((frames : Seq Frame) → (other : Seq ℕ) → said_held frames groups.new other ≡ said_held frames groups.old other ++ (if bytes_eq name.now other then said_in frames said.entry ∷ [] else [])) }
 {
-    let mut group = or_none(alloc, groups.remove(name));
-    group.push(said)?;
-    groups.insert(name, group)?;
-    Ok(())
+    let group = or_none(alloc, groups.remove(name));
+    put_under(groups, name, with_item(group, said))
 }
 
 /// Puts what an argument says, of which so many names were passed, under the next one.

@@ -8,9 +8,9 @@ ghost use Rattle.mo_scope.specs.Worlds.{table_in};
 ghost use Rattle.mo_mods.specs.Left.{Said as SaidOf, anew_first as first_anew, left_behind as left_behind_name, left_with as left_with_list, lefts_said as lefts_of_said, said_by as said_by_argument, value_left as value_of_left};
 ghost use Rattle.mo_mods.specs.Sights.{left_in, left_of_source, redeclared_in, said_in, value_in};
 
-use crate::env::{MergedValue, RedeclaredAt};
+use crate::env::{MergedValue, RedeclaredAt, value_of};
 use mo_scope::{Declares, Given, Modifiers, ScopeAt, Scopes, Source, copied, copied_scope};
-use mo_syntax::{Argument, Expr, Give, List, NoMemory, both};
+use mo_syntax::{Argument, Expr, Give, List, NoMemory};
 use std::alloc::Global;
 
 /// What is left to give of a source, whose lists it borrows.
@@ -57,6 +57,15 @@ pub(crate) fn lefts_of<'s, 't>(
     Ok(made)
 }
 
+/// Marks with one more.
+fn marks_with(alloc: Global, marks: &[bool], each: bool) -> Result<List<bool>, NoMemory>
+    ensures { IfOk result (λ made. made ≡ marks.now ++ each ∷ []) }
+{
+    let mut made = copied(alloc, marks)?;
+    made.push(each)?;
+    Ok(made)
+}
+
 /// What is left behind one more name.
 pub(crate) fn left_behind<'s, 't>(
     alloc: Global,
@@ -66,14 +75,15 @@ pub(crate) fn left_behind<'s, 't>(
 ) -> Result<Left<'s, 't>, NoMemory>
     ensures { IfOk result (λ made. (frames : Seq Frame) → left_in frames made ≡ left_behind_name (left_in frames left.now) each (given_seen given.entry)) }
 {
-    let mut marks = copied(alloc, left.each.as_slice())?;
-    marks.push(each)?;
-    Ok(Left {
-        given,
-        pending: if each { &[] } else { left.pending },
-        scope: left.scope,
-        each: marks,
-    })
+    match marks_with(alloc, left.each.as_slice(), each) {
+        Ok(marks) => Ok(Left {
+            given,
+            pending: if each { &[] } else { left.pending },
+            scope: left.scope,
+            each: marks,
+        }),
+        Err(error) => Err(error),
+    }
 }
 
 /// What an argument says of which so many names were passed: it declares the element anew, or what is left of it modifies it.
@@ -130,14 +140,12 @@ fn value_with<'t>(
 ) -> Result<MergedValue<'t>, NoMemory>
     ensures { IfOk result (λ made. (frames : Seq Frame) → value_in frames made ≡ record { picked = record { value = value.now; scope = (left_in frames left.now).scope; pending = (left_in frames left.now).pending }; each = (left_in frames left.now).each }) }
 {
-    let (pending, scope) = both(copied(alloc, left.pending), copied_scope(alloc, left.scope))?;
-    let each = copied(alloc, left.each.as_slice())?;
-    Ok(MergedValue {
+    value_of(
         value,
-        scope,
-        pending,
-        each,
-    })
+        copied(alloc, left.pending),
+        copied_scope(alloc, left.scope),
+        copied(alloc, left.each.as_slice()),
+    )
 }
 
 /// The value of the first that has one.
@@ -149,7 +157,10 @@ pub(crate) fn value_left<'t>(
 {
     for left in lefts {
         if let Some(value) = held_value(&left.given) {
-            return Ok(Some(value_with(alloc, left, value)?));
+            return match value_with(alloc, left, value) {
+                Ok(value) => Ok(Some(value)),
+                Err(error) => Err(error),
+            };
         }
     }
     Ok(None)

@@ -13,6 +13,7 @@
 //! the way to a path; and the second pass over arguments in two runs.
 #![tactic(auto)]
 
+mod answers;
 mod asked;
 mod binding;
 mod env;

@@ -2,19 +2,20 @@
 //!
 //! One call makes the table of a path, one call for each name that follows. The parser bounds how deep lists are nested, at 128,
 //! but not how many names an argument has, so the calls count the names that may follow: past them memory is wanted.
-ghost use Rattle.std.specs.Prelude.{◌≡◌, ℕ, List as Seq, None, map, IfOk};
+ghost use Rattle.std.specs.Prelude.{ℕ, List as Seq, map, IfOk};
 ghost use Rattle.mo_scope.specs.Frames.{Frame};
 ghost use Rattle.mo_scope.specs.Worlds.{table_in};
-ghost use Rattle.mo_mods.specs.Left.{IsElementOf, IsMergedOf};
-ghost use Rattle.mo_mods.specs.Merged.{redeclared_here, table_for};
-ghost use Rattle.mo_mods.specs.Sights.{below_seen, left_in, merged_in, said_held, said_in};
+ghost use Rattle.mo_mods.specs.Left.{IsElementOf, all_say};
+ghost use Rattle.mo_mods.specs.Merged.{table_for};
+ghost use Rattle.mo_mods.specs.Sights.{below_seen, left_in, merged_in, said_in};
 ghost use Rattle.mo_mods.specs.Calls.{StandsForSources, ScopesExistBy};
 
-use crate::env::{MergedEnv, put};
+use crate::answers::put_under;
+use crate::env::{MergedEnv, table_of};
 use crate::groups::grouped;
 use crate::left::{Left, Said, anew_first, lefts_of, lefts_said, value_left};
 use mo_scope::{Scopes, Source};
-use mo_syntax::{List, NoMemory, both};
+use mo_syntax::{List, NoMemory};
 use std::alloc::Global;
 use std::collections::BTreeMap;
 
@@ -34,52 +35,28 @@ fn element<'s, 't>(
     if names == 0 {
         return Err(NoMemory);
     }
-    let (redeclared, lefts) = both(anew_first(alloc, said.as_slice()), lefts_said(alloc, said))?;
-    let env = merged(scopes, alloc, lefts.as_slice(), names - 1)?;
-    Ok(MergedEnv {
-        value: env.value,
-        redeclared,
-        below: env.below,
-    })
+    let redeclared = anew_first(alloc, said.as_slice());
+    let lefts = lefts_said(alloc, said)?;
+    let below = elements(scopes, alloc, lefts.as_slice(), names - 1);
+    table_of(value_left(alloc, lefts.as_slice()), redeclared, below)
 }
 
-/// The tables of the elements of which something is said, by their names.
+/// The tables of the elements of which what is left of modifiers says something, by their names.
 #[cycle(merging)]
 fn elements<'s, 't>(
     scopes: &Scopes<'t>,
     alloc: Global,
-    groups: BTreeMap<&'t str, List<Said<'s, 't>>>,
-    names: usize,
-) -> Result<BTreeMap<&'t str, MergedEnv<'t>>, NoMemory>
-    ensures { IfOk result (λ made. (frames : Seq Frame) → (name : Seq ℕ) → IsElementOf (table_in scopes.now) (table_for name (below_seen frames made.entries)) (said_held frames groups.entry name)) }
-{
-    let mut left = groups;
-    let mut made = BTreeMap::new(alloc);
-    while let Some((name, said)) = left.pop_first() {
-        let env = element(scopes, alloc, said, names)?;
-        put(&mut made, name, env)?;
-    }
-    Ok(made)
-}
-
-/// The table that is merged of what is left of modifiers, itself not declared anew.
-#[cycle(merging)]
-fn merged<'s, 't>(
-    scopes: &Scopes<'t>,
-    alloc: Global,
     lefts: &[Left<'s, 't>],
     names: usize,
-) -> Result<MergedEnv<'t>, NoMemory>
-    ensures is { IfOk result (λ made. (frames : Seq Frame) → IsMergedOf (table_in scopes.now) (merged_in frames made) (map (left_in frames) lefts.now)) }
-    ensures none { IfOk result (λ made. (frames : Seq Frame) → redeclared_here (merged_in frames made) ≡ None) }
+) -> Result<BTreeMap<&'t str, MergedEnv<'t>>, NoMemory>
+    ensures { IfOk result (λ made. (frames : Seq Frame) → (name : Seq ℕ) → IsElementOf (table_in scopes.now) (table_for name (below_seen frames made.entries)) (all_say (table_in scopes.now) name (map (left_in frames) lefts.now))) }
 {
-    let (value, groups) = both(value_left(alloc, lefts), grouped(scopes, alloc, lefts))?;
-    let below = elements(scopes, alloc, groups, names)?;
-    Ok(MergedEnv {
-        value,
-        redeclared: None,
-        below,
-    })
+    let mut left = grouped(scopes, alloc, lefts)?;
+    let mut made = BTreeMap::new(alloc);
+    while let Some((name, said)) = left.pop_first() {
+        put_under(&mut made, name, element(scopes, alloc, said, names))?;
+    }
+    Ok(made)
 }
 
 /// Sources merged into one table, whatever their arguments break. A path of more than 256 names is want of memory. `NoMemory`
@@ -93,5 +70,6 @@ pub fn merged_sources<'t>(
     ensures exist { IfOk result (ScopesExistBy sources.now) }
 {
     let lefts = lefts_of(alloc, sources)?;
-    merged(scopes, alloc, lefts.as_slice(), MOST_NAMES)
+    let below = elements(scopes, alloc, lefts.as_slice(), MOST_NAMES);
+    table_of(value_left(alloc, lefts.as_slice()), Ok(None), below)
 }

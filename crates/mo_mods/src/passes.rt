@@ -9,7 +9,7 @@ ghost use Rattle.mo_mods.specs.PathSights.{HasPaths, asked_seen, claim_seen};
 use crate::asked::{Asked, Claim};
 use crate::paths::{ByPath, key_of, write_name};
 use mo_scope::Listing;
-use mo_syntax::{Broken, List, NoMemory, Place, broken, rules};
+use mo_syntax::{Broken, List, NoMemory, Place, broken, pushed, rules};
 use std::alloc::Global;
 
 /// The place that was found first, else this one if a rule is broken there.
@@ -48,8 +48,7 @@ fn all_repeats(alloc: Global, asked: &[Asked<'_, '_>]) -> Result<List<Option<Pla
     let mut seen = ByPath::new(alloc);
     let mut made = List::new(alloc);
     for one in asked {
-        let found = first_repeated(alloc, &mut seen, one)?;
-        made.push(found)?;
+        pushed(&mut made, first_repeated(alloc, &mut seen, one))?;
     }
     Ok(made)
 }

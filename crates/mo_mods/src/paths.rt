@@ -7,6 +7,7 @@ ghost use Rattle.mo_scope.specs.Sights.{listing_seen};
 ghost use Rattle.mo_mods.specs.PathSights.{having_seen, lists_held, lists_or_none};
 ghost use Rattle.mo_mods.specs.Calls.{HoldsListAlso, has_list, has_other_list};
 
+use crate::answers::{put_by_key, with_item};
 use mo_scope::Listing;
 use mo_syntax::{List, NoMemory, Text};
 use std::alloc::Global;
@@ -126,10 +127,8 @@ impl<'s, 't> ByPath<'s, 't> {
     ) -> Result<(), NoMemory>
         ensures { OnOk result (HoldsListAlso self.old self.new key.items (listing_seen listing.now)) }
     {
-        let mut group = or_none(alloc, self.lists.remove(key.as_slice()));
-        group.push(Having { listing })?;
-        self.lists.insert(key, group)?;
-        Ok(())
+        let group = or_none(alloc, self.lists.remove(key.as_slice()));
+        put_by_key(&mut self.lists, key, with_item(group, Having { listing }))
     }
 
     /// Whether a list is under a key.

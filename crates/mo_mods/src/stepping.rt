@@ -3,15 +3,17 @@ ghost use Rattle.std.specs.Prelude.{◌≡◌, List as Seq, option_map, IfOk};
 ghost use Rattle.std.specs.List.{list_any};
 ghost use Rattle.mo_scope.specs.Frames.{Frame};
 ghost use Rattle.mo_scope.specs.Worlds.{World};
+ghost use Rattle.mo_mods.specs.declared.env.MergedEnv.{out-MergedEnv};
 ghost use Rattle.mo_mods.specs.Merged.{nothing_merged};
 ghost use Rattle.mo_mods.specs.Scopes.{ScopesExist};
 ghost use Rattle.mo_mods.specs.Sights.{below_seen, merged_in, redeclared_in, value_in};
 ghost use Rattle.mo_mods.specs.Steps.{entered_below as below_entered, entered_table, entered_value as value_entered, rest_of as rest_of_marks, stepped, with_index as pending_with_index};
 ghost use Rattle.mo_mods.specs.Calls.{IsSteppedIn, StandsSteppedIn};
 
-use crate::env::{MergedEnv, MergedValue, RedeclaredAt, put};
+use crate::answers::put_under;
+use crate::env::{MergedEnv, MergedValue, RedeclaredAt, table_of, value_of};
 use mo_scope::{copied, copied_scope, extend};
-use mo_syntax::{List, NoMemory, Text, both};
+use mo_syntax::{List, NoMemory, Text};
 use std::alloc::Global;
 use std::collections::BTreeMap;
 
@@ -55,17 +57,12 @@ fn entered_value<'t>(
     ensures { IfOk result (λ made. (frames : Seq Frame) → value_in frames made ≡ value_entered index.now (value_in frames value.now)) }
 {
     let marks = rest_of(value.each.as_slice());
-    let (pending, scope) = both(
+    value_of(
+        value.value,
         with_index(alloc, index, marks, value.pending.as_slice()),
         copied_scope(alloc, &value.scope),
-    )?;
-    let each = copied(alloc, marks)?;
-    Ok(MergedValue {
-        value: value.value,
-        scope,
-        pending,
-        each,
-    })
+        copied(alloc, marks),
+    )
 }
 
 /// A value that may be missing, entered at an index.
@@ -101,29 +98,23 @@ fn copied_redeclared<'t>(
     }
 }
 
-/// A table, each of its values entered at an index.
-#[cycle(entered)]
+/// A table with such parts below, its value entered at an index.
 fn entered_env<'t>(
     alloc: Global,
     env: &MergedEnv<'t>,
     index: &[u32],
+    below: Result<BTreeMap<&'t str, MergedEnv<'t>>, NoMemory>,
 ) -> Result<MergedEnv<'t>, NoMemory>
-    ensures { IfOk result (λ made. (frames : Seq Frame) → merged_in frames made ≡ entered_table index.now (merged_in frames env.now)) }
+    ensures { IfOk result (λ made. (frames : Seq Frame) → IfOk below.entry (λ below. below_seen frames below.entries ≡ below_entered index.now (below_seen frames (out-MergedEnv env.now).below.entries)) → merged_in frames made ≡ entered_table index.now (merged_in frames env.now)) }
 {
-    let (value, redeclared) = both(
+    table_of(
         entered_option(alloc, &env.value, index),
         copied_redeclared(alloc, &env.redeclared),
-    )?;
-    let below = entered_below(alloc, &env.below, index)?;
-    Ok(MergedEnv {
-        value,
-        redeclared,
         below,
-    })
+    )
 }
 
 /// Tables by name, each entered at an index.
-#[cycle(entered)]
 fn entered_below<'t>(
     alloc: Global,
     below: &BTreeMap<&'t str, MergedEnv<'t>>,
@@ -133,8 +124,8 @@ fn entered_below<'t>(
 {
     let mut made = BTreeMap::new(alloc);
     for (name, env) in below.iter() {
-        let env = entered_env(alloc, env, index)?;
-        put(&mut made, *name, env)?;
+        let more = entered_below(alloc, &env.below, index);
+        put_under(&mut made, *name, entered_env(alloc, env, index, more))?;
     }
     Ok(made)
 }
@@ -158,13 +149,11 @@ fn stepped_env<'t>(
 ) -> Result<MergedEnv<'t>, NoMemory>
     ensures { IfOk result (λ made. (frames : Seq Frame) → merged_in frames made ≡ stepped index.now (merged_in frames env.now)) }
 {
-    let value = entered_option(alloc, &env.value, index)?;
-    let below = entered_below(alloc, &env.below, index)?;
-    Ok(MergedEnv {
-        value,
-        redeclared: None,
-        below,
-    })
+    table_of(
+        entered_option(alloc, &env.value, index),
+        Ok(None),
+        entered_below(alloc, &env.below, index),
+    )
 }
 
 impl<'t> MergedEnv<'t> {

@@ -13,10 +13,7 @@ abbrev pub decreases-elements-loop-name : goal.decreases-elements-loop-name
 decreases-elements-loop-name l = btree_map_len l.left
 
 abbrev pub decreases-element : goal.decreases-element
-decreases-element l = 3 * l.names + 0
+decreases-element l = 2 * l.names + 0
 
 abbrev pub decreases-elements : goal.decreases-elements
-decreases-elements l = 3 * l.names + 1
-
-abbrev pub decreases-merged : goal.decreases-merged
-decreases-merged l = 3 * l.names + 2
+decreases-elements l = 2 * l.names + 1

@@ -12,12 +12,15 @@ pub loop-one-init : goal.loop-one-init
 loop-one-init c = (has_none c.new-seen.result c.new-seen.ensures, ap (λ made. made ++ all_repeated [] (map asked_seen c.args.asked.now)) c.new-made.ensures)
 
 pub loop-one-preserved : goal.loop-one-preserved
-loop-one-preserved c = (
-  subst (HasPaths c.first_repeated.new.seen) (ap all_paths (sym (taken asked_seen c.args.asked.now c.loop-one.one-index c.one-item.result c.loop-one-test.true c.one-item.is)))
-      (c.in_ok-found.ensures.has (map asked_seen (take c.loop-one.one-index c.args.asked.now)) c.loop-one.invariant.0),
-  repeats_more asked_seen c.args.asked.now c.loop-one.one-index c.one-item.result c.loop-one-test.true c.one-item.is c.loop-one.made c.push.new.self c.in_ok-found.found _
-      (c.in_ok-found.ensures.is (map asked_seen (take c.loop-one.one-index c.args.asked.now)) c.loop-one.invariant.0) c.in_ok-push.ensures.ok c.loop-one.invariant.1,
-)
+loop-one-preserved c =
+    let pushed = c.in_ok-pushed.ensures.value in
+    let is = rw pushed.1 at c.first_repeated.ensures.is in
+    let has = rw pushed.1 at c.first_repeated.ensures.has in (
+      subst (HasPaths c.first_repeated.new.seen) (ap all_paths (sym (taken asked_seen c.args.asked.now c.loop-one.one-index c.one-item.result c.loop-one-test.true c.one-item.is)))
+          (has (map asked_seen (take c.loop-one.one-index c.args.asked.now)) c.loop-one.invariant.0),
+      repeats_more asked_seen c.args.asked.now c.loop-one.one-index c.one-item.result c.loop-one-test.true c.one-item.is c.loop-one.made c.pushed.new.list pushed.0 _
+          (is (map asked_seen (take c.loop-one.one-index c.args.asked.now)) c.loop-one.invariant.0) pushed.2 c.loop-one.invariant.1,
+    )
 
 pub returns : goal.returns
 returns c =
