@@ -1,105 +1,119 @@
 use super::*;
-use mo_syntax::{List, NoMemory, Text};
+use mo_syntax::{List, NoMemory, Text, both, pushed};
 use std::alloc::Global;
-use std::test::Fail;
-use std::{env, fs, io};
+use std::io;
+use std::process::Abort;
 
-fn files(alloc: Global) -> Result<List<(Text, List<u8>)>, NoMemory> {
+/// The files that shelves hold: of two files of one name the first counts.
+const HELD: [(&str, &str); 3] = [("a.mo", "model"), ("b.mo", ""), ("a.mo", "second")];
+
+fn file(alloc: Global, name: &str, text: &str) -> Result<(Text, List<u8>), NoMemory> {
+    let bytes = Vec::from_slice(alloc, text.as_bytes())?;
+    both(Text::from_str(alloc, name), Ok(List::from_vec(bytes)))
+}
+
+fn held(alloc: Global) -> Result<List<(Text, List<u8>)>, NoMemory> {
     let mut files = List::new(alloc);
-    for (name, text) in [("a.mo", "model"), ("b.mo", ""), ("a.mo", "second")] {
-        let bytes = Vec::from_slice(alloc, text.as_bytes())?;
-        files.push((Text::from_str(alloc, name)?, List::from_vec(bytes)))?;
+    for (name, text) in HELD {
+        pushed(&mut files, file(alloc, name, text))?;
     }
     Ok(files)
 }
 
-#[test]
-fn reads_whole_names(rt: HostRuntime) -> Result<(), Fail> {
-    let alloc = rt.alloc();
-    let cases: [(&str, u64, usize, &[u64], Result<&str, ReadStop>); 7] = [
-        ("a.mo", 5, 2, &[], Ok("model")),
-        ("a.mo", 4, 2, &[], Err(ReadStop::TooLong)),
-        ("a.mo", 5, 2, &[3], Err(ReadStop::ReadFault)),
-        ("a.mo", 5, 5000, &[2], Err(ReadStop::ReadFault)),
-        ("a.mo", 5, 5000, &[3], Ok("model")),
-        ("b.mo", 0, 1, &[], Ok("")),
-        ("c.mo", 9, 1, &[], Err(ReadStop::ReadFault)),
-    ];
-    for (name, limit, most, failing, want) in cases {
-        assert!(rt; most > 0);
-        let failing = List::from_vec(Vec::from_slice(alloc, failing)?);
-        let mut shelf = MemoryShelf::new(files(alloc)?, most, failing);
-        match (read_all(alloc, &mut shelf, name, limit), want) {
-            (Ok(bytes), Ok(text)) => assert_eq!(rt; bytes.as_slice(), text.as_bytes()),
-            (Err(stop), Err(expected)) => assert_eq!(rt; stop, expected, "{name} up to {limit}"),
-            _ => panic!(rt; "{name} up to {limit}"),
-        }
+fn numbers(alloc: Global, numbers: &[u64]) -> Result<List<u64>, NoMemory> {
+    Ok(List::from_vec(Vec::from_slice(alloc, numbers)?))
+}
+
+/// A shelf that gives one byte more than that in a read.
+fn shelf(alloc: Global, more: u32, failing: &[u64]) -> Result<MemoryShelf, NoMemory> {
+    let (files, failing) = both(held(alloc), numbers(alloc, failing))?;
+    Ok(MemoryShelf::new(files, more as usize + 1, failing))
+}
+
+/// A name, the limit, how many bytes a read gives beyond one, the reads that fail; what is read.
+type Read = (
+    &'static str,
+    u64,
+    u32,
+    &'static [u64],
+    Result<&'static str, ReadStop>,
+);
+
+const READS: [Read; 7] = [
+    ("a.mo", 5, 1, &[], Ok("model")),
+    ("a.mo", 4, 1, &[], Err(ReadStop::TooLong)),
+    ("a.mo", 5, 1, &[3], Err(ReadStop::ReadFault)),
+    ("a.mo", 5, 4999, &[2], Err(ReadStop::ReadFault)),
+    ("a.mo", 5, 4999, &[3], Ok("model")),
+    ("b.mo", 0, 0, &[], Ok("")),
+    ("c.mo", 9, 0, &[], Err(ReadStop::ReadFault)),
+];
+
+fn is_wanted(rt: &impl Abort, read: &Result<List<u8>, ReadStop>, wanted: Result<&str, ReadStop>) {
+    match (read, wanted) {
+        (Ok(bytes), Ok(text)) => assert_eq!(rt; bytes.as_slice(), text.as_bytes()),
+        (Err(stop), Err(other)) => assert_eq!(rt; *stop, other),
+        _ => panic!(rt; "another answer"),
     }
-    let mut quiet = QuietShelf::new(files(alloc)?);
-    assert_eq!(rt;
-        read_all(alloc, &mut quiet, "a.mo", 5)?.as_slice(),
-        b"model".as_slice()
-    );
-    assert_eq!(rt;
-        read_all(alloc, &mut quiet, "c.mo", 0)?.as_slice(),
-        b"".as_slice()
-    );
+}
+
+fn is_read(rt: &impl Abort, alloc: Global, row: &Read) -> Result<(), NoMemory> {
+    let mut shelf = shelf(alloc, row.2, row.3)?;
+    let read = read_all(alloc, &mut shelf, row.0, row.1);
+    is_wanted(rt, &read, row.4);
     Ok(())
 }
 
 #[test]
-fn writes_whole_texts(rt: HostRuntime) -> Result<(), Fail> {
-    let alloc = rt.alloc();
-    let text = b"end of the model";
-    let cases: [(usize, usize, &[u64], bool, &str); 5] = [
-        (16, 16, &[], true, "end of the model"),
-        (20, 1, &[17], true, "end of the model"),
-        (16, 6, &[2], false, "end of"),
-        (16, 6, &[1], false, ""),
-        (15, 9, &[], false, "end of the mode"),
-    ];
-    for (room, most, failing, whole, want) in cases {
-        assert!(rt; most > 0);
-        let failing = List::from_vec(Vec::from_slice(alloc, failing)?);
-        let mut sink = MemorySink::new(alloc, room, most, failing)?;
-        assert_eq!(rt;
-            put_all(&mut sink, text).is_ok(),
-            whole,
-            "room {room}, {most} a write"
-        );
-        assert_eq!(rt;
-            sink.bytes(),
-            want.as_bytes(),
-            "room {room}, {most} a write"
-        );
+fn reads_whole_names(rt: HostRuntime) -> Result<(), NoMemory> {
+    for row in &READS {
+        is_read(&rt, rt.alloc(), row)?;
     }
-    assert!(rt; put_all(&mut QuietSink::new(), text).is_ok());
     Ok(())
 }
 
 #[test]
-fn reads_files_of_the_system(rt: HostRuntime) -> Result<(), Fail> {
-    let alloc = rt.alloc();
-    let folder = env::temp_dir(&rt)?;
-    let path = format!(in alloc;
-        "{}/rohikape_ports_{}.mo",
-        folder.display(),
-        std::process::id(rt.process())
-    )?;
-    let mut text = Vec::new(alloc);
-    for _ in 0..1000 {
-        text.extend_from_slice(b"Real x;\n")?;
-    }
-    fs::write(&rt, path.as_str(), text.as_slice())?;
-    let mut shelf = FileShelf::new(&rt);
-    let read = read_all(alloc, &mut shelf, path.as_str(), 8000);
-    let long = read_all(alloc, &mut shelf, path.as_str(), 7999);
-    fs::remove_file(&rt, path.as_str())?;
-    let absent = read_all(alloc, &mut shelf, path.as_str(), 8000);
-    assert_eq!(rt; read?.as_slice(), text.as_slice());
-    assert_eq!(rt; long.map(|bytes| bytes.len()), Err(ReadStop::TooLong));
-    assert_eq!(rt; absent.map(|bytes| bytes.len()), Err(ReadStop::ReadFault));
+fn reads_quietly(rt: HostRuntime) -> Result<(), NoMemory> {
+    let mut quiet = QuietShelf::new(held(rt.alloc())?);
+    let read = read_all(rt.alloc(), &mut quiet, "a.mo", 5);
+    is_wanted(&rt, &read, Ok("model"));
     Ok(())
+}
+
+/// The room, how many bytes a write takes beyond one, the writes that fail; whether the text is written whole, and what is.
+type Write = (usize, u32, &'static [u64], bool, &'static str);
+
+const WRITES: [Write; 5] = [
+    (16, 15, &[], true, "end of the model"),
+    (20, 0, &[17], true, "end of the model"),
+    (16, 5, &[2], false, "end of"),
+    (16, 5, &[1], false, ""),
+    (15, 8, &[], false, "end of the mode"),
+];
+
+fn sink(alloc: Global, room: usize, more: u32, failing: &[u64]) -> Result<MemorySink, NoMemory> {
+    let failing = numbers(alloc, failing)?;
+    MemorySink::new(alloc, room, more as usize + 1, failing)
+}
+
+fn is_written(rt: &impl Abort, alloc: Global, row: &Write) -> Result<(), NoMemory> {
+    let mut sink = sink(alloc, row.0, row.1, row.2)?;
+    assert_eq!(rt; put_all(&mut sink, b"end of the model").is_ok(), row.3);
+    assert_eq!(rt; sink.bytes(), row.4.as_bytes());
+    Ok(())
+}
+
+#[test]
+fn writes_whole_texts(rt: HostRuntime) -> Result<(), NoMemory> {
+    for row in &WRITES {
+        is_written(&rt, rt.alloc(), row)?;
+    }
+    Ok(())
+}
+
+#[test]
+fn writes_quietly(rt: HostRuntime) {
+    assert!(rt; put_all(&mut QuietSink::new(), b"model").is_ok());
 }
 
 // A writer that takes one byte a write, and none after `left` of them; it flushes only if it is told to.
@@ -131,7 +145,7 @@ impl io::Write for Narrow {
 fn writes_to_a_writer(rt: HostRuntime) {
     for (left, flushes, whole) in [(5, true, true), (4, true, false), (5, false, false)] {
         let mut sink = StdSink::new(Narrow { left, flushes });
-        assert_eq!(rt; put_all(&mut sink, b"model").is_ok(), whole, "{left} bytes");
+        assert_eq!(rt; put_all(&mut sink, b"model").is_ok(), whole);
     }
     let mut steps = Steps::new(());
     steps.tick();
