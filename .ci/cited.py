@@ -8,8 +8,8 @@
 - each block of text behind a line `<!-- examples/NAME -->` is that file, and the stored run of mofront is README.md's example;
 - the numbers and texts of the rules in docs/RULES.md are those of the definition, and of the names of rules, all of them, in order;
 - the definitions that the program's contract stands on are those that the table of docs/PROVED.md lists;
-- README.md's map names each crate of crates.txt, and docs/ARCHITECTURE.md has a paragraph or a row of each, in the order of crates.txt with
-  the crates of tests at the end.
+- README.md's map names each crate of crates.txt, and docs/ARCHITECTURE.md has a row and a paragraph of each, in the order of crates.txt;
+- the gate runs each file of cases, and docs/ARCHITECTURE.md has a row of each, in the order of the runs.
 
 With --reading it prints these definitions instead, each behind those that it cites.
 """
@@ -106,13 +106,20 @@ def faults_of_crates():
         if name not in mapped:
             yield f"README.md: the map has no {name}"
     text = (TOP / "docs/ARCHITECTURE.md").read_text()
-    wanted = [name for name in crates if not name.endswith("_tests")]
-    tests = [name for name in crates if name.endswith("_tests")]
     table = re.findall(r"^\| (mo\w+) \|", text.split("## Where to begin")[-1].split("## What cuts across")[0], re.M)
-    rows = re.findall(r"^\| (mo\w+) \|", text.split("## Crates of tests")[-1], re.M)
-    for some, order in (table, wanted), (re.findall(r"^## (mo\w+)$", text, re.M), wanted), (rows, tests):
+    for some in table, re.findall(r"^## (mo\w+)$", text, re.M):
+        if some != crates:
+            yield f"docs/ARCHITECTURE.md: {' '.join(some)} in place of {' '.join(crates)}"
+
+
+def faults_of_cases():
+    cases = TOP / "crates/mo_cases"
+    run = re.findall(r"^(\w+)\.cases$", (cases / "args").read_text(), re.M)
+    files = [path.stem for path in sorted(cases.glob("data/*"))]
+    rows = re.findall(r"^\| (\w+) \|", (TOP / "docs/ARCHITECTURE.md").read_text().split("## Tests and cases")[-1], re.M)
+    for where, some, order in ("crates/mo_cases/args", sorted(run), files), ("docs/ARCHITECTURE.md", rows[1:], run):
         if some != order:
-            yield f"docs/ARCHITECTURE.md: {' '.join(some)} in place of {' '.join(order)}"
+            yield f"{where}: {' '.join(some)} in place of {' '.join(order)}"
 
 
 def main():
@@ -123,7 +130,7 @@ def main():
     known = clauses()
     pages = [TOP / "README.md", *(page for part in ("docs", "bench", "examples") for page in sorted(TOP.glob(part + "/*.md")))]
     faults = [f"{page.relative_to(TOP)}: {fault}" for page in pages for fault in faults_of(page, known)]
-    faults += [*faults_of_run(), *faults_of_rules(), *faults_of_reading(), *faults_of_crates()]
+    faults += [*faults_of_run(), *faults_of_rules(), *faults_of_reading(), *faults_of_crates(), *faults_of_cases()]
     for fault in faults:
         print(fault, file=sys.stderr)
     return 1 if faults else 0

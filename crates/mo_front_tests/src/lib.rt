@@ -1,26 +1,12 @@
-//! Tests of the program: what a run over files in memory writes, and how it ends.
+//! Tests of the program where reads and writes fail, and of a library that is cut short.
 //!
-//! Begin with `src/worked_rows.rt`. What each module tests, and what this crate may not know, is told in docs/ARCHITECTURE.md,
-//! Crates of tests.
+//! Begin with `src/faults.rt`. What this crate may not know ends its paragraph in docs/ARCHITECTURE.md; what runs write
+//! whose reads and writes are done is tested by the cases of mo_cases.
 #![tactic(auto)]
 
 #[cfg(test)]
-mod causes;
+mod circuit;
 #[cfg(test)]
-mod device_rows;
-#[cfg(test)]
-mod flat_rows;
-#[cfg(test)]
-mod ladder_rows;
-#[cfg(test)]
-mod large_models;
+mod faults;
 #[cfg(test)]
 mod running;
-#[cfg(test)]
-mod structure_rows;
-#[cfg(test)]
-mod verdict_rows;
-#[cfg(test)]
-mod word_rows;
-#[cfg(test)]
-mod worked_rows;

@@ -1,0 +1,129 @@
+//! What comes of a case.
+ghost use Rattle.mo_grammar.specs.Lexeme.{lexemes};
+ghost use Rattle.mo_parse_class.specs.WholeFiles.{EndsAtEnd};
+
+use crate::telling::put_number;
+use mo_front::run;
+use mo_lexer::tokens;
+use mo_parse_body::{class_mod, equation_item, statement};
+use mo_parse_class::stored_definition;
+use mo_parse_expr::expression;
+use mo_ports::{MemoryShelf, MemorySink};
+use mo_syntax::{ClassDef, FileTree, List, NoMemory, Stop, Text, Token};
+use mo_unparse::{class_text, expr_text};
+use std::alloc::Global;
+
+/// The most bytes that a case writes.
+const ROOM: usize = 1_048_576;
+
+/// How a run ended, and what it wrote.
+#[derive(Drop)]
+pub(crate) struct Ran {
+    pub status: u8,
+    pub text: Vec<u8>,
+}
+
+/// The run with these words over these files.
+fn run_over(
+    alloc: Global,
+    words: &[String],
+    files: List<(Text, List<u8>)>,
+) -> Result<Ran, NoMemory> {
+    let mut sink = MemorySink::new(alloc, ROOM, 4096, List::new(alloc))?;
+    let mut shelf = MemoryShelf::new(files, 4096, List::new(alloc));
+    let status = run(alloc, words, &mut shelf, &mut sink);
+    Ok(Ran {
+        status: status.number(),
+        text: Vec::from_slice(alloc, sink.bytes())?,
+    })
+}
+
+/// Writes a class with a semicolon and a line feed behind it.
+fn put_class(alloc: Global, out: &mut Vec<u8>, class: &ClassDef) -> Result<(), NoMemory> {
+    let text = class_text(alloc, class)?;
+    out.extend_from_slice(text.as_str().as_bytes())?;
+    Ok(out.extend_from_slice(b";\n")?)
+}
+
+fn put_classes(alloc: Global, out: &mut Vec<u8>, tree: &FileTree) -> Result<(), NoMemory> {
+    for class in tree.classes.as_slice() {
+        put_class(alloc, out, class)?;
+    }
+    Ok(())
+}
+
+/// The classes of a file whose tokens are these, as text.
+fn put_file(alloc: Global, out: &mut Vec<u8>, tokens: &[Token]) -> Result<(), Stop>
+    requires { EndsAtEnd (lexemes tokens.now) }
+{
+    let tree = stored_definition(alloc, tokens)?;
+    Ok(put_classes(alloc, out, &tree)?)
+}
+
+/// The expression that these tokens begin with, as text.
+fn put_expression(alloc: Global, out: &mut Vec<u8>, tokens: &[Token]) -> Result<(), Stop> {
+    let (tree, _) = expression(alloc, tokens, 0, 0)?;
+    let text = expr_text(alloc, &tree)?;
+    Ok(out.extend_from_slice(text.as_str().as_bytes())?)
+}
+
+/// How many tokens were read.
+fn count<T: Drop>(read: Result<(T, usize), Stop>) -> Result<usize, Stop> {
+    let (_tree, behind) = read?;
+    Ok(behind)
+}
+
+/// Writes what is asked of the tokens of a text by that word: `print` its classes, `expression` the expression that it begins with;
+/// `modifiers`, `equation` and `statement` how many tokens such a part at its begin has.
+fn put_read(alloc: Global, out: &mut Vec<u8>, word: &str, tokens: &[Token]) -> Result<(), Stop>
+    requires { EndsAtEnd (lexemes tokens.now) }
+{
+    match word {
+        "expression" => put_expression(alloc, out, tokens),
+        "modifiers" => Ok(put_number(out, count(class_mod(alloc, tokens, 0, 0))?)?),
+        "equation" => Ok(put_number(out, count(equation_item(alloc, tokens, 0, 0))?)?),
+        "statement" => Ok(put_number(out, count(statement(alloc, tokens, 0, 0))?)?),
+        _ => put_file(alloc, out, tokens),
+    }
+}
+
+/// Writes what is asked of a text by that word.
+fn put_asked(alloc: Global, out: &mut Vec<u8>, word: &str, text: &str) -> Result<(), Stop> {
+    if text.len() > ROOM {
+        return Err(Stop::NoMemory);
+    }
+    let list = tokens(alloc, 1, text)?;
+    put_read(alloc, out, word, list.as_slice())
+}
+
+/// What is asked of a text by that word; status 1 where the text breaks a rule.
+fn asked(alloc: Global, word: &str, bytes: &[u8]) -> Result<Ran, NoMemory> {
+    let mut text = Vec::new(alloc);
+    match put_asked(alloc, &mut text, word, str::from_utf8(bytes).unwrap_or("")) {
+        Ok(()) => Ok(Ran { status: 0, text }),
+        Err(Stop::Broken(_)) => Ok(Ran { status: 1, text }),
+        Err(Stop::NoMemory) => Err(NoMemory),
+    }
+}
+
+/// Whether the word asks for what is read of a text, and not for a run.
+fn is_asked(word: &str) -> bool {
+    matches!(
+        word,
+        "print" | "expression" | "modifiers" | "equation" | "statement"
+    )
+}
+
+/// What comes of a case: what its first word asks of its first file, or the run with its words.
+pub(crate) fn answer(
+    alloc: Global,
+    words: &[String],
+    files: List<(Text, List<u8>)>,
+) -> Result<Ran, NoMemory> {
+    match (words.get(0), files.get(0)) {
+        (Some(word), Some((_, bytes))) if is_asked(word.as_str()) => {
+            asked(alloc, word.as_str(), bytes.as_slice())
+        }
+        _ => run_over(alloc, words, files),
+    }
+}

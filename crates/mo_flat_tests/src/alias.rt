@@ -1,4 +1,0 @@
-//! Alias elimination: flat models with the text of their aliases.
-
-mod models;
-mod texts;

@@ -1,3 +1,0 @@
-//! The texts of flat models: expressions, each form of line, and a circuit.
-
-mod texts;

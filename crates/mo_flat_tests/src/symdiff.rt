@@ -1,5 +1,0 @@
-//! Derivatives and reduced models.
-
-mod derivative_rows;
-mod postfix;
-mod reduced_rows;
