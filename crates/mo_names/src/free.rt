@@ -1,7 +1,7 @@
 //! Lookup where no class is having its bases found.
 #![tactic(auto, using(crate::proofs::Later::later))]
 
-ghost use Rattle.std.specs.Prelude.{◌≡◌, false, None, IfOk};
+ghost use Rattle.std.specs.Prelude.{◌≡◌, false, None, IfOk, IfSome};
 ghost use Rattle.mo_scope.specs.Lookup.{asking_of, behind_class as found_behind_class, class_named as named_class, reached as reached_of};
 ghost use Rattle.mo_scope.specs.Outcome.{Gives};
 ghost use Rattle.mo_scope.specs.Rows.{number_of_classes};
@@ -18,7 +18,7 @@ use crate::kept::walk_kept;
 use crate::settled::walked_once;
 use crate::walk::Walk;
 use mo_scope::{ScopeAt, Scopes};
-use mo_syntax::{FrameId, NoMemory, Place, Reference, Stop, Text};
+use mo_syntax::{FrameId, NoMemory, Part as Identifier, Place, Reference, Stop, Text};
 use std::alloc::Global;
 
 /// How many classes there are, the predefined types among them.
@@ -209,20 +209,82 @@ pub(crate) fn first_at<'t>(
     first_by_lookup(alloc, s, at, top, name, place)
 }
 
-/// Keeps elements before the first identifier of the name of a class is looked up in a frame.
-fn keep_for_class(
+/// The class that the first identifier of a name finds, None where it finds no class.
+fn class_found_first(
+    alloc: Global,
+    s: &mut Scopes,
+    at: &ScopeAt,
+    top: bool,
+    part: &Identifier,
+) -> Option<FrameId>
+    requires { IsFrame s.old at.now.frame.0 }
+    ensures grows { Grows s.old s.new }
+    ensures stand { IfSome result (λ class. IsFrame s.new class.0) }
+{
+    match first_at(alloc, s, at, top, &part.name, part.place) {
+        Ok(
+            Met {
+                found: Found::Class(class, _),
+                ..
+            },
+        ) => Some(class),
+        _ => None,
+    }
+}
+
+/// The class that one more identifier finds, None where it finds no class.
+fn class_found_behind(
     alloc: Global,
     s: &mut Scopes,
     frame: FrameId,
-    reference: &Reference,
-) -> Result<(), NoMemory>
+    part: &Identifier,
+) -> Option<FrameId>
     requires { IsFrame s.old frame.0 }
+    ensures grows { Grows s.old s.new }
+    ensures stand { IfSome result (λ class. IsFrame s.new class.0) }
+{
+    match behind_class_at(alloc, s, frame, &part.name, part.place) {
+        Ok(Found::Class(class, _)) => Some(class),
+        _ => None,
+    }
+}
+
+/// Keeps elements before further identifiers are looked up, each in the class that the one before it finds.
+fn keep_behind(alloc: Global, s: &mut Scopes, first: FrameId, parts: &[Identifier])
+    requires { IsFrame s.old first.0 }
     ensures { Grows s.old s.new }
 {
-    match reference.parts.get(0) {
-        Some(part) => keep_for_name(alloc, s, reference.top, frame, &part.name),
-        None => Ok(()),
+    let mut frame = first;
+    for part in parts {
+        match class_found_behind(alloc, s, frame, part) {
+            Some(class) => frame = class,
+            None => return,
+        }
     }
+}
+
+/// Keeps elements before the identifiers of the name of a class are looked up in a scope, so that no base on the way is walked twice.
+fn keep_for_class(
+    alloc: Global,
+    s: &mut Scopes,
+    at: &ScopeAt,
+    reference: &Reference,
+) -> Result<(), NoMemory>
+    requires { IsFrame s.old at.now.frame.0 }
+    ensures { Grows s.old s.new }
+{
+    let parts = reference.parts.as_slice();
+    if parts.is_empty() {
+        return Ok(());
+    }
+    let first = &parts[0];
+    if parts.len() == 1 {
+        return keep_for_name(alloc, s, reference.top, at.frame, &first.name);
+    }
+    if let Some(class) = class_found_first(alloc, s, at, reference.top, first) {
+        keep_behind(alloc, s, class, &parts[1..]);
+    }
+    Ok(())
 }
 
 /// The class that the name of a type or a constraining class finds by a lookup.
@@ -258,6 +320,6 @@ pub(crate) fn class_named_at(
     ensures value { Gives (classed_seen (frames_of s.new)) result (named_class (table_in s.old) (asking_of (table_in s.old)) false (scope_at s.old at.now) reference.now) }
     ensures stand { IfOk result (λ class. IsFrame s.new class.frame.0) }
 {
-    keep_for_class(alloc, s, at.frame, reference)?;
+    keep_for_class(alloc, s, at, reference)?;
     class_by_lookup(alloc, s, at, reference)
 }
