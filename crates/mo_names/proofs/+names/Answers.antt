@@ -1,7 +1,7 @@
 -- One step further.
 use Rattle.mo_names.proofs.Circling.{is_busy_still, none_left, walked_further, drop_map, left_from, loop_err, names_step, then_ok, told_of, package_names_step, exit_err, later_gives, package_is, star_is, left_read, in_frame_is, around_less, err_on, class_names_step, class_is}
 use Rattle.mo_names.proofs.HandedOn.{any_met_told, behind_told, ends_give, go_next, goes_on_around, imported_is, inherited_told, open_told, option_later, outwards_told, through_star_told, walked_told}
-use Rattle.mo_names.proofs.Later.{grows_trans, grows_refl, table_later, is_frame_later, is_walk_later}
+use Rattle.mo_names.proofs.Later.{grows_refl, grows_trans, is_frame_later, is_walk_later, table_later}
 use Rattle.mo_names.proofs.Naming.{class_named_is}
 use Rattle.mo_names.proofs.Outcomes.{gives_same, exit_same, then_same_ok}
 use Rattle.mo_names.proofs.OwnElements.{counted_next, own_part, own_part_later}
@@ -405,3 +405,117 @@ bases::walked_class-returns-clause-value t c =
     gives_same _ c.walk_checked.result _ _
     (then_ok (started F row) (λ w. and_then (parts_walked (table_in c.args.s.now) A F row 0 (parts_of row) w) leaf_checked) W _ (class_is (table_in c.args.s.now) A F row) c.in_ok-walk.ensures.value)
     (c.walk_checked.ensures.value _ c.walked_parts-done.ensures.value)
+
+pub bases::base_elements-returns-in_err-walked-clause-grows : goal.bases::base_elements-returns-in_err-walked-clause-grows
+bases::base_elements-returns-in_err-walked-clause-grows t c = grows_trans _ _ _ c.in_ok-base.ensures.grows c.in_err-walked.ensures.grows
+
+pub bases::base_elements-returns-clause-grows : goal.bases::base_elements-returns-clause-grows
+bases::base_elements-returns-clause-grows t c = grows_trans _ _ _ c.in_ok-base.ensures.grows c.in_ok-walked.ensures.grows
+
+pub bases::base_found-returns-then-is_none-clause-grows : goal.bases::base_found-returns-then-is_none-clause-grows
+bases::base_found-returns-then-is_none-clause-grows t c = grows_refl _
+
+pub bases::base_found-returns-in_err-base_entered-clause-grows : goal.bases::base_found-returns-in_err-base_entered-clause-grows
+bases::base_found-returns-in_err-base_entered-clause-grows t c = grows_trans _ _ _ c.in_ok-class.ensures.grows c.in_err-base_entered.ensures.grows
+
+pub bases::base_found-returns-clause-grows : goal.bases::base_found-returns-clause-grows
+bases::base_found-returns-clause-grows t c = grows_trans _ _ _ c.in_ok-class.ensures.grows c.in_ok-base_entered.ensures.grows
+
+pub bases::class_first-returns-in-None-clause-grows : goal.bases::class_first-returns-in-None-clause-grows
+bases::class_first-returns-in-None-clause-grows t c = grows_refl _
+
+pub bases::class_named-returns-clause-grows : goal.bases::class_named-returns-clause-grows
+bases::class_named-returns-clause-grows t c = grows_trans _ _ _ c.in_ok-first.ensures.grows c.class_behind.ensures.grows
+
+pub bases::found_first-returns-in-Some-clause-grows : goal.bases::found_first-returns-in-Some-clause-grows
+bases::found_first-returns-in-Some-clause-grows t c = grows_refl _
+
+pub bases::part_walked-returns-in_err-own_walked-in-Element-clause-grows : goal.bases::part_walked-returns-in_err-own_walked-in-Element-clause-grows
+bases::part_walked-returns-in_err-own_walked-in-Element-clause-grows t c = grows_refl _
+
+pub bases::part_walked-returns-in_ok-own_walked-in-Element-clause-grows : goal.bases::part_walked-returns-in_ok-own_walked-in-Element-clause-grows
+bases::part_walked-returns-in_ok-own_walked-in-Element-clause-grows t c = grows_refl _
+
+pub bases::walked_class-returns-in_err-walk-clause-grows : goal.bases::walked_class-returns-in_err-walk-clause-grows
+bases::walked_class-returns-in_err-walk-clause-grows t c = grows_refl _
+
+pub circle::behind_class-returns-clause-grows : goal.circle::behind_class-returns-clause-grows
+circle::behind_class-returns-clause-grows t c = grows_trans _ _ _ c.reached-any.ensures.grows (grows_trans _ _ _ c.counted_given-counts.ensures.grows c.behind_given.ensures.grows)
+
+pub circle::counted_given-returns-in-Ok-Other-clause-grows : goal.circle::counted_given-returns-in-Ok-Other-clause-grows
+circle::counted_given-returns-in-Ok-Other-clause-grows t c = grows_refl _
+
+pub circle::counted_given-returns-in-Ok-Absent-clause-grows : goal.circle::counted_given-returns-in-Ok-Absent-clause-grows
+circle::counted_given-returns-in-Ok-Absent-clause-grows t c = grows_refl _
+
+pub circle::counted_given-returns-in-Err-clause-grows : goal.circle::counted_given-returns-in-Err-clause-grows
+circle::counted_given-returns-in-Err-clause-grows t c = grows_refl _
+
+pub circle::found_by_import-returns-in-Ok-None-clause-grows : goal.circle::found_by_import-returns-in-Ok-None-clause-grows
+circle::found_by_import-returns-in-Ok-None-clause-grows t c = grows_refl _
+
+pub circle::found_by_import-returns-clause-grows : goal.circle::found_by_import-returns-clause-grows
+circle::found_by_import-returns-clause-grows t c = grows_refl _
+
+pub circle::found_by_imports-returns-in-Ok-None-clause-grows : goal.circle::found_by_imports-returns-in-Ok-None-clause-grows
+circle::found_by_imports-returns-in-Ok-None-clause-grows t c = grows_trans _ _ _ c.in-Ok-None.ensures.grows c.found_by_each-in-Ok-None.ensures.grows
+
+pub circle::found_by_star-returns-in_ok-frame-in-All-clause-grows : goal.circle::found_by_star-returns-in_ok-frame-in-All-clause-grows
+circle::found_by_star-returns-in_ok-frame-in-All-clause-grows t c = grows_trans _ _ _ c.in_ok-frame-in-All.ensures.grows c.through_star.ensures.grows
+
+pub circle::found_by_star-returns-in-Renamed-clause-grows : goal.circle::found_by_star-returns-in-Renamed-clause-grows
+circle::found_by_star-returns-in-Renamed-clause-grows t c = grows_refl _
+
+pub circle::found_by_star-returns-in-Named-clause-grows : goal.circle::found_by_star-returns-in-Named-clause-grows
+circle::found_by_star-returns-in-Named-clause-grows t c = grows_refl _
+
+pub circle::found_by_star-returns-in-Group-clause-grows : goal.circle::found_by_star-returns-in-Group-clause-grows
+circle::found_by_star-returns-in-Group-clause-grows t c = grows_refl _
+
+pub circle::found_element-returns-clause-grows : goal.circle::found_element-returns-clause-grows
+circle::found_element-returns-clause-grows t c = grows_trans _ _ _ c.reached-any.ensures.grows c.element_given.ensures.grows
+
+pub circle::found_in-returns-in-Ok-None-clause-grows : goal.circle::found_in-returns-in-Ok-None-clause-grows
+circle::found_in-returns-in-Ok-None-clause-grows t c = grows_trans _ _ _ c.in-Ok-None.ensures.grows c.met_by_imports.ensures.grows
+
+pub circle::import_step-returns-in_err-frame-clause-grows : goal.circle::import_step-returns-in_err-frame-clause-grows
+circle::import_step-returns-in_err-frame-clause-grows t c = grows_refl _
+
+pub circle::imported-returns-in-empty-clause-grows : goal.circle::imported-returns-in-empty-clause-grows
+circle::imported-returns-in-empty-clause-grows t c = grows_refl _
+
+pub circle::imported-returns-in-Ok-clause-grows : goal.circle::imported-returns-in-Ok-clause-grows
+circle::imported-returns-in-Ok-clause-grows t c = grows_trans _ _ _ c.in-Ok.ensures.grows c.import_behind.ensures.grows
+
+pub circle::imported_package-returns-in-empty-clause-grows : goal.circle::imported_package-returns-in-empty-clause-grows
+circle::imported_package-returns-in-empty-clause-grows t c = grows_refl _
+
+pub circle::is_package-returns-in-Some-clause-grows : goal.circle::is_package-returns-in-Some-clause-grows
+circle::is_package-returns-in-Some-clause-grows t c = grows_refl _
+
+pub circle::is_package-returns-then-is_busy-clause-grows : goal.circle::is_package-returns-then-is_busy-clause-grows
+circle::is_package-returns-then-is_busy-clause-grows t c = grows_refl _
+
+pub circle::package_named-returns-clause-grows : goal.circle::package_named-returns-clause-grows
+circle::package_named-returns-clause-grows t c = grows_trans _ _ _ c.in_ok-first.ensures.grows c.package_behind.ensures.grows
+
+pub circle::reached-returns-in-Some-clause-grows : goal.circle::reached-returns-in-Some-clause-grows
+circle::reached-returns-in-Some-clause-grows t c = grows_refl _
+
+pub circle::through_star-returns-clause-grows : goal.circle::through_star-returns-clause-grows
+circle::through_star-returns-clause-grows t c = grows_trans _ _ _ c.reached-any.ensures.grows (grows_trans _ _ _ c.counted_given-counts.ensures.grows c.star_given.ensures.grows)
+
+pub circle::walked-returns-then-ask-eq0-clause-grows : goal.circle::walked-returns-then-ask-eq0-clause-grows
+circle::walked-returns-then-ask-eq0-clause-grows t c = grows_refl _
+
+pub circle::walked-returns-then-is_busy-clause-grows : goal.circle::walked-returns-then-is_busy-clause-grows
+circle::walked-returns-then-is_busy-clause-grows t c = grows_refl _
+
+pub circle::walked-returns-in_err-depth-clause-grows : goal.circle::walked-returns-in_err-depth-clause-grows
+circle::walked-returns-in_err-depth-clause-grows t c = grows_refl _
+
+pub circle::walked-returns-in_err-busy-clause-grows : goal.circle::walked-returns-in_err-busy-clause-grows
+circle::walked-returns-in_err-busy-clause-grows t c = grows_refl _
+
+pub circle::walked_and_kept-returns-clause-grows : goal.circle::walked_and_kept-returns-clause-grows
+circle::walked_and_kept-returns-clause-grows t c = grows_trans _ _ _ c.walked-walk.ensures.grows c.walk_given.ensures.grows

@@ -7,7 +7,7 @@ use Rattle.mo_scope.specs.Sights.{scope_at}
 use Rattle.mo_names.specs.Past.{first_met}
 use Rattle.mo_names.specs.Sights.{met_seen}
 use Rattle.mo_names.proofs.Circling.{later_gives}
-use Rattle.mo_names.proofs.Later.{frame_later}
+use Rattle.mo_names.proofs.Later.{frame_later, grows_trans}
 use Rattle.mo_names.proofs.free.first_at.Goals as goal
 
 pub returns-clause-value : goal.returns-clause-value
@@ -18,3 +18,6 @@ returns-clause-value c =
     (λ t. first_met t (asking_of t) false c.args.top (scope_at v c.args.at.now) c.args.place c.args.name.now) _ c.in_ok-keep_for_name.ensures c.first_by_lookup.ensures.value
     (ap (λ (f : Frame). first_met (table_in u) (asking_of (table_in u)) false c.args.top (record { frame = f; iterations = c.args.at.now.iters }) c.args.place c.args.name.now)
     (frame_later u v c.args.at.now.frame.0 c.in_ok-keep_for_name.ensures c.requires))
+
+pub returns-clause-grows : goal.returns-clause-grows
+returns-clause-grows c = grows_trans _ _ _ c.in_ok-keep_for_name.ensures c.first_by_lookup.ensures.grows

@@ -5,6 +5,7 @@ use Rattle.mo_scope.specs.Worlds.{frame_at, frames_of, table_in}
 use Rattle.mo_names.specs.Sights.{IsMember, asks, walk_seen}
 use Rattle.mo_names.proofs.Listing.{found_elements, held, held_stand}
 use Rattle.mo_names.proofs.Tables.{asked_elements}
+use Rattle.mo_names.proofs.Later.{grows_refl}
 use Rattle.mo_names.proofs.kept.walk_kept.Goals as goal
 
 pub elements_kept-requires-clause-elements : goal.elements_kept-requires-clause-elements
@@ -16,3 +17,12 @@ elements_kept-requires-clause-elements c =
 pub elements_kept-requires-clause-members : goal.elements_kept-requires-clause-members
 elements_kept-requires-clause-members c =
     subst (Every (IsMember c.args.s.now)) (sym (c.as_slice-2.ensures ∙ c.in_ok-members.ensures ∙ ap held c.as_slice.ensures)) (held_stand c.args.s.now c.args.walk.now.members c.requires.stands.members)
+
+pub returns-then-not-is_free : goal.returns-then-not-is_free
+returns-then-not-is_free c = record { grows = grows_refl _ }
+
+pub returns-then-is_some : goal.returns-then-is_some
+returns-then-is_some c = record { grows = grows_refl _ }
+
+pub returns-in_err-members : goal.returns-in_err-members
+returns-in_err-members c = record { grows = grows_refl _ }

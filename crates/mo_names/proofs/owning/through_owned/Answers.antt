@@ -2,6 +2,7 @@
 use Rattle.std.proofs.Common.{sym, subst}
 use Rattle.mo_names.specs.Sights.{AreThrough}
 use Rattle.mo_names.proofs.OwnedWalks.{Owning, owning_on, turned_through}
+use Rattle.mo_names.proofs.Later.{grows_refl}
 use Rattle.mo_names.proofs.owning.through_owned.Goals as goal
 
 pub loop-base-preserved : goal.loop-base-preserved
@@ -14,3 +15,6 @@ loop-base-preserved c = record {
 
 pub returns-clause-exist : goal.returns-clause-exist
 returns-clause-exist c = subst (AreThrough c.loop-base.s) (sym c.turned.ensures) (turned_through c.loop-base.s c.loop-base.out c.loop-base.invariant.so_far.made)
+
+pub returns-in_err-rest-clause-grows : goal.returns-in_err-rest-clause-grows
+returns-in_err-rest-clause-grows c = grows_refl _

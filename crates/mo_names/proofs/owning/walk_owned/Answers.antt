@@ -22,3 +22,12 @@ returns-clause-stand c =
       leaf = tt;
       names = same_names c.args.walk.members c.in_ok-members.members c.args.walk.names.value (owned_names s u F c.args.walk.members c.in_ok-members.members are) c.requires.walk.names;
     }
+
+pub returns-in_err-bases-clause-grows : goal.returns-in_err-bases-clause-grows
+returns-in_err-bases-clause-grows c = grows_trans _ _ _ c.in_ok-members.ensures.grows c.in_err-bases.ensures.grows
+
+pub returns-in_err-sections-clause-grows : goal.returns-in_err-sections-clause-grows
+returns-in_err-sections-clause-grows c = grows_trans _ _ _ c.in_ok-members.ensures.grows (grows_trans _ _ _ c.in_ok-bases.ensures.grows c.in_err-sections.ensures.grows)
+
+pub returns-clause-grows : goal.returns-clause-grows
+returns-clause-grows c = grows_trans _ _ _ c.in_ok-members.ensures.grows (grows_trans _ _ _ c.in_ok-bases.ensures.grows c.in_ok-sections.ensures.grows)

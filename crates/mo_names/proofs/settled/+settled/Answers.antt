@@ -147,3 +147,24 @@ pub settle-put_settled-requires-clause-owned : goal.settle-put_settled-requires-
 settle-put_settled-requires-clause-owned t c =
     λ alike. class_owned_later c.args.s.now c.class_settled.new.s c.args.frame.0 (walk_at c.class_settled.new.s c.in_ok-made.made.walk) c.in_ok-made.made.classes c.in_ok-made.made.deep
     c.in_ok-made.ensures.grows c.requires.frame (c.in_ok-made.ensures.owned alike)
+
+pub base_settled-returns-in_err-settle-clause-grows : goal.base_settled-returns-in_err-settle-clause-grows
+base_settled-returns-in_err-settle-clause-grows t c = grows_trans _ _ _ c.in_ok-base.ensures.grows c.in_err-settle.ensures.grows
+
+pub class_settled-returns-in_err-made-clause-grows : goal.class_settled-returns-in_err-made-clause-grows
+class_settled-returns-in_err-made-clause-grows t c = grows_refl _
+
+pub part_settled-returns-in_err-own_settled-in-Element-clause-grows : goal.part_settled-returns-in_err-own_settled-in-Element-clause-grows
+part_settled-returns-in_err-own_settled-in-Element-clause-grows t c = grows_refl _
+
+pub part_settled-returns-in_ok-own_settled-in-Element-clause-grows : goal.part_settled-returns-in_ok-own_settled-in-Element-clause-grows
+part_settled-returns-in_ok-own_settled-in-Element-clause-grows t c = grows_refl _
+
+pub settle-returns-then-left-eq0-clause-grows : goal.settle-returns-then-left-eq0-clause-grows
+settle-returns-then-left-eq0-clause-grows t c = grows_refl _
+
+pub settle-returns-then-len-ge-MOST_FRAMES-clause-grows : goal.settle-returns-then-len-ge-MOST_FRAMES-clause-grows
+settle-returns-then-len-ge-MOST_FRAMES-clause-grows t c = grows_refl _
+
+pub settle-returns-then-is_some-clause-grows : goal.settle-returns-then-is_some-clause-grows
+settle-returns-then-is_some-clause-grows t c = grows_refl _

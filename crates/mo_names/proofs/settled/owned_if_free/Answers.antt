@@ -5,6 +5,7 @@ use Rattle.mo_scope.specs.Worlds.{frame_at, table_in}
 use Rattle.mo_names.specs.steps.Twins.{owned_walk}
 use Rattle.mo_names.proofs.Settling.{elements_freely}
 use Rattle.mo_names.specs.Sights.{walk_at}
+use Rattle.mo_names.proofs.Later.{grows_refl}
 use Rattle.mo_names.proofs.settled.owned_if_free.Goals as goal
 
 pub returns-in-Ok-clause-is : goal.returns-in-Ok-clause-is
@@ -13,3 +14,6 @@ returns-in-Ok-clause-is c =
     let so : c.is_so_freely.result ≡ true = search rules in
     λ place. elements_freely (table_in c.args.s.now) F (owned_walk F (walk_at c.args.s.now c.args.made.walk)) c.args.made.classes c.args.made.deep place
     (c.is_so_freely.ensures.other so) (c.is_so_freely.ensures.less so) (c.requires.told (c.is_so_freely.ensures.alike so)) ∙ ap Ok (sym c.in-Ok.ensures.is)
+
+pub returns-then-not-is_so_freely-clause-grows : goal.returns-then-not-is_so_freely-clause-grows
+returns-then-not-is_so_freely-clause-grows c = grows_refl _

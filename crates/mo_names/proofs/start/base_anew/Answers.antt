@@ -1,0 +1,6 @@
+-- The frames grow by the calls on the way.
+use Rattle.mo_names.proofs.Later.{grows_refl}
+use Rattle.mo_names.proofs.start.base_anew.Goals as goal
+
+pub returns-in_err-at-clause-grows : goal.returns-in_err-at-clause-grows
+returns-in_err-at-clause-grows c = grows_refl _
