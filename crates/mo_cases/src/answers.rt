@@ -3,39 +3,28 @@ ghost use Rattle.mo_grammar.specs.Lexeme.{lexemes};
 ghost use Rattle.mo_parse_class.specs.WholeFiles.{EndsAtEnd};
 
 use crate::telling::put_number;
-use mo_front::run;
+use crate::turns::{ROOM, Ran, Transfer, is_turned, run_over, turned};
+use mo_front::Status;
 use mo_lexer::tokens;
 use mo_parse_body::{class_mod, equation_item, statement};
 use mo_parse_class::stored_definition;
 use mo_parse_expr::expression;
-use mo_ports::{MemoryShelf, MemorySink};
 use mo_syntax::{ClassDef, FileTree, List, NoMemory, Stop, Text, Token};
 use mo_unparse::{class_text, expr_text};
 use std::alloc::Global;
 
-/// The most bytes that a case writes.
-const ROOM: usize = 1_048_576;
-
-/// How a run ended, and what it wrote.
-#[derive(Drop)]
-pub(crate) struct Ran {
-    pub status: u8,
-    pub text: Vec<u8>,
-}
-
-/// The run with these words over these files.
-fn run_over(
+/// The run with these words over these files, of which nothing fails.
+fn run_well(
     alloc: Global,
     words: &[String],
     files: List<(Text, List<u8>)>,
 ) -> Result<Ran, NoMemory> {
-    let mut sink = MemorySink::new(alloc, ROOM, 4096, List::new(alloc))?;
-    let mut shelf = MemoryShelf::new(files, 4096, List::new(alloc));
-    let status = run(alloc, words, &mut shelf, &mut sink);
-    Ok(Ran {
-        status: status.number(),
-        text: Vec::from_slice(alloc, sink.bytes())?,
-    })
+    let transfer = Transfer {
+        most: 4096,
+        reads: List::new(alloc),
+        writes: List::new(alloc),
+    };
+    run_over(alloc, words, files, transfer)
 }
 
 /// Writes a class with a semicolon and a line feed behind it.
@@ -100,8 +89,14 @@ fn put_asked(alloc: Global, out: &mut Vec<u8>, word: &str, text: &str) -> Result
 fn asked(alloc: Global, word: &str, bytes: &[u8]) -> Result<Ran, NoMemory> {
     let mut text = Vec::new(alloc);
     match put_asked(alloc, &mut text, word, str::from_utf8(bytes).unwrap_or("")) {
-        Ok(()) => Ok(Ran { status: 0, text }),
-        Err(Stop::Broken(_)) => Ok(Ran { status: 1, text }),
+        Ok(()) => Ok(Ran {
+            status: Status::Done,
+            text,
+        }),
+        Err(Stop::Broken(_)) => Ok(Ran {
+            status: Status::Refused,
+            text,
+        }),
         Err(Stop::NoMemory) => Err(NoMemory),
     }
 }
@@ -114,16 +109,27 @@ fn is_asked(word: &str) -> bool {
     )
 }
 
-/// What comes of a case: what its first word asks of its first file, or the run with its words.
+/// The words behind the first.
+fn behind_first(words: &[String]) -> &[String] {
+    if words.is_empty() {
+        return words;
+    }
+    &words[1..]
+}
+
+/// What comes of a case: what its first word asks of its first file or of the run with the words behind it, or the run with its words.
 pub(crate) fn answer(
     alloc: Global,
     words: &[String],
     files: List<(Text, List<u8>)>,
 ) -> Result<Ran, NoMemory> {
     match (words.get(0), files.get(0)) {
+        (Some(word), _) if is_turned(word.as_str()) => {
+            turned(alloc, word.as_str(), behind_first(words), files.as_slice())
+        }
         (Some(word), Some((_, bytes))) if is_asked(word.as_str()) => {
             asked(alloc, word.as_str(), bytes.as_slice())
         }
-        _ => run_over(alloc, words, files),
+        _ => run_well(alloc, words, files),
     }
 }

@@ -8,6 +8,7 @@
 mod answers;
 mod case;
 mod telling;
+mod turns;
 
 use mo_ports::{FileShelf, StdSink, put_all, read_all};
 use mo_syntax::{List, NoMemory};

@@ -1,6 +1,7 @@
 //! What is told of cases.
-use crate::answers::{Ran, answer};
+use crate::answers::answer;
 use crate::case::{Case, case_of};
+use crate::turns::Ran;
 use itoa::Buffer;
 use mo_syntax::NoMemory;
 use std::alloc::Global;
@@ -21,7 +22,7 @@ fn put_ran(told: &mut Vec<u8>, text: &str, ran: &Ran) -> Result<(), NoMemory> {
     put(told, "case ")?;
     put(told, words)?;
     put(told, "\nends ")?;
-    put_number(told, ran.status as usize)?;
+    put_number(told, ran.status.number() as usize)?;
     put(told, "\n")?;
     Ok(told.extend_from_slice(ran.text.as_slice())?)
 }
@@ -35,7 +36,7 @@ fn put_case(alloc: Global, told: &mut Vec<u8>, text: &str) -> Result<(), NoMemor
         wanted,
     } = case_of(alloc, text)?;
     let ran = answer(alloc, words.as_slice(), files)?;
-    if ran.status != status || ran.text.as_slice() != wanted.as_slice() {
+    if ran.status.number() != status || ran.text.as_slice() != wanted.as_slice() {
         put_ran(told, text, &ran)?;
     }
     Ok(())
