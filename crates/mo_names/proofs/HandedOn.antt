@@ -20,7 +20,7 @@ use Rattle.mo_names.specs.declared.past.Next.TheVariants.{Ends as ends_at}
 use Rattle.mo_names.specs.steps.Lookup.{all_met, counted_reached, element_behind, element_met, imported_met, open_element, reached_behind, reached_by_star, shown}
 use Rattle.mo_names.proofs.Circling.{go_on, or_on, outwards_step, then_same, then_then}
 use Rattle.mo_names.proofs.Outwards.{here_told, past_told}
-use Rattle.mo_names.proofs.Later.{found_later, frame_later, is_frame_later, table_later}
+use Rattle.mo_names.proofs.Later.{found_later, frame_later, is_found_later, is_frame_later, table_later}
 use Rattle.mo_syntax.specs.declared.rules.TheConstants.{WRONG_KIND_OF_NAME, NAME_NOT_FOUND}
 
 -- a value that is given
@@ -231,3 +231,7 @@ open_told table ask frame free =
 pub option_later : (u v : World) (found : Option FoundAt) → Grows u v → IfSome found (IsFound u) → option_map (found_seen (frames_of v)) found ≡ option_map (found_seen (frames_of u)) found
 option_later u v None g is = refl
 option_later u v (Some found) g is = ap Some (found_later u v found g is)
+
+pub some_later : (u v : World) (found : Option FoundAt) → Grows u v → IfSome found (IsFound u) → IfSome found (IsFound v)
+some_later u v None g is = tt
+some_later u v (Some found) g is = is_found_later u v found g is

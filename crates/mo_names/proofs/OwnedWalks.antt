@@ -1,14 +1,15 @@
 -- Walks of frames by those of frames that differ from them in path and owner alone.
-use Rattle.std.proofs.Common.{◌≡◌, ℕ, ◌+◌, ◌<◌, Bool, false, drop, get_or, List, [], ◌∷◌, ◌++◌, length, map, reverse, Option, Some, None, refl, sym, ap, subst, ◌∙◌, arith, append_assoc}
-use Rattle.std.specs.Prelude.{◌||◌, slice_get}
+use Rattle.std.proofs.Common.{◌≡◌, ℕ, ◌+◌, ◌<◌, ◌≤◌, Bool, false, drop, get_or, List, [], ◌∷◌, ◌++◌, length, map, reverse, Option, Some, None, refl, sym, ap, subst, ◌∙◌, arith, append_assoc}
+use Rattle.std.specs.Prelude.{◌||◌, Result, Ok, Err, IfOk, slice_get}
+use Rattle.std.specs.Result.{IsErrAnd}
 use Rattle.std.specs.List.{list_any}
 use Rattle.std.specs.Str.{bytes_eq}
-use Rattle.std.proofs.lemmas.List.{append-nil, map-append, reverse-append, reverse-reverse}
+use Rattle.std.proofs.lemmas.List.{append-nil, drop_all, map-append, reverse-append, reverse-reverse}
 use Rattle.mo_syntax.specs.declared.meaning.FrameId.{FrameId}
-use Rattle.mo_scope.specs.Frames.{Frame, Top, In, Sources, No_source, Source_then, at_of, class_of, is_top, listed, outer_of, owner_of_base, sources_of, looked_up}
+use Rattle.mo_scope.specs.Frames.{Frame, Member, Top, In, Sources, No_source, Source_then, at_of, class_of, is_top, listed, outer_of, owner_of_base, sources_of, looked_up}
 use Rattle.mo_scope.specs.declared.names.Names.{Names}
 use Rattle.mo_scope.specs.declared.row.Member.{Member as MemberAt}
-use Rattle.mo_scope.specs.Lookup.{Inherited}
+use Rattle.mo_scope.specs.Lookup.{Inherited, Walked}
 use Rattle.mo_scope.specs.Own.{own_declared}
 use Rattle.mo_scope.specs.Places.{Every}
 use Rattle.mo_scope.specs.Rows.{Row, Table, row_at}
@@ -18,7 +19,7 @@ use Rattle.mo_scope.proofs.laws.Standing.{every_append, every_weaker}
 use Rattle.mo_names.specs.declared.owning.Owned.{Owned}
 use Rattle.mo_names.specs.declared.walk.Inherited.{Inherited as InheritedAt}
 use Rattle.mo_names.specs.steps.Settled.{AreOwned, IsOwned}
-use Rattle.mo_names.specs.Sights.{AreNames, AreThrough, IsBase, IsMember, frames_through, inherited_seen}
+use Rattle.mo_names.specs.Sights.{AreNames, AreThrough, IsBase, IsMember, frames_through, inherited_seen, IsInherited}
 use Rattle.mo_names.specs.steps.Twins.{owned_by, owned_home, owned_inherited, owned_through, unowned}
 use Rattle.mo_names.proofs.Later.{all_bases_later, all_inherited_later, are_bases_later, are_inherited_later, frame_later, grows_refl, grows_trans, is_frame_later}
 use Rattle.mo_names.proofs.Reading.{at_element}
@@ -180,6 +181,10 @@ made_on seen seen' g h made xs i x y all below is one before rest =
     ∙ ap (λ ys. map seen made ++ map g (map h ys)) (sym (at_element xs i x below is))
     ∙ rest
 
+-- where none is left
+pub made_all : {A B C D : Type 0} (seen : A → D) (g : C → D) (h : B → C) (made : List A) (xs : List B) (i : ℕ) (all : List D) → length xs ≤ i → (map seen made ++ map g (map h (drop i xs))) ≡ all → map seen made ≡ all
+made_all seen g h made xs i all past is = sym (append-nil (map seen made)) ∙ ap (λ ys. map seen made ++ map g (map h ys)) (sym (drop_all i xs past)) ∙ is
+
 pub turned_through : (w : World) (xs : List FrameId) → AreThrough w xs → AreThrough w (reverse xs)
 turned_through w [] are = tt
 turned_through w (x ∷ xs) are =
@@ -253,6 +258,60 @@ unowned_bare w n exists none = by (frame_at w n) (is_no_top w n exists) none
     by : (f : Frame) → is_top f ≡ false → sources_of f ≡ [] → unowned f ≡ looked_up (class_of f) [] (outer_of f)
     by Top inside none = absurd cc
     by (In class sources outer at owner) inside none = ap (λ ss. In class ss outer None Top) (sym (none_listed sources none))
+
+-- ---- answers
+
+-- an exit tells nothing of a value
+pub at_exit : {T E : Type 0} (P : T → Type 0) (Q : E → Type 0) (r : Result T E) → IsErrAnd r Q → IfOk r P
+at_exit P Q (Ok x) h = absurd h
+at_exit P Q (Err e) h = tt
+
+-- what holds of one of two answers that were joined
+pub of_first : {A B E : Type 0} (first : Result A E) (second : Result B E) (r : Result (A × B) E) (P : A → Type 0) → IfOk r (λ pair. (first ≡ Ok pair.0) × (second ≡ Ok pair.1)) → IfOk first P → IfOk r (λ pair. P pair.0)
+of_first first second (Ok made) P values holds = subst (λ w. IfOk w P) values.0 holds
+of_first first second (Err e) P values holds = tt
+
+pub of_second : {A B E : Type 0} (first : Result A E) (second : Result B E) (r : Result (A × B) E) (P : B → Type 0) → IfOk r (λ pair. (first ≡ Ok pair.0) × (second ≡ Ok pair.1)) → IfOk second P → IfOk r (λ pair. P pair.1)
+of_second first second (Ok made) P values holds = subst (λ w. IfOk w P) values.1 holds
+of_second first second (Err e) P values holds = tt
+
+-- lists that were made, in the last world
+pub members_last : {E : Type 0} (s u w : World) (n : ℕ) (held slice : List InheritedAt) (r : Result (List InheritedAt) E) → slice ≡ held → Grows u w →
+    IfOk r (λ found. map (inherited_seen (frames_of u)) found ≡ map (owned_inherited (frame_at s n)) (map (inherited_seen (frames_of s)) slice)) → IfOk r (Every (IsInherited u)) →
+    IfOk r (λ found. map (inherited_seen (frames_of w)) found ≡ map (owned_inherited (frame_at s n)) (map (inherited_seen (frames_of s)) held))
+members_last s u w n held slice (Ok found) same g are exist =
+    all_inherited_later u w found g exist ∙ are ∙ ap (λ xs. map (owned_inherited (frame_at s n)) (map (inherited_seen (frames_of s)) xs)) same
+members_last s u w n held slice (Err e) same g are exist = tt
+
+pub members_stand : {E : Type 0} (u w : World) (r : Result (List InheritedAt) E) → Grows u w → IfOk r (Every (IsInherited u)) → IfOk r (Every (IsInherited w))
+members_stand u w (Ok found) g exist = are_inherited_later u w found g exist
+members_stand u w (Err e) g exist = tt
+
+pub bases_last : {E : Type 0} (s u v w : World) (n : ℕ) (bases slice : List (List FrameId)) (r : Result (List (List FrameId)) E) → slice ≡ bases → Grows s u → Grows v w → IsFrame s n → Every (IsBase s) bases →
+    IfOk r (λ found. map (frames_through (frames_of v)) found ≡ map (owned_through (frame_at u n)) (map (frames_through (frames_of u)) slice)) → IfOk r (Every (IsBase v)) →
+    IfOk r (λ found. map (frames_through (frames_of w)) found ≡ map (owned_through (frame_at s n)) (map (frames_through (frames_of s)) bases))
+bases_last s u v w n bases slice (Ok found) same before after at stand are exist =
+    all_bases_later v w found after exist ∙ are ∙ ap (λ xs. map (owned_through (frame_at u n)) (map (frames_through (frames_of u)) xs)) same
+    ∙ ap (λ f. map (owned_through f) (map (frames_through (frames_of u)) bases)) (frame_later s u n before at)
+    ∙ ap (map (owned_through (frame_at s n))) (all_bases_later s u bases before stand)
+bases_last s u v w n bases slice (Err e) same before after at stand are exist = tt
+
+pub bases_stand : {E : Type 0} (u w : World) (r : Result (List (List FrameId)) E) → Grows u w → IfOk r (Every (IsBase u)) → IfOk r (Every (IsBase w))
+bases_stand u w (Ok found) g exist = are_bases_later u w found g exist
+bases_stand u w (Err e) g exist = tt
+
+-- an element by its home and its base frames, a walk by its parts
+abbrev pub element_at : Member → Frame → List Frame → Inherited
+element_at member home through = record { member = record { name = member.name; home = home; item = member.item; hidden = member.hidden; declares = member.declares }; through = through }
+
+pub same_element : (member : Member) (home home' : Frame) (through through' : List Frame) → home ≡ home' → through ≡ through' → element_at member home through ≡ element_at member home' through'
+same_element member home home' through through' is are = ap (λ f. element_at member f through) is ∙ ap (element_at member home') are
+
+abbrev pub walk_of : List Inherited → List (List Frame) → List (List Frame) → Walked
+walk_of members bases sections = record { members = members; bases = bases; sections = sections; leaf = None }
+
+pub same_walk : (a a' : List Inherited) (b b' c c' : List (List Frame)) → a ≡ a' → b ≡ b' → c ≡ c' → walk_of a b c ≡ walk_of a' b' c'
+same_walk a a' b b' c c' x y z = ap (λ xs. walk_of xs b c) x ∙ ap (λ xs. walk_of a' xs c) y ∙ ap (walk_of a' b') z
 
 pub ruleset owned_walks = (owned_at, one_more_owned, are_owned_later)
 

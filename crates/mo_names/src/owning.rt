@@ -13,7 +13,7 @@ use crate::join::turned;
 use crate::start::{owner_of, path_copied};
 use crate::walk::{Inherited, Walk};
 use mo_scope::{Member, Scopes};
-use mo_syntax::{FrameId, List, NoMemory, Place, Stop, rules, stop};
+use mo_syntax::{FrameId, List, NoMemory, Place, Stop, both, rules, stop};
 use std::alloc::Global;
 
 /// A base of a frame that was entered as another frame's base is.
@@ -80,7 +80,7 @@ fn base_owned<'t>(
     ensures grows { Grows s.old s.new }
     ensures is { IfOk result (λ frame. frame_at s.new frame.0 ≡ owned_by (frame_at s.old around.0) (frame_at s.old base.0)) }
     ensures exists { IfOk result (λ frame. IsFrame s.new frame.0) }
-    ensures made { IfOk result (λ _. AreOwned s.new made.new) }
+    ensures made { AreOwned s.new made.new }
 {
     if let Some(frame) = owned_of(s, made.as_slice(), around, base) {
         return Ok(frame);
@@ -111,7 +111,7 @@ fn through_owned<'t>(
     ensures home { IfOk result (λ found. frame_at s.new found.1.0 ≡ owned_home (frame_at s.old frame.0) (frames_through (frames_of s.old) through.now)) }
     ensures exist { IfOk result (λ found. AreThrough s.new found.0) }
     ensures exists { IfOk result (λ found. IsFrame s.new found.1.0) }
-    ensures made { IfOk result (λ _. AreOwned s.new made.new) }
+    ensures made { AreOwned s.new made.new }
 {
     let mut rest = frames_copied(alloc, through)?;
     let mut around = frame;
@@ -138,7 +138,7 @@ fn inherited_owned<'t>(
     ensures grows { Grows s.old s.new }
     ensures is { IfOk result (λ found. inherited_seen (frames_of s.new) found ≡ owned_inherited (frame_at s.old frame.0) (inherited_seen (frames_of s.old) held.now)) }
     ensures exist { IfOk result (IsInherited s.new) }
-    ensures made { IfOk result (λ _. AreOwned s.new made.new) }
+    ensures made { AreOwned s.new made.new }
 {
     let (through, home) = through_owned(alloc, s, frame, held.through.as_slice(), made)?;
     if s.class_of(home).0 != s.class_of(held.member.home).0 {
@@ -171,7 +171,7 @@ fn members_owned<'t>(
     ensures grows { Grows s.old s.new }
     ensures are { IfOk result (λ found. map (inherited_seen (frames_of s.new)) found ≡ map (owned_inherited (frame_at s.old frame.0)) (map (inherited_seen (frames_of s.old)) members.now)) }
     ensures exist { IfOk result (Every (IsInherited s.new)) }
-    ensures made { IfOk result (λ _. AreOwned s.new made.new) }
+    ensures made { AreOwned s.new made.new }
 {
     let mut found = List::new(alloc);
     for held in members {
@@ -195,7 +195,7 @@ fn bases_owned<'t>(
     ensures grows { Grows s.old s.new }
     ensures are { IfOk result (λ found. map (frames_through (frames_of s.new)) found ≡ map (owned_through (frame_at s.old frame.0)) (map (frames_through (frames_of s.old)) bases.now)) }
     ensures exist { IfOk result (Every (IsBase s.new)) }
-    ensures made { IfOk result (λ _. AreOwned s.new made.new) }
+    ensures made { AreOwned s.new made.new }
 {
     let mut found = List::new(alloc);
     for base in bases {
@@ -203,6 +203,37 @@ fn bases_owned<'t>(
         found.push(through)?;
     }
     Ok(found)
+}
+
+/// The elements, the bases and the sections of a walk as those of another frame.
+#[tactic(auto, using(crate::proofs::Later::later, crate::proofs::OwnedWalks::walk_steps))]
+fn parts_owned<'t>(
+    alloc: Global,
+    s: &mut Scopes<'t>,
+    frame: FrameId,
+    walk: &Walk<'t>,
+) -> Result<
+    (
+        List<Inherited<'t>>,
+        (List<List<FrameId>>, List<List<FrameId>>),
+    ),
+    Stop,
+>
+    requires frame { IsFrame s.old frame.0 }
+    requires walk { IsWalk s.old walk.now }
+    ensures grows { Grows s.old s.new }
+    ensures members { IfOk result (λ found. map (inherited_seen (frames_of s.new)) found.0 ≡ map (owned_inherited (frame_at s.old frame.0)) (map (inherited_seen (frames_of s.old)) walk.now.members)) }
+    ensures bases { IfOk result (λ found. map (frames_through (frames_of s.new)) found.1.0 ≡ map (owned_through (frame_at s.old frame.0)) (map (frames_through (frames_of s.old)) walk.now.bases)) }
+    ensures sections { IfOk result (λ found. map (frames_through (frames_of s.new)) found.1.1 ≡ map (owned_through (frame_at s.old frame.0)) (map (frames_through (frames_of s.old)) walk.now.sections)) }
+    ensures members_exist { IfOk result (λ found. Every (IsInherited s.new) found.0) }
+    ensures bases_exist { IfOk result (λ found. Every (IsBase s.new) found.1.0) }
+    ensures sections_exist { IfOk result (λ found. Every (IsBase s.new) found.1.1) }
+{
+    let mut made = List::new(alloc);
+    let members = members_owned(alloc, s, frame, walk.members.as_slice(), &mut made);
+    let bases = bases_owned(alloc, s, frame, walk.bases.as_slice(), &mut made);
+    let sections = bases_owned(alloc, s, frame, walk.sections.as_slice(), &mut made);
+    both(members, both(bases, sections))
 }
 
 /// The walk of a frame by that of one that differs from it in path and owner alone and ends at no leaf type.
@@ -219,10 +250,7 @@ pub(crate) fn walk_owned<'t>(
     ensures is { IfOk result (λ found. walk_at s.new found ≡ owned_walk (frame_at s.old frame.0) (walk_at s.old walk.entry)) }
     ensures stand { IfOk result (IsWalk s.new) }
 {
-    let mut made = List::new(alloc);
-    let members = members_owned(alloc, s, frame, walk.members.as_slice(), &mut made)?;
-    let bases = bases_owned(alloc, s, frame, walk.bases.as_slice(), &mut made)?;
-    let sections = bases_owned(alloc, s, frame, walk.sections.as_slice(), &mut made)?;
+    let (members, (bases, sections)) = parts_owned(alloc, s, frame, &walk)?;
     Ok(Walk {
         members,
         bases,

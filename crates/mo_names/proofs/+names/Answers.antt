@@ -1,7 +1,7 @@
 -- One step further.
 use Rattle.mo_names.proofs.Circling.{is_busy_still, none_left, walked_further, drop_map, left_from, loop_err, names_step, then_ok, told_of, package_names_step, exit_err, later_gives, package_is, star_is, left_read, in_frame_is, around_less, err_on, class_names_step, class_is}
-use Rattle.mo_names.proofs.HandedOn.{any_met_told, behind_told, ends_give, go_next, goes_on_around, imported_is, inherited_told, open_told, option_later, outwards_told, through_star_told, walked_told}
-use Rattle.mo_names.proofs.Later.{grows_refl, grows_trans, is_frame_later, is_walk_later, table_later}
+use Rattle.mo_names.proofs.HandedOn.{any_met_told, behind_told, ends_give, go_next, goes_on_around, imported_is, inherited_told, open_told, option_later, outwards_told, some_later, through_star_told, walked_told}
+use Rattle.mo_names.proofs.Later.{grows_trans, grows_refl, table_later, is_frame_later, is_walk_later}
 use Rattle.mo_names.proofs.Naming.{class_named_is}
 use Rattle.mo_names.proofs.Outcomes.{gives_same, exit_same, then_same_ok}
 use Rattle.mo_names.proofs.OwnElements.{counted_next, own_part, own_part_later}
@@ -48,6 +48,24 @@ circle::walked-returns-clause-value t c =
     (ap (contains c.args.ask.now.busy.now) (sym c.class_of-class.ensures.is) ∙ sym c.is_busy.ensures ∙ c.if-is_busy.false))
     c.walked_class.ensures.value
 
+pub circle::walked-returns-then-ask-eq0-clause-grows : goal.circle::walked-returns-then-ask-eq0-clause-grows
+circle::walked-returns-then-ask-eq0-clause-grows t c = grows_refl c.args.s.now
+
+pub circle::walked-returns-then-is_busy-clause-grows : goal.circle::walked-returns-then-is_busy-clause-grows
+circle::walked-returns-then-is_busy-clause-grows t c = grows_refl c.args.s.now
+
+pub circle::walked-returns-in_err-depth-clause-grows : goal.circle::walked-returns-in_err-depth-clause-grows
+circle::walked-returns-in_err-depth-clause-grows t c = grows_refl c.args.s.now
+
+pub circle::walked-returns-in_err-busy-clause-grows : goal.circle::walked-returns-in_err-busy-clause-grows
+circle::walked-returns-in_err-busy-clause-grows t c = grows_refl c.args.s.now
+
+pub circle::walked-returns-clause-grows : goal.circle::walked-returns-clause-grows
+circle::walked-returns-clause-grows t c = c.walked_class.ensures.grows
+
+pub circle::walked-returns-clause-stand : goal.circle::walked-returns-clause-stand
+circle::walked-returns-clause-stand t c = c.walked_class.ensures.stand
+
 pub circle::walked_and_kept-walk_given-requires-clause-is : goal.circle::walked_and_kept-walk_given-requires-clause-is
 circle::walked_and_kept-walk_given-requires-clause-is t c =
     gives_same _ c.walked-walk.result _ _ (sym (walked_told c.args.s.now c.walked-walk.new.s c.args.ask.now c.args.frame.0 c.walked-walk.ensures.grows c.requires)) c.walked-walk.ensures.value
@@ -56,11 +74,41 @@ pub circle::walked_and_kept-returns-clause-value : goal.circle::walked_and_kept-
 circle::walked_and_kept-returns-clause-value t c =
     gives_same _ c.walk_given.result _ _ (walked_told c.args.s.now c.walked-walk.new.s c.args.ask.now c.args.frame.0 c.walked-walk.ensures.grows c.requires) c.walk_given.ensures.value
 
+pub circle::walked_and_kept-walked-walk-requires : goal.circle::walked_and_kept-walked-walk-requires
+circle::walked_and_kept-walked-walk-requires t c = (omega arith, c.requires)
+
+pub circle::walked_and_kept-walk_given-requires-clause-frame : goal.circle::walked_and_kept-walk_given-requires-clause-frame
+circle::walked_and_kept-walk_given-requires-clause-frame t c = is_frame_later _ _ _ c.walked-walk.ensures.grows c.requires
+
+pub circle::walked_and_kept-returns-clause-grows : goal.circle::walked_and_kept-returns-clause-grows
+circle::walked_and_kept-returns-clause-grows t c = grows_trans _ _ _ c.walked-walk.ensures.grows c.walk_given.ensures.grows
+
+pub circle::walked_and_kept-walk_given-requires-clause-stands : goal.circle::walked_and_kept-walk_given-requires-clause-stands
+circle::walked_and_kept-walk_given-requires-clause-stands t c = c.walked-walk.ensures.stand
+
+pub circle::walked_and_kept-returns-clause-stand : goal.circle::walked_and_kept-returns-clause-stand
+circle::walked_and_kept-returns-clause-stand t c = c.walk_given.ensures.stand
+
 pub circle::reached-returns-in-None-clause-value : goal.circle::reached-returns-in-None-clause-value
 circle::reached-returns-in-None-clause-value t c =
     gives_same _ c.reached_given.result _ _
     (inherited_told c.args.s.now c.walked_and_kept-walk.new.s c.args.ask.now c.args.frame.0 c.args.name.now c.walked_and_kept-walk.ensures.grows (c.reached_at_hand.ensures.inherited c.in-None.is))
     (c.reached_given.ensures.value _ c.walked_and_kept-walk.ensures.value)
+
+pub circle::reached-walked_and_kept-walk-requires : goal.circle::reached-walked_and_kept-walk-requires
+circle::reached-walked_and_kept-walk-requires t c = (omega arith, c.requires)
+
+pub circle::reached-returns-in-Some-clause-grows : goal.circle::reached-returns-in-Some-clause-grows
+circle::reached-returns-in-Some-clause-grows t c = grows_refl c.args.s.now
+
+pub circle::reached-reached_given-requires : goal.circle::reached-reached_given-requires
+circle::reached-reached_given-requires t c = c.walked_and_kept-walk.ensures.stand
+
+pub circle::reached-returns-in-None-clause-grows : goal.circle::reached-returns-in-None-clause-grows
+circle::reached-returns-in-None-clause-grows t c = c.walked_and_kept-walk.ensures.grows
+
+pub circle::reached-returns-in-None-clause-stand : goal.circle::reached-returns-in-None-clause-stand
+circle::reached-returns-in-None-clause-stand t c = c.reached_given.ensures.stand
 
 pub circle::is_package-returns-clause-value : goal.circle::is_package-returns-clause-value
 circle::is_package-returns-clause-value t c =
@@ -69,11 +117,84 @@ circle::is_package-returns-clause-value t c =
     (ap (contains c.args.ask.now.busy.now) (sym c.class_of.ensures.is) ∙ sym c.is_busy.ensures ∙ c.if-is_busy.false))
     (c.are_open_given.ensures _ c.walked_and_kept-walk.ensures.value)
 
+pub circle::is_package-walked_and_kept-walk-requires : goal.circle::is_package-walked_and_kept-walk-requires
+circle::is_package-walked_and_kept-walk-requires t c = (omega arith, c.requires)
+
+pub circle::is_package-returns-in-Some-clause-grows : goal.circle::is_package-returns-in-Some-clause-grows
+circle::is_package-returns-in-Some-clause-grows t c = grows_refl c.args.s.now
+
+pub circle::is_package-returns-then-is_busy-clause-grows : goal.circle::is_package-returns-then-is_busy-clause-grows
+circle::is_package-returns-then-is_busy-clause-grows t c = grows_refl c.args.s.now
+
+pub circle::is_package-returns-clause-grows : goal.circle::is_package-returns-clause-grows
+circle::is_package-returns-clause-grows t c = c.walked_and_kept-walk.ensures.grows
+
+pub circle::counted-is_package-requires : goal.circle::counted-is_package-requires
+circle::counted-is_package-requires t c = (omega arith, c.requires.frame)
+
+pub circle::counted-returns-in_err-is_package-clause-grows : goal.circle::counted-returns-in_err-is_package-clause-grows
+circle::counted-returns-in_err-is_package-clause-grows t c = c.in_err-is_package.ensures.grows
+
+pub circle::counted_given-returns-in_err-counted-in-Ok-Element-clause-grows : goal.circle::counted_given-returns-in_err-counted-in-Ok-Element-clause-grows
+circle::counted_given-returns-in_err-counted-in-Ok-Element-clause-grows t c = c.in_err-counted-in-Ok-Element.ensures.grows
+
+pub circle::counted_given-returns-in_ok-counted-in-Ok-Element-clause-grows : goal.circle::counted_given-returns-in_ok-counted-in-Ok-Element-clause-grows
+circle::counted_given-returns-in_ok-counted-in-Ok-Element-clause-grows t c = c.in_ok-counted-in-Ok-Element.ensures.grows
+
+pub circle::counted_given-returns-in-Ok-Other-clause-grows : goal.circle::counted_given-returns-in-Ok-Other-clause-grows
+circle::counted_given-returns-in-Ok-Other-clause-grows t c = grows_refl c.args.s.now
+
+pub circle::counted_given-returns-in-Ok-Absent-clause-grows : goal.circle::counted_given-returns-in-Ok-Absent-clause-grows
+circle::counted_given-returns-in-Ok-Absent-clause-grows t c = grows_refl c.args.s.now
+
+pub circle::counted_given-returns-in-Err-clause-grows : goal.circle::counted_given-returns-in-Err-clause-grows
+circle::counted_given-returns-in-Err-clause-grows t c = grows_refl c.args.s.now
+
+pub circle::counted_given-returns-in_err-counted-in-Ok-Element-clause-stand : goal.circle::counted_given-returns-in_err-counted-in-Ok-Element-clause-stand
+circle::counted_given-returns-in_err-counted-in-Ok-Element-clause-stand t c =
+    let p = err_from_is_err_and c.from_residual.result c.from_residual.ensures.1 in
+    rw p.1 tt
+
 pub circle::behind_class-returns-clause-value : goal.circle::behind_class-returns-clause-value
 circle::behind_class-returns-clause-value t c =
     gives_same _ c.behind_given.result _ _
     (behind_told c.args.s.now c.reached-any.new.s c.counted_given-counts.new.s c.args.ask.now c.args.place c.args.component c.args.frame.0 c.args.name.now c.reached-any.ensures.grows c.counted_given-counts.ensures.grows c.requires)
     (c.behind_given.ensures.value _ (c.counted_given-counts.ensures.value _ c.reached-any.ensures.value))
+
+pub circle::behind_class-reached-any-requires : goal.circle::behind_class-reached-any-requires
+circle::behind_class-reached-any-requires t c = (omega arith, c.requires)
+
+pub circle::behind_class-counted_given-counts-requires : goal.circle::behind_class-counted_given-counts-requires
+circle::behind_class-counted_given-counts-requires t c = (omega arith, (is_frame_later _ _ _ c.reached-any.ensures.grows c.requires, c.reached-any.ensures.stand))
+
+pub circle::behind_class-behind_given-requires-clause-frame : goal.circle::behind_class-behind_given-requires-clause-frame
+circle::behind_class-behind_given-requires-clause-frame t c = is_frame_later _ _ _ c.counted_given-counts.ensures.grows (is_frame_later _ _ _ c.reached-any.ensures.grows c.requires)
+
+pub circle::behind_class-returns-clause-grows : goal.circle::behind_class-returns-clause-grows
+circle::behind_class-returns-clause-grows t c = grows_trans _ _ _ c.reached-any.ensures.grows (grows_trans _ _ _ c.counted_given-counts.ensures.grows c.behind_given.ensures.grows)
+
+pub circle::behind_class-behind_given-requires-clause-any : goal.circle::behind_class-behind_given-requires-clause-any
+circle::behind_class-behind_given-requires-clause-any t c = c.counted_given-counts.ensures.stand
+
+pub circle::behind_class-returns-clause-stand : goal.circle::behind_class-returns-clause-stand
+circle::behind_class-returns-clause-stand t c = c.behind_given.ensures.stand
+
+pub circle::import_step-returns-in_err-frame-clause-grows : goal.circle::import_step-returns-in_err-frame-clause-grows
+circle::import_step-returns-in_err-frame-clause-grows t c = grows_refl c.args.s.now
+
+pub circle::import_step-behind_class-requires : goal.circle::import_step-behind_class-requires
+circle::import_step-behind_class-requires t c = (omega arith, c.in_ok-frame.ensures.stand)
+
+pub circle::import_step-returns-in_err-frame-clause-stand : goal.circle::import_step-returns-in_err-frame-clause-stand
+circle::import_step-returns-in_err-frame-clause-stand t c =
+    let p = err_from_is_err_and c.from_residual.result c.from_residual.ensures.1 in
+    rw p.1 tt
+
+pub circle::import_step-returns-clause-grows : goal.circle::import_step-returns-clause-grows
+circle::import_step-returns-clause-grows t c = c.behind_class.ensures.grows
+
+pub circle::import_step-returns-clause-stand : goal.circle::import_step-returns-clause-stand
+circle::import_step-returns-clause-stand t c = c.behind_class.ensures.stand
 
 pub circle::import_behind-returns-in-Err-clause-value : goal.circle::import_behind-returns-in-Err-clause-value
 circle::import_behind-returns-in-Err-clause-value t c =
@@ -105,8 +226,54 @@ circle::import_behind-loop-at-preserved t c =
           ∙ told_of (λ t. import_step t (asks t c.args.ask.now) c.args.ask.now.place c.args.place c.before_dot-before.result F c.index-names-at.result.now) c.args.s.now c.loop-at.s _ c.loop-at.invariant.grows c.in-Ok.ensures.value);
     }
 
+pub circle::import_behind-import_step-requires : goal.circle::import_behind-import_step-requires
+circle::import_behind-import_step-requires t c = (omega arith, c.loop-at.invariant.stand)
+
+pub circle::import_behind-returns-in-Err-clause-grows : goal.circle::import_behind-returns-in-Err-clause-grows
+circle::import_behind-returns-in-Err-clause-grows t c = grows_trans _ _ _ c.loop-at.invariant.grows c.in-Err.ensures.grows
+
+pub circle::import_behind-loop-at-init : goal.circle::import_behind-loop-at-init
+circle::import_behind-loop-at-init t c = record {
+  grows = grows_refl c.args.s.now;
+  stand = c.requires;
+  left = refl;
+}
+
+pub circle::import_behind-returns-clause-grows : goal.circle::import_behind-returns-clause-grows
+circle::import_behind-returns-clause-grows t c = c.loop-at.invariant.grows
+
+pub circle::import_behind-returns-clause-stand : goal.circle::import_behind-returns-clause-stand
+circle::import_behind-returns-clause-stand t c = c.loop-at.invariant.stand
+
+pub circle::imported-import_behind-requires : goal.circle::imported-import_behind-requires
+circle::imported-import_behind-requires t c = (omega arith, c.in-Ok.ensures.stand)
+
+pub circle::imported-returns-in-Ok-clause-grows : goal.circle::imported-returns-in-Ok-clause-grows
+circle::imported-returns-in-Ok-clause-grows t c = grows_trans _ _ _ c.in-Ok.ensures.grows c.import_behind.ensures.grows
+
+pub circle::imported-returns-in-empty-clause-grows : goal.circle::imported-returns-in-empty-clause-grows
+circle::imported-returns-in-empty-clause-grows t c = grows_refl c.args.s.now
+
+pub circle::imported-returns-in-Err-clause-grows : goal.circle::imported-returns-in-Err-clause-grows
+circle::imported-returns-in-Err-clause-grows t c = c.in-Err.ensures.grows
+
+pub circle::imported-returns-in-Ok-clause-stand : goal.circle::imported-returns-in-Ok-clause-stand
+circle::imported-returns-in-Ok-clause-stand t c = c.import_behind.ensures.stand
+
 pub circle::package_step-returns-clause-value : goal.circle::package_step-returns-clause-value
 circle::package_step-returns-clause-value t c = c.class_given.ensures.value _ c.behind_class-found.ensures.value
+
+pub circle::package_step-behind_class-found-requires : goal.circle::package_step-behind_class-found-requires
+circle::package_step-behind_class-found-requires t c = (omega arith, c.requires)
+
+pub circle::package_step-class_given-requires : goal.circle::package_step-class_given-requires
+circle::package_step-class_given-requires t c = c.behind_class-found.ensures.stand
+
+pub circle::package_step-returns-clause-grows : goal.circle::package_step-returns-clause-grows
+circle::package_step-returns-clause-grows t c = c.behind_class-found.ensures.grows
+
+pub circle::package_step-returns-clause-stand : goal.circle::package_step-returns-clause-stand
+circle::package_step-returns-clause-stand t c = c.class_given.ensures.stand
 
 pub circle::package_behind-returns-in_err-frame-clause-value : goal.circle::package_behind-returns-in_err-frame-clause-value
 circle::package_behind-returns-in_err-frame-clause-value t c =
@@ -133,6 +300,30 @@ circle::package_behind-loop-name-preserved t c = record {
       (told_of (λ t. package_step t (asks t c.args.ask.now) c.args.ask.now.place c.args.place F c.name-item.result) c.args.s.now c.loop-name.s _ c.loop-name.invariant.grows c.in_ok-frame.ensures.value);
 }
 
+pub circle::package_behind-package_step-requires : goal.circle::package_behind-package_step-requires
+circle::package_behind-package_step-requires t c = (omega arith, c.loop-name.invariant.stand)
+
+pub circle::package_behind-returns-in_err-frame-clause-grows : goal.circle::package_behind-returns-in_err-frame-clause-grows
+circle::package_behind-returns-in_err-frame-clause-grows t c = grows_trans _ _ _ c.loop-name.invariant.grows c.in_err-frame.ensures.grows
+
+pub circle::package_behind-loop-name-init : goal.circle::package_behind-loop-name-init
+circle::package_behind-loop-name-init t c = record {
+  grows = grows_refl c.args.s.now;
+  stand = c.requires;
+  left = refl;
+}
+
+pub circle::package_behind-returns-in_err-frame-clause-stand : goal.circle::package_behind-returns-in_err-frame-clause-stand
+circle::package_behind-returns-in_err-frame-clause-stand t c =
+    let p = err_from_is_err_and c.from_residual.result c.from_residual.ensures.1 in
+    rw p.1 tt
+
+pub circle::package_behind-returns-clause-grows : goal.circle::package_behind-returns-clause-grows
+circle::package_behind-returns-clause-grows t c = c.loop-name.invariant.grows
+
+pub circle::package_behind-returns-clause-stand : goal.circle::package_behind-returns-clause-stand
+circle::package_behind-returns-clause-stand t c = c.loop-name.invariant.stand
+
 pub circle::package_named-returns-in_err-first-clause-value : goal.circle::package_named-returns-in_err-first-clause-value
 circle::package_named-returns-in_err-first-clause-value t c =
     let p = err_from_is_err_and c.from_residual.result c.from_residual.ensures.1 in
@@ -153,11 +344,64 @@ circle::package_named-returns-clause-value t c =
     (package_is (table_in c.args.s.now) (asks (table_in c.args.s.now) c.args.ask.now) c.args.ask.now.place c.args.place c.args.name.now c.args.names.now)
     c.in_ok-first.ensures.value)
 
+pub circle::package_named-package_behind-requires : goal.circle::package_named-package_behind-requires
+circle::package_named-package_behind-requires t c = (omega arith, c.in_ok-first.ensures.stand)
+
+pub circle::package_named-returns-in_err-first-clause-grows : goal.circle::package_named-returns-in_err-first-clause-grows
+circle::package_named-returns-in_err-first-clause-grows t c = c.in_err-first.ensures.grows
+
+pub circle::package_named-returns-clause-grows : goal.circle::package_named-returns-clause-grows
+circle::package_named-returns-clause-grows t c = grows_trans _ _ _ c.in_ok-first.ensures.grows c.package_behind.ensures.grows
+
+pub circle::package_named-returns-in_err-first-clause-stand : goal.circle::package_named-returns-in_err-first-clause-stand
+circle::package_named-returns-in_err-first-clause-stand t c =
+    let p = err_from_is_err_and c.from_residual.result c.from_residual.ensures.1 in
+    rw p.1 tt
+
+pub circle::package_named-returns-clause-stand : goal.circle::package_named-returns-clause-stand
+circle::package_named-returns-clause-stand t c = c.package_behind.ensures.stand
+
+pub circle::imported_package-returns-in-empty-clause-grows : goal.circle::imported_package-returns-in-empty-clause-grows
+circle::imported_package-returns-in-empty-clause-grows t c = grows_refl c.args.s.now
+
+pub circle::imported_package-returns-in-len1-up-clause-grows : goal.circle::imported_package-returns-in-len1-up-clause-grows
+circle::imported_package-returns-in-len1-up-clause-grows t c = c.package_named.ensures.grows
+
+pub circle::imported_package-returns-in-len1-up-clause-stand : goal.circle::imported_package-returns-in-len1-up-clause-stand
+circle::imported_package-returns-in-len1-up-clause-stand t c = c.package_named.ensures.stand
+
 pub circle::through_star-returns-clause-value : goal.circle::through_star-returns-clause-value
 circle::through_star-returns-clause-value t c =
     gives_same _ c.star_given.result _ _
     (through_star_told c.args.s.now c.reached-any.new.s c.counted_given-counts.new.s c.args.ask.now c.args.place c.args.frame.0 c.args.name.now c.reached-any.ensures.grows c.counted_given-counts.ensures.grows c.requires)
     (c.star_given.ensures.value _ (c.counted_given-counts.ensures.value _ (c.shown-public.ensures.value _ c.reached-any.ensures.value)))
+
+pub circle::through_star-reached-any-requires : goal.circle::through_star-reached-any-requires
+circle::through_star-reached-any-requires t c = (omega arith, c.requires)
+
+pub circle::through_star-counted_given-counts-requires : goal.circle::through_star-counted_given-counts-requires
+circle::through_star-counted_given-counts-requires t c = (omega arith, (is_frame_later _ _ _ c.reached-any.ensures.grows c.requires, c.shown-public.ensures.stand))
+
+pub circle::through_star-star_given-requires-clause-frame : goal.circle::through_star-star_given-requires-clause-frame
+circle::through_star-star_given-requires-clause-frame t c = is_frame_later _ _ _ c.counted_given-counts.ensures.grows (is_frame_later _ _ _ c.reached-any.ensures.grows c.requires)
+
+pub circle::through_star-returns-clause-grows : goal.circle::through_star-returns-clause-grows
+circle::through_star-returns-clause-grows t c = grows_trans _ _ _ c.reached-any.ensures.grows (grows_trans _ _ _ c.counted_given-counts.ensures.grows c.star_given.ensures.grows)
+
+pub circle::through_star-shown-public-requires : goal.circle::through_star-shown-public-requires
+circle::through_star-shown-public-requires t c = c.reached-any.ensures.stand
+
+pub circle::through_star-star_given-requires-clause-any : goal.circle::through_star-star_given-requires-clause-any
+circle::through_star-star_given-requires-clause-any t c = c.counted_given-counts.ensures.stand
+
+pub circle::through_star-returns-clause-stand : goal.circle::through_star-returns-clause-stand
+circle::through_star-returns-clause-stand t c = c.star_given.ensures.stand
+
+pub circle::found_by_import-returns-in-Ok-None-clause-grows : goal.circle::found_by_import-returns-in-Ok-None-clause-grows
+circle::found_by_import-returns-in-Ok-None-clause-grows t c = grows_refl c.args.s.now
+
+pub circle::found_by_import-returns-clause-grows : goal.circle::found_by_import-returns-clause-grows
+circle::found_by_import-returns-clause-grows t c = grows_refl c.args.s.now
 
 pub circle::found_by_star-returns-in_ok-frame-in-All-clause-value : goal.circle::found_by_star-returns-in_ok-frame-in-All-clause-value
 circle::found_by_star-returns-in_ok-frame-in-All-clause-value t c =
@@ -167,12 +411,62 @@ circle::found_by_star-returns-in_ok-frame-in-All-clause-value t c =
     (star_is (table_in c.args.s.now) (asks (table_in c.args.s.now) c.args.ask.now) c.args.ask.now.place c.in-All.place c.in-All.path c.as_slice.result.now c.args.name.now c.args.clause.now
     (frame_at c.imported_package.new.s c.in_ok-frame-in-All.frame.0) c.in-All.is c.as_slice.ensures c.in_ok-frame-in-All.ensures.value)
 
+pub circle::found_by_star-through_star-requires : goal.circle::found_by_star-through_star-requires
+circle::found_by_star-through_star-requires t c = (omega arith, c.in_ok-frame-in-All.ensures.stand)
+
+pub circle::found_by_star-returns-in_err-frame-in-All-clause-grows : goal.circle::found_by_star-returns-in_err-frame-in-All-clause-grows
+circle::found_by_star-returns-in_err-frame-in-All-clause-grows t c = c.in_err-frame-in-All.ensures.grows
+
+pub circle::found_by_star-returns-in_ok-frame-in-All-clause-grows : goal.circle::found_by_star-returns-in_ok-frame-in-All-clause-grows
+circle::found_by_star-returns-in_ok-frame-in-All-clause-grows t c = grows_trans _ _ _ c.in_ok-frame-in-All.ensures.grows c.through_star.ensures.grows
+
+pub circle::found_by_star-returns-in-Renamed-clause-grows : goal.circle::found_by_star-returns-in-Renamed-clause-grows
+circle::found_by_star-returns-in-Renamed-clause-grows t c = grows_refl c.args.s.now
+
+pub circle::found_by_star-returns-in-Named-clause-grows : goal.circle::found_by_star-returns-in-Named-clause-grows
+circle::found_by_star-returns-in-Named-clause-grows t c = grows_refl c.args.s.now
+
+pub circle::found_by_star-returns-in-Group-clause-grows : goal.circle::found_by_star-returns-in-Group-clause-grows
+circle::found_by_star-returns-in-Group-clause-grows t c = grows_refl c.args.s.now
+
+pub circle::found_by_star-returns-in_err-frame-in-All-clause-stand : goal.circle::found_by_star-returns-in_err-frame-in-All-clause-stand
+circle::found_by_star-returns-in_err-frame-in-All-clause-stand t c =
+    let p = err_from_is_err_and c.from_residual.result c.from_residual.ensures.1 in
+    rw p.1 tt
+
+pub circle::found_by_star-returns-in_ok-frame-in-All-clause-stand : goal.circle::found_by_star-returns-in_ok-frame-in-All-clause-stand
+circle::found_by_star-returns-in_ok-frame-in-All-clause-stand t c = c.through_star.ensures.stand
+
+pub circle::found_by-returns-then-star-clause-grows : goal.circle::found_by-returns-then-star-clause-grows
+circle::found_by-returns-then-star-clause-grows t c = c.found_by_star.ensures.grows
+
+pub circle::found_by-returns-then-star-clause-stand : goal.circle::found_by-returns-then-star-clause-stand
+circle::found_by-returns-then-star-clause-stand t c = c.found_by_star.ensures.stand
+
+pub circle::found_by-returns-else-star-clause-grows : goal.circle::found_by-returns-else-star-clause-grows
+circle::found_by-returns-else-star-clause-grows t c = c.found_by_import.ensures.grows
+
+pub circle::found_by-returns-else-star-clause-stand : goal.circle::found_by-returns-else-star-clause-stand
+circle::found_by-returns-else-star-clause-stand t c = c.found_by_import.ensures.stand
+
 pub circle::also_by-returns-clause-value : goal.circle::also_by-returns-clause-value
 circle::also_by-returns-clause-value t c =
     gives_same _ c.also_given.result _ _
     (ap (λ so_far. and_then (found_by (table_in c.args.s.now) (asks (table_in c.args.s.now) c.args.ask.now) c.args.ask.now.place c.args.star c.args.name.now c.args.clause.now) (and_also c.args.ask.now.place so_far))
     (option_later c.args.s.now c.found_by-found.new.s c.args.so_far c.found_by-found.ensures.grows c.requires))
     (c.also_given.ensures.value _ c.found_by-found.ensures.value)
+
+pub circle::also_by-also_given-requires-clause-so_far : goal.circle::also_by-also_given-requires-clause-so_far
+circle::also_by-also_given-requires-clause-so_far t c = some_later _ _ c.args.so_far c.found_by-found.ensures.grows c.requires
+
+pub circle::also_by-also_given-requires-clause-found : goal.circle::also_by-also_given-requires-clause-found
+circle::also_by-also_given-requires-clause-found t c = c.found_by-found.ensures.stand
+
+pub circle::also_by-returns-clause-grows : goal.circle::also_by-returns-clause-grows
+circle::also_by-returns-clause-grows t c = c.found_by-found.ensures.grows
+
+pub circle::also_by-returns-clause-stand : goal.circle::also_by-returns-clause-stand
+circle::also_by-returns-clause-stand t c = c.also_given.ensures.stand
 
 pub circle::found_by_each-returns-in-Err-clause-value : goal.circle::found_by_each-returns-in-Err-clause-value
 circle::found_by_each-returns-in-Err-clause-value t c =
@@ -202,15 +496,78 @@ circle::found_by_each-loop-at-preserved t c =
           (told_of (λ t. also_found t (asks t c.args.ask.now) c.args.ask.now.place c.args.star c.args.name.now F c.import_at-clause.result.now) c.args.s.now c.loop-at.s _ c.loop-at.invariant.grows c.in-Ok.ensures.value);
     }
 
+pub circle::found_by_each-also_by-requires : goal.circle::found_by_each-also_by-requires
+circle::found_by_each-also_by-requires t c = (omega arith, c.loop-at.invariant.stand)
+
+pub circle::found_by_each-returns-in-Err-clause-grows : goal.circle::found_by_each-returns-in-Err-clause-grows
+circle::found_by_each-returns-in-Err-clause-grows t c = grows_trans _ _ _ c.loop-at.invariant.grows c.in-Err.ensures.grows
+
+pub circle::found_by_each-returns-clause-grows : goal.circle::found_by_each-returns-clause-grows
+circle::found_by_each-returns-clause-grows t c = c.loop-at.invariant.grows
+
+pub circle::found_by_each-returns-clause-stand : goal.circle::found_by_each-returns-clause-stand
+circle::found_by_each-returns-clause-stand t c = c.loop-at.invariant.stand
+
+pub circle::found_by_imports-found_by_each-requires : goal.circle::found_by_imports-found_by_each-requires
+circle::found_by_imports-found_by_each-requires t c = (omega arith, c.requires)
+
+pub circle::found_by_imports-found_by_each-requires-in-Ok-None : goal.circle::found_by_imports-found_by_each-requires-in-Ok-None
+circle::found_by_imports-found_by_each-requires-in-Ok-None t c = (omega arith, is_frame_later _ _ _ c.in-Ok-None.ensures.grows c.requires)
+
+pub circle::found_by_imports-returns-in-Ok-None-clause-grows : goal.circle::found_by_imports-returns-in-Ok-None-clause-grows
+circle::found_by_imports-returns-in-Ok-None-clause-grows t c = grows_trans _ _ _ c.in-Ok-None.ensures.grows c.found_by_each-in-Ok-None.ensures.grows
+
+pub circle::found_by_imports-returns-in-Err-clause-grows : goal.circle::found_by_imports-returns-in-Err-clause-grows
+circle::found_by_imports-returns-in-Err-clause-grows t c = c.in-Err.ensures.grows
+
+pub circle::found_by_imports-returns-in-Ok-Some-clause-grows : goal.circle::found_by_imports-returns-in-Ok-Some-clause-grows
+circle::found_by_imports-returns-in-Ok-Some-clause-grows t c = c.in-Ok-Some.ensures.grows
+
+pub circle::found_by_imports-returns-in-Ok-None-clause-stand : goal.circle::found_by_imports-returns-in-Ok-None-clause-stand
+circle::found_by_imports-returns-in-Ok-None-clause-stand t c = c.found_by_each-in-Ok-None.ensures.stand
+
 pub circle::found_element-returns-clause-value : goal.circle::found_element-returns-clause-value
 circle::found_element-returns-clause-value t c =
     gives_same _ c.element_given.result _ _
     (any_met_told c.args.s.now c.reached-any.new.s c.args.ask.now c.args.bare c.args.frame.0 c.args.name.now c.reached-any.ensures.grows c.requires c.if-bare.false)
     (c.element_given.ensures.value _ c.reached-any.ensures.value)
 
+pub circle::found_element-reached-any-requires : goal.circle::found_element-reached-any-requires
+circle::found_element-reached-any-requires t c = (omega arith, c.requires)
+
+pub circle::found_element-element_given-requires-clause-frame : goal.circle::found_element-element_given-requires-clause-frame
+circle::found_element-element_given-requires-clause-frame t c = is_frame_later _ _ _ c.reached-any.ensures.grows c.requires
+
+pub circle::found_element-returns-clause-grows : goal.circle::found_element-returns-clause-grows
+circle::found_element-returns-clause-grows t c = grows_trans _ _ _ c.reached-any.ensures.grows c.element_given.ensures.grows
+
+pub circle::found_element-element_given-requires-clause-any : goal.circle::found_element-element_given-requires-clause-any
+circle::found_element-element_given-requires-clause-any t c = c.reached-any.ensures.stand
+
+pub circle::found_element-returns-then-bare-clause-grows : goal.circle::found_element-returns-then-bare-clause-grows
+circle::found_element-returns-then-bare-clause-grows t c = c.own_met.ensures.grows
+
+pub circle::found_element-returns-then-bare-clause-stand : goal.circle::found_element-returns-then-bare-clause-stand
+circle::found_element-returns-then-bare-clause-stand t c = c.own_met.ensures.stand
+
+pub circle::found_element-returns-clause-stand : goal.circle::found_element-returns-clause-stand
+circle::found_element-returns-clause-stand t c = c.element_given.ensures.stand
+
 pub circle::met_by_imports-returns-clause-value : goal.circle::met_by_imports-returns-clause-value
 circle::met_by_imports-returns-clause-value t c =
     gives_same _ c.met_given.result _ _ (imported_is _) (c.met_given.ensures.value _ c.found_by_imports-found.ensures.value)
+
+pub circle::met_by_imports-found_by_imports-found-requires : goal.circle::met_by_imports-found_by_imports-found-requires
+circle::met_by_imports-found_by_imports-found-requires t c = (omega arith, c.requires)
+
+pub circle::met_by_imports-met_given-requires : goal.circle::met_by_imports-met_given-requires
+circle::met_by_imports-met_given-requires t c = c.found_by_imports-found.ensures.stand
+
+pub circle::met_by_imports-returns-clause-grows : goal.circle::met_by_imports-returns-clause-grows
+circle::met_by_imports-returns-clause-grows t c = c.found_by_imports-found.ensures.grows
+
+pub circle::met_by_imports-returns-clause-stand : goal.circle::met_by_imports-returns-clause-stand
+circle::met_by_imports-returns-clause-stand t c = c.met_given.ensures.stand
 
 pub circle::found_in-returns-in-Err-clause-value : goal.circle::found_in-returns-in-Err-clause-value
 circle::found_in-returns-in-Err-clause-value t c =
@@ -244,6 +601,24 @@ circle::found_in-returns-in-Ok-None-clause-value t c =
     (c.in-Ok-None.ensures.value ∙ ap (λ o. Ok (option_map (found_at c.found_element.new.s) o)) c.in-Ok-None.field-0-is))
     c.met_by_imports.ensures.value
 
+pub circle::found_in-found_element-requires : goal.circle::found_in-found_element-requires
+circle::found_in-found_element-requires t c = (omega arith, c.requires)
+
+pub circle::found_in-met_by_imports-requires : goal.circle::found_in-met_by_imports-requires
+circle::found_in-met_by_imports-requires t c = (omega arith, is_frame_later _ _ _ c.in-Ok-None.ensures.grows c.requires)
+
+pub circle::found_in-returns-in-Ok-None-clause-grows : goal.circle::found_in-returns-in-Ok-None-clause-grows
+circle::found_in-returns-in-Ok-None-clause-grows t c = grows_trans _ _ _ c.in-Ok-None.ensures.grows c.met_by_imports.ensures.grows
+
+pub circle::found_in-returns-in-Err-clause-grows : goal.circle::found_in-returns-in-Err-clause-grows
+circle::found_in-returns-in-Err-clause-grows t c = c.in-Err.ensures.grows
+
+pub circle::found_in-returns-in-Ok-Some-clause-grows : goal.circle::found_in-returns-in-Ok-Some-clause-grows
+circle::found_in-returns-in-Ok-Some-clause-grows t c = c.in-Ok-Some.ensures.grows
+
+pub circle::found_in-returns-in-Ok-None-clause-stand : goal.circle::found_in-returns-in-Ok-None-clause-stand
+circle::found_in-returns-in-Ok-None-clause-stand t c = c.met_by_imports.ensures.stand
+
 pub bases::found_from-returns-in-Ends-clause-value : goal.bases::found_from-returns-in-Ends-clause-value
 bases::found_from-returns-in-Ends-clause-value t c =
     let A : Asking = asks (table_in c.args.s.now) c.args.ask.now in
@@ -271,11 +646,78 @@ bases::found_from-loop-met-smaller t c =
     (sym (past_told c.args.s.now c.loop-met.s c.found_in-here.new.s c.args.ask.now.place c.loop-met.frame.0 c.args.name.now c.loop-met.invariant.grows c.found_in-here.ensures.grows c.loop-met.invariant.stand)
     ∙ goes_on_around _ _ _ (rw c.in-Around.is at (c.next_past.ensures.value _ c.found_in-here.ensures.value)))
 
+pub bases::found_from-found_in-here-requires : goal.bases::found_from-found_in-here-requires
+bases::found_from-found_in-here-requires t c = (omega arith, c.loop-met.invariant.stand)
+
+pub bases::found_from-next_past-requires-clause-frame : goal.bases::found_from-next_past-requires-clause-frame
+bases::found_from-next_past-requires-clause-frame t c = is_frame_later _ _ _ c.found_in-here.ensures.grows c.loop-met.invariant.stand
+
+pub bases::found_from-returns-in-Ends-clause-grows : goal.bases::found_from-returns-in-Ends-clause-grows
+bases::found_from-returns-in-Ends-clause-grows t c = grows_trans _ _ _ c.loop-met.invariant.grows (grows_trans _ _ _ c.found_in-here.ensures.grows c.next_past.ensures.grows)
+
+pub bases::found_from-loop-met-init : goal.bases::found_from-loop-met-init
+bases::found_from-loop-met-init t c = record {
+  grows = grows_refl c.args.s.now;
+  stand = c.requires;
+  left = refl;
+}
+
+pub bases::found_from-next_past-requires-clause-here : goal.bases::found_from-next_past-requires-clause-here
+bases::found_from-next_past-requires-clause-here t c = c.found_in-here.ensures.stand
+
+pub bases::found_first-found_from-requires : goal.bases::found_first-found_from-requires
+bases::found_first-found_from-requires t c = (omega arith, c.requires)
+
+pub bases::found_first-returns-in-Some-clause-grows : goal.bases::found_first-returns-in-Some-clause-grows
+bases::found_first-returns-in-Some-clause-grows t c = grows_refl c.args.s.now
+
+pub bases::found_first-returns-then-top-clause-grows : goal.bases::found_first-returns-then-top-clause-grows
+bases::found_first-returns-then-top-clause-grows t c = c.met_at_top.ensures.grows
+
+pub bases::found_first-returns-then-top-clause-stand : goal.bases::found_first-returns-then-top-clause-stand
+bases::found_first-returns-then-top-clause-stand t c = c.met_at_top.ensures.stand
+
+pub bases::found_first-returns-in-None-clause-grows : goal.bases::found_first-returns-in-None-clause-grows
+bases::found_first-returns-in-None-clause-grows t c = c.found_from.ensures.grows
+
+pub bases::found_first-returns-in-None-clause-stand : goal.bases::found_first-returns-in-None-clause-stand
+bases::found_first-returns-in-None-clause-stand t c = c.found_from.ensures.stand
+
 pub bases::first_class-returns-clause-value : goal.bases::first_class-returns-clause-value
 bases::first_class-returns-clause-value t c = c.classed_met.ensures.value _ c.found_first-met.ensures.value
 
+pub bases::first_class-classed_met-requires : goal.bases::first_class-classed_met-requires
+bases::first_class-classed_met-requires t c = c.found_first-met.ensures.stand
+
+pub bases::first_class-returns-clause-grows : goal.bases::first_class-returns-clause-grows
+bases::first_class-returns-clause-grows t c = c.found_first-met.ensures.grows
+
+pub bases::first_class-returns-clause-stand : goal.bases::first_class-returns-clause-stand
+bases::first_class-returns-clause-stand t c = c.classed_met.ensures.stand
+
+pub bases::class_first-first_class-requires : goal.bases::class_first-first_class-requires
+bases::class_first-first_class-requires t c = (omega arith, c.requires)
+
+pub bases::class_first-returns-in-None-clause-grows : goal.bases::class_first-returns-in-None-clause-grows
+bases::class_first-returns-in-None-clause-grows t c = grows_refl c.args.s.now
+
+pub bases::class_first-returns-in-Some-clause-grows : goal.bases::class_first-returns-in-Some-clause-grows
+bases::class_first-returns-in-Some-clause-grows t c = c.first_class.ensures.grows
+
+pub bases::class_first-returns-in-Some-clause-stand : goal.bases::class_first-returns-in-Some-clause-stand
+bases::class_first-returns-in-Some-clause-stand t c = c.first_class.ensures.stand
+
 pub bases::class_step-returns-clause-value : goal.bases::class_step-returns-clause-value
 bases::class_step-returns-clause-value t c = c.classed_given.ensures.value _ c.behind_class-found.ensures.value
+
+pub bases::class_step-classed_given-requires : goal.bases::class_step-classed_given-requires
+bases::class_step-classed_given-requires t c = c.behind_class-found.ensures.stand
+
+pub bases::class_step-returns-clause-grows : goal.bases::class_step-returns-clause-grows
+bases::class_step-returns-clause-grows t c = c.behind_class-found.ensures.grows
+
+pub bases::class_step-returns-clause-stand : goal.bases::class_step-returns-clause-stand
+bases::class_step-returns-clause-stand t c = c.classed_given.ensures.stand
 
 pub bases::class_behind-returns-in_err-class-clause-value : goal.bases::class_behind-returns-in_err-class-clause-value
 bases::class_behind-returns-in_err-class-clause-value t c =
@@ -302,6 +744,30 @@ bases::class_behind-loop-part-preserved t c = record {
       (told_of (λ t. class_step t (asks t c.args.ask.now) C c.part-item.result) c.args.s.now c.loop-part.s _ c.loop-part.invariant.grows c.in_ok-class.ensures.value);
 }
 
+pub bases::class_behind-class_step-requires : goal.bases::class_behind-class_step-requires
+bases::class_behind-class_step-requires t c = (omega arith, c.loop-part.invariant.stand)
+
+pub bases::class_behind-returns-in_err-class-clause-grows : goal.bases::class_behind-returns-in_err-class-clause-grows
+bases::class_behind-returns-in_err-class-clause-grows t c = grows_trans _ _ _ c.loop-part.invariant.grows c.in_err-class.ensures.grows
+
+pub bases::class_behind-loop-part-init : goal.bases::class_behind-loop-part-init
+bases::class_behind-loop-part-init t c = record {
+  grows = grows_refl c.args.s.now;
+  stand = c.requires;
+  left = refl;
+}
+
+pub bases::class_behind-returns-in_err-class-clause-stand : goal.bases::class_behind-returns-in_err-class-clause-stand
+bases::class_behind-returns-in_err-class-clause-stand t c =
+    let p = err_from_is_err_and c.from_residual.result c.from_residual.ensures.1 in
+    rw p.1 tt
+
+pub bases::class_behind-returns-clause-grows : goal.bases::class_behind-returns-clause-grows
+bases::class_behind-returns-clause-grows t c = c.loop-part.invariant.grows
+
+pub bases::class_behind-returns-clause-stand : goal.bases::class_behind-returns-clause-stand
+bases::class_behind-returns-clause-stand t c = c.loop-part.invariant.stand
+
 pub bases::class_named-returns-in_err-first-clause-value : goal.bases::class_named-returns-in_err-first-clause-value
 bases::class_named-returns-in_err-first-clause-value t c =
     let p = err_from_is_err_and c.from_residual.result c.from_residual.ensures.1 in
@@ -327,8 +793,139 @@ bases::class_named-returns-clause-value t c =
     (class_named_is (table_in c.args.s.now) A c.args.bare S c.args.reference.now)
     c.in_ok-first.ensures.value)
 
+pub bases::class_named-class_first-requires : goal.bases::class_named-class_first-requires
+bases::class_named-class_first-requires t c = (omega arith, c.requires)
+
+pub bases::class_named-class_behind-requires : goal.bases::class_named-class_behind-requires
+bases::class_named-class_behind-requires t c = (omega arith, c.in_ok-first.ensures.stand)
+
+pub bases::class_named-returns-in_err-first-clause-grows : goal.bases::class_named-returns-in_err-first-clause-grows
+bases::class_named-returns-in_err-first-clause-grows t c = c.in_err-first.ensures.grows
+
+pub bases::class_named-returns-clause-grows : goal.bases::class_named-returns-clause-grows
+bases::class_named-returns-clause-grows t c = grows_trans _ _ _ c.in_ok-first.ensures.grows c.class_behind.ensures.grows
+
+pub bases::class_named-returns-in_err-first-clause-stand : goal.bases::class_named-returns-in_err-first-clause-stand
+bases::class_named-returns-in_err-first-clause-stand t c =
+    let p = err_from_is_err_and c.from_residual.result c.from_residual.ensures.1 in
+    rw p.1 tt
+
+pub bases::class_named-returns-clause-stand : goal.bases::class_named-returns-clause-stand
+bases::class_named-returns-clause-stand t c = c.class_behind.ensures.stand
+
+pub bases::base_class-returns-in_err-class-clause-grows : goal.bases::base_class-returns-in_err-class-clause-grows
+bases::base_class-returns-in_err-class-clause-grows t c = c.in_err-class.ensures.grows
+
+pub bases::base_class-returns-then-class-clause-grows : goal.bases::base_class-returns-then-class-clause-grows
+bases::base_class-returns-then-class-clause-grows t c = c.in_ok-class.ensures.grows
+
+pub bases::base_class-returns-clause-grows : goal.bases::base_class-returns-clause-grows
+bases::base_class-returns-clause-grows t c = c.in_ok-class.ensures.grows
+
+pub bases::base_class-returns-in_err-class-clause-stand : goal.bases::base_class-returns-in_err-class-clause-stand
+bases::base_class-returns-in_err-class-clause-stand t c =
+    let p = err_from_is_err_and c.from_residual.result c.from_residual.ensures.1 in
+    rw p.1 tt
+
+pub bases::base_class-returns-clause-stand : goal.bases::base_class-returns-clause-stand
+bases::base_class-returns-clause-stand t c = c.in_ok-class.ensures.stand
+
+pub bases::base_found-base_class-requires : goal.bases::base_found-base_class-requires
+bases::base_found-base_class-requires t c = (omega arith, c.requires)
+
+pub bases::base_found-base_entered-requires-clause-frame : goal.bases::base_found-base_entered-requires-clause-frame
+bases::base_found-base_entered-requires-clause-frame t c = is_frame_later _ _ _ c.in_ok-class.ensures.grows c.requires
+
+pub bases::base_found-base_entered-requires-clause-class : goal.bases::base_found-base_entered-requires-clause-class
+bases::base_found-base_entered-requires-clause-class t c = c.in_ok-class.ensures.stand
+
+pub bases::base_found-returns-then-is_none-clause-grows : goal.bases::base_found-returns-then-is_none-clause-grows
+bases::base_found-returns-then-is_none-clause-grows t c = grows_refl c.args.s.now
+
+pub bases::base_found-returns-in_err-class-clause-grows : goal.bases::base_found-returns-in_err-class-clause-grows
+bases::base_found-returns-in_err-class-clause-grows t c = c.in_err-class.ensures.grows
+
+pub bases::base_found-returns-in_err-base_entered-clause-grows : goal.bases::base_found-returns-in_err-base_entered-clause-grows
+bases::base_found-returns-in_err-base_entered-clause-grows t c = grows_trans _ _ _ c.in_ok-class.ensures.grows c.in_err-base_entered.ensures.grows
+
+pub bases::base_found-returns-clause-grows : goal.bases::base_found-returns-clause-grows
+bases::base_found-returns-clause-grows t c = grows_trans _ _ _ c.in_ok-class.ensures.grows c.in_ok-base_entered.ensures.grows
+
+pub bases::base_found-returns-in_err-class-clause-stand : goal.bases::base_found-returns-in_err-class-clause-stand
+bases::base_found-returns-in_err-class-clause-stand t c =
+    let p = err_from_is_err_and c.from_residual.result c.from_residual.ensures.1 in
+    rw p.1 tt
+
+pub bases::base_found-returns-in_err-base_entered-clause-stand : goal.bases::base_found-returns-in_err-base_entered-clause-stand
+bases::base_found-returns-in_err-base_entered-clause-stand t c =
+    let p = err_from_is_err_and c.from_residual-in_err-base_entered.result c.from_residual-in_err-base_entered.ensures.1 in
+    rw p.1 tt
+
+pub bases::base_found-returns-clause-stand : goal.bases::base_found-returns-clause-stand
+bases::base_found-returns-clause-stand t c = c.in_ok-base_entered.ensures.stand
+
+pub bases::base_found-returns-then-is_none-clause-stand : goal.bases::base_found-returns-then-is_none-clause-stand
+bases::base_found-returns-then-is_none-clause-stand t c = c.requires
+
+pub bases::base_elements-base_found-requires : goal.bases::base_elements-base_found-requires
+bases::base_elements-base_found-requires t c = (omega arith, c.requires)
+
+pub bases::base_elements-returns-in_err-base-clause-grows : goal.bases::base_elements-returns-in_err-base-clause-grows
+bases::base_elements-returns-in_err-base-clause-grows t c = c.in_err-base.ensures.grows
+
+pub bases::base_elements-returns-in_err-walked-clause-grows : goal.bases::base_elements-returns-in_err-walked-clause-grows
+bases::base_elements-returns-in_err-walked-clause-grows t c = grows_trans _ _ _ c.in_ok-base.ensures.grows c.in_err-walked.ensures.grows
+
+pub bases::base_elements-returns-clause-grows : goal.bases::base_elements-returns-clause-grows
+bases::base_elements-returns-clause-grows t c = grows_trans _ _ _ c.in_ok-base.ensures.grows c.in_ok-walked.ensures.grows
+
+pub bases::base_elements-returns-clause-stand : goal.bases::base_elements-returns-clause-stand
+bases::base_elements-returns-clause-stand t c = (is_frame_later _ _ _ c.in_ok-walked.ensures.grows c.in_ok-base.ensures.stand, c.in_ok-walked.ensures.stand)
+
+pub bases::base_elements-returns-in_err-base-clause-stand : goal.bases::base_elements-returns-in_err-base-clause-stand
+bases::base_elements-returns-in_err-base-clause-stand t c =
+    let p = err_from_is_err_and c.from_residual.result c.from_residual.ensures.1 in
+    rw p.1 tt
+
+pub bases::base_elements-returns-in_err-walked-clause-stand : goal.bases::base_elements-returns-in_err-walked-clause-stand
+bases::base_elements-returns-in_err-walked-clause-stand t c =
+    let p = err_from_is_err_and c.from_residual-in_err-walked.result c.from_residual-in_err-walked.ensures.1 in
+    rw p.1 tt
+
 pub bases::base_walked-with_base-requires-clause-so_far : goal.bases::base_walked-with_base-requires-clause-so_far
 bases::base_walked-with_base-requires-clause-so_far t c = is_walk_later c.args.s.now c.base_elements.new.s c.args.so_far.now c.in_ok-base.ensures.grows c.requires.so_far
+
+pub bases::base_walked-base_elements-requires : goal.bases::base_walked-base_elements-requires
+bases::base_walked-base_elements-requires t c = (omega arith, c.requires.frame)
+
+pub bases::base_walked-returns-in_err-base-clause-grows : goal.bases::base_walked-returns-in_err-base-clause-grows
+bases::base_walked-returns-in_err-base-clause-grows t c = c.in_err-base.ensures.grows
+
+pub bases::base_walked-returns-in_err-base-clause-stand : goal.bases::base_walked-returns-in_err-base-clause-stand
+bases::base_walked-returns-in_err-base-clause-stand t c =
+    let p = err_from_is_err_and c.from_residual.result c.from_residual.ensures.1 in
+    rw p.1 tt
+
+pub bases::base_walked-returns-clause-grows : goal.bases::base_walked-returns-clause-grows
+bases::base_walked-returns-clause-grows t c = c.in_ok-base.ensures.grows
+
+pub bases::base_walked-returns-clause-stand : goal.bases::base_walked-returns-clause-stand
+bases::base_walked-returns-clause-stand t c = c.with_base.ensures.stand
+
+pub bases::part_walked-base_walked-requires : goal.bases::part_walked-base_walked-requires
+bases::part_walked-base_walked-requires t c = (omega arith, (c.requires.frame, c.requires.so_far))
+
+pub bases::part_walked-returns-in_err-own_walked-in-Element-clause-grows : goal.bases::part_walked-returns-in_err-own_walked-in-Element-clause-grows
+bases::part_walked-returns-in_err-own_walked-in-Element-clause-grows t c = grows_refl c.args.s.now
+
+pub bases::part_walked-returns-in_ok-own_walked-in-Element-clause-grows : goal.bases::part_walked-returns-in_ok-own_walked-in-Element-clause-grows
+bases::part_walked-returns-in_ok-own_walked-in-Element-clause-grows t c = grows_refl c.args.s.now
+
+pub bases::part_walked-returns-in_err-base_walked-in-Base-clause-grows : goal.bases::part_walked-returns-in_err-base_walked-in-Base-clause-grows
+bases::part_walked-returns-in_err-base_walked-in-Base-clause-grows t c = c.in_err-base_walked-in-Base.ensures.grows
+
+pub bases::part_walked-returns-in_ok-base_walked-in-Base-clause-grows : goal.bases::part_walked-returns-in_ok-base_walked-in-Base-clause-grows
+bases::part_walked-returns-in_ok-base_walked-in-Base-clause-grows t c = c.in_ok-base_walked-in-Base.ensures.grows
 
 pub bases::walked_parts-returns-in_err-item-clause-value : goal.bases::walked_parts-returns-in_err-item-clause-value
 bases::walked_parts-returns-in_err-item-clause-value t c =
@@ -386,6 +983,20 @@ bases::walked_parts-loop-at-preserved t c =
       counted = c.in_ok-item.ensures.item ∙ counted_next (parts_of row) c.loop-at.at c.loop-at.item part read c.loop-at.invariant.counted;
     }
 
+pub bases::walked_parts-returns-in_err-item-clause-grows : goal.bases::walked_parts-returns-in_err-item-clause-grows
+bases::walked_parts-returns-in_err-item-clause-grows t c = grows_trans _ _ _ c.loop-at.invariant.grows c.in_err-item.ensures.grows
+
+pub bases::walked_parts-returns-in_err-item-clause-stand : goal.bases::walked_parts-returns-in_err-item-clause-stand
+bases::walked_parts-returns-in_err-item-clause-stand t c =
+    let p = err_from_is_err_and c.from_residual.result c.from_residual.ensures.1 in
+    rw p.1 tt
+
+pub bases::walked_parts-returns-clause-grows : goal.bases::walked_parts-returns-clause-grows
+bases::walked_parts-returns-clause-grows t c = c.loop-at.invariant.grows
+
+pub bases::walked_parts-returns-clause-stand : goal.bases::walked_parts-returns-clause-stand
+bases::walked_parts-returns-clause-stand t c = c.loop-at.invariant.stand
+
 pub bases::walked_class-returns-in_err-walk-clause-value : goal.bases::walked_class-returns-in_err-walk-clause-value
 bases::walked_class-returns-in_err-walk-clause-value t c =
     let p = err_from_is_err_and c.from_residual.result c.from_residual.ensures.1 in
@@ -406,116 +1017,22 @@ bases::walked_class-returns-clause-value t c =
     (then_ok (started F row) (λ w. and_then (parts_walked (table_in c.args.s.now) A F row 0 (parts_of row) w) leaf_checked) W _ (class_is (table_in c.args.s.now) A F row) c.in_ok-walk.ensures.value)
     (c.walk_checked.ensures.value _ c.walked_parts-done.ensures.value)
 
-pub bases::base_elements-returns-in_err-walked-clause-grows : goal.bases::base_elements-returns-in_err-walked-clause-grows
-bases::base_elements-returns-in_err-walked-clause-grows t c = grows_trans _ _ _ c.in_ok-base.ensures.grows c.in_err-walked.ensures.grows
-
-pub bases::base_elements-returns-clause-grows : goal.bases::base_elements-returns-clause-grows
-bases::base_elements-returns-clause-grows t c = grows_trans _ _ _ c.in_ok-base.ensures.grows c.in_ok-walked.ensures.grows
-
-pub bases::base_found-returns-then-is_none-clause-grows : goal.bases::base_found-returns-then-is_none-clause-grows
-bases::base_found-returns-then-is_none-clause-grows t c = grows_refl _
-
-pub bases::base_found-returns-in_err-base_entered-clause-grows : goal.bases::base_found-returns-in_err-base_entered-clause-grows
-bases::base_found-returns-in_err-base_entered-clause-grows t c = grows_trans _ _ _ c.in_ok-class.ensures.grows c.in_err-base_entered.ensures.grows
-
-pub bases::base_found-returns-clause-grows : goal.bases::base_found-returns-clause-grows
-bases::base_found-returns-clause-grows t c = grows_trans _ _ _ c.in_ok-class.ensures.grows c.in_ok-base_entered.ensures.grows
-
-pub bases::class_first-returns-in-None-clause-grows : goal.bases::class_first-returns-in-None-clause-grows
-bases::class_first-returns-in-None-clause-grows t c = grows_refl _
-
-pub bases::class_named-returns-clause-grows : goal.bases::class_named-returns-clause-grows
-bases::class_named-returns-clause-grows t c = grows_trans _ _ _ c.in_ok-first.ensures.grows c.class_behind.ensures.grows
-
-pub bases::found_first-returns-in-Some-clause-grows : goal.bases::found_first-returns-in-Some-clause-grows
-bases::found_first-returns-in-Some-clause-grows t c = grows_refl _
-
-pub bases::part_walked-returns-in_err-own_walked-in-Element-clause-grows : goal.bases::part_walked-returns-in_err-own_walked-in-Element-clause-grows
-bases::part_walked-returns-in_err-own_walked-in-Element-clause-grows t c = grows_refl _
-
-pub bases::part_walked-returns-in_ok-own_walked-in-Element-clause-grows : goal.bases::part_walked-returns-in_ok-own_walked-in-Element-clause-grows
-bases::part_walked-returns-in_ok-own_walked-in-Element-clause-grows t c = grows_refl _
+pub bases::walked_class-walked_parts-done-requires : goal.bases::walked_class-walked_parts-done-requires
+bases::walked_class-walked_parts-done-requires t c = (omega arith, (c.requires, c.in_ok-walk.ensures.stand))
 
 pub bases::walked_class-returns-in_err-walk-clause-grows : goal.bases::walked_class-returns-in_err-walk-clause-grows
-bases::walked_class-returns-in_err-walk-clause-grows t c = grows_refl _
+bases::walked_class-returns-in_err-walk-clause-grows t c = grows_refl c.args.s.now
 
-pub circle::behind_class-returns-clause-grows : goal.circle::behind_class-returns-clause-grows
-circle::behind_class-returns-clause-grows t c = grows_trans _ _ _ c.reached-any.ensures.grows (grows_trans _ _ _ c.counted_given-counts.ensures.grows c.behind_given.ensures.grows)
+pub bases::walked_class-returns-in_err-walk-clause-stand : goal.bases::walked_class-returns-in_err-walk-clause-stand
+bases::walked_class-returns-in_err-walk-clause-stand t c =
+    let p = err_from_is_err_and c.from_residual.result c.from_residual.ensures.1 in
+    rw p.1 tt
 
-pub circle::counted_given-returns-in-Ok-Other-clause-grows : goal.circle::counted_given-returns-in-Ok-Other-clause-grows
-circle::counted_given-returns-in-Ok-Other-clause-grows t c = grows_refl _
+pub bases::walked_class-walk_checked-requires : goal.bases::walked_class-walk_checked-requires
+bases::walked_class-walk_checked-requires t c = c.walked_parts-done.ensures.stand
 
-pub circle::counted_given-returns-in-Ok-Absent-clause-grows : goal.circle::counted_given-returns-in-Ok-Absent-clause-grows
-circle::counted_given-returns-in-Ok-Absent-clause-grows t c = grows_refl _
+pub bases::walked_class-returns-clause-grows : goal.bases::walked_class-returns-clause-grows
+bases::walked_class-returns-clause-grows t c = c.walked_parts-done.ensures.grows
 
-pub circle::counted_given-returns-in-Err-clause-grows : goal.circle::counted_given-returns-in-Err-clause-grows
-circle::counted_given-returns-in-Err-clause-grows t c = grows_refl _
-
-pub circle::found_by_import-returns-in-Ok-None-clause-grows : goal.circle::found_by_import-returns-in-Ok-None-clause-grows
-circle::found_by_import-returns-in-Ok-None-clause-grows t c = grows_refl _
-
-pub circle::found_by_import-returns-clause-grows : goal.circle::found_by_import-returns-clause-grows
-circle::found_by_import-returns-clause-grows t c = grows_refl _
-
-pub circle::found_by_imports-returns-in-Ok-None-clause-grows : goal.circle::found_by_imports-returns-in-Ok-None-clause-grows
-circle::found_by_imports-returns-in-Ok-None-clause-grows t c = grows_trans _ _ _ c.in-Ok-None.ensures.grows c.found_by_each-in-Ok-None.ensures.grows
-
-pub circle::found_by_star-returns-in_ok-frame-in-All-clause-grows : goal.circle::found_by_star-returns-in_ok-frame-in-All-clause-grows
-circle::found_by_star-returns-in_ok-frame-in-All-clause-grows t c = grows_trans _ _ _ c.in_ok-frame-in-All.ensures.grows c.through_star.ensures.grows
-
-pub circle::found_by_star-returns-in-Renamed-clause-grows : goal.circle::found_by_star-returns-in-Renamed-clause-grows
-circle::found_by_star-returns-in-Renamed-clause-grows t c = grows_refl _
-
-pub circle::found_by_star-returns-in-Named-clause-grows : goal.circle::found_by_star-returns-in-Named-clause-grows
-circle::found_by_star-returns-in-Named-clause-grows t c = grows_refl _
-
-pub circle::found_by_star-returns-in-Group-clause-grows : goal.circle::found_by_star-returns-in-Group-clause-grows
-circle::found_by_star-returns-in-Group-clause-grows t c = grows_refl _
-
-pub circle::found_element-returns-clause-grows : goal.circle::found_element-returns-clause-grows
-circle::found_element-returns-clause-grows t c = grows_trans _ _ _ c.reached-any.ensures.grows c.element_given.ensures.grows
-
-pub circle::found_in-returns-in-Ok-None-clause-grows : goal.circle::found_in-returns-in-Ok-None-clause-grows
-circle::found_in-returns-in-Ok-None-clause-grows t c = grows_trans _ _ _ c.in-Ok-None.ensures.grows c.met_by_imports.ensures.grows
-
-pub circle::import_step-returns-in_err-frame-clause-grows : goal.circle::import_step-returns-in_err-frame-clause-grows
-circle::import_step-returns-in_err-frame-clause-grows t c = grows_refl _
-
-pub circle::imported-returns-in-empty-clause-grows : goal.circle::imported-returns-in-empty-clause-grows
-circle::imported-returns-in-empty-clause-grows t c = grows_refl _
-
-pub circle::imported-returns-in-Ok-clause-grows : goal.circle::imported-returns-in-Ok-clause-grows
-circle::imported-returns-in-Ok-clause-grows t c = grows_trans _ _ _ c.in-Ok.ensures.grows c.import_behind.ensures.grows
-
-pub circle::imported_package-returns-in-empty-clause-grows : goal.circle::imported_package-returns-in-empty-clause-grows
-circle::imported_package-returns-in-empty-clause-grows t c = grows_refl _
-
-pub circle::is_package-returns-in-Some-clause-grows : goal.circle::is_package-returns-in-Some-clause-grows
-circle::is_package-returns-in-Some-clause-grows t c = grows_refl _
-
-pub circle::is_package-returns-then-is_busy-clause-grows : goal.circle::is_package-returns-then-is_busy-clause-grows
-circle::is_package-returns-then-is_busy-clause-grows t c = grows_refl _
-
-pub circle::package_named-returns-clause-grows : goal.circle::package_named-returns-clause-grows
-circle::package_named-returns-clause-grows t c = grows_trans _ _ _ c.in_ok-first.ensures.grows c.package_behind.ensures.grows
-
-pub circle::reached-returns-in-Some-clause-grows : goal.circle::reached-returns-in-Some-clause-grows
-circle::reached-returns-in-Some-clause-grows t c = grows_refl _
-
-pub circle::through_star-returns-clause-grows : goal.circle::through_star-returns-clause-grows
-circle::through_star-returns-clause-grows t c = grows_trans _ _ _ c.reached-any.ensures.grows (grows_trans _ _ _ c.counted_given-counts.ensures.grows c.star_given.ensures.grows)
-
-pub circle::walked-returns-then-ask-eq0-clause-grows : goal.circle::walked-returns-then-ask-eq0-clause-grows
-circle::walked-returns-then-ask-eq0-clause-grows t c = grows_refl _
-
-pub circle::walked-returns-then-is_busy-clause-grows : goal.circle::walked-returns-then-is_busy-clause-grows
-circle::walked-returns-then-is_busy-clause-grows t c = grows_refl _
-
-pub circle::walked-returns-in_err-depth-clause-grows : goal.circle::walked-returns-in_err-depth-clause-grows
-circle::walked-returns-in_err-depth-clause-grows t c = grows_refl _
-
-pub circle::walked-returns-in_err-busy-clause-grows : goal.circle::walked-returns-in_err-busy-clause-grows
-circle::walked-returns-in_err-busy-clause-grows t c = grows_refl _
-
-pub circle::walked_and_kept-returns-clause-grows : goal.circle::walked_and_kept-returns-clause-grows
-circle::walked_and_kept-returns-clause-grows t c = grows_trans _ _ _ c.walked-walk.ensures.grows c.walk_given.ensures.grows
+pub bases::walked_class-returns-clause-stand : goal.bases::walked_class-returns-clause-stand
+bases::walked_class-returns-clause-stand t c = c.walk_checked.ensures.stand

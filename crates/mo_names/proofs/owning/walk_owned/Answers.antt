@@ -1,33 +1,36 @@
 -- What was made stands in the last world.
-use Rattle.std.proofs.Common.{ap, map, ◌∙◌}
-use Rattle.mo_scope.specs.Worlds.{frame_at, frames_of}
-use Rattle.mo_names.specs.Sights.{inherited_seen}
-use Rattle.mo_names.specs.steps.Twins.{owned_inherited}
-use Rattle.mo_names.proofs.Later.{are_bases_later, are_inherited_later, grows_trans}
-use Rattle.mo_names.proofs.OwnedWalks.{owned_names, same_names}
+use Rattle.mo_scope.specs.Worlds.{frame_at}
+use Rattle.mo_names.proofs.OwnedWalks.{at_exit, owned_names, same_names, same_walk}
 use Rattle.mo_names.proofs.owning.walk_owned.Goals as goal
 
-pub returns-clause-stand : goal.returns-clause-stand
-returns-clause-stand c =
-    let s = c.args.s.now in
-    let u = c.members_owned.new.s in
-    let v = c.bases_owned.new.s in
-    let w = c.bases_owned-2.new.s in
-    let F = frame_at s c.args.frame.0 in
-    let are = c.in_ok-members.ensures.are ∙ ap (λ xs. map (owned_inherited F) (map (inherited_seen (frames_of s)) xs)) c.as_slice.ensures in
-    record {
-      members = are_inherited_later u w c.in_ok-members.members (grows_trans u v w c.in_ok-bases.ensures.grows c.in_ok-sections.ensures.grows) c.in_ok-members.ensures.exist;
-      bases = are_bases_later v w c.in_ok-bases.bases c.in_ok-sections.ensures.grows c.in_ok-bases.ensures.exist;
-      sections = c.in_ok-sections.ensures.exist;
-      leaf = tt;
-      names = same_names c.args.walk.members c.in_ok-members.members c.args.walk.names.value (owned_names s u F c.args.walk.members c.in_ok-members.members are) c.requires.walk.names;
-    }
+pub parts_owned-requires-clause-frame : goal.parts_owned-requires-clause-frame
+parts_owned-requires-clause-frame c = c.requires.frame
 
-pub returns-in_err-bases-clause-grows : goal.returns-in_err-bases-clause-grows
-returns-in_err-bases-clause-grows c = grows_trans _ _ _ c.in_ok-members.ensures.grows c.in_err-bases.ensures.grows
+pub parts_owned-requires-clause-walk : goal.parts_owned-requires-clause-walk
+parts_owned-requires-clause-walk c = c.requires.walk
 
-pub returns-in_err-sections-clause-grows : goal.returns-in_err-sections-clause-grows
-returns-in_err-sections-clause-grows c = grows_trans _ _ _ c.in_ok-members.ensures.grows (grows_trans _ _ _ c.in_ok-bases.ensures.grows c.in_err-sections.ensures.grows)
+pub returns-in_err-members-clause-grows : goal.returns-in_err-members-clause-grows
+returns-in_err-members-clause-grows c = c.in_err-members.ensures.grows
+
+pub returns-in_err-members-clause-is : goal.returns-in_err-members-clause-is
+returns-in_err-members-clause-is c = at_exit _ _ c.from_residual.result c.from_residual.ensures.1
+
+pub returns-in_err-members-clause-stand : goal.returns-in_err-members-clause-stand
+returns-in_err-members-clause-stand c = at_exit _ _ c.from_residual.result c.from_residual.ensures.1
 
 pub returns-clause-grows : goal.returns-clause-grows
-returns-clause-grows c = grows_trans _ _ _ c.in_ok-members.ensures.grows (grows_trans _ _ _ c.in_ok-bases.ensures.grows c.in_ok-sections.ensures.grows)
+returns-clause-grows c = c.in_ok-members.ensures.grows
+
+pub returns-clause-is : goal.returns-clause-is
+returns-clause-is c = same_walk _ _ _ _ _ _ c.in_ok-members.ensures.members c.in_ok-members.ensures.bases c.in_ok-members.ensures.sections
+
+pub returns-clause-stand : goal.returns-clause-stand
+returns-clause-stand c = record {
+  members = c.in_ok-members.ensures.members_exist;
+  bases = c.in_ok-members.ensures.bases_exist;
+  sections = c.in_ok-members.ensures.sections_exist;
+  leaf = tt;
+  names =
+      same_names c.args.walk.members c.in_ok-members.members c.args.walk.names.value
+      (owned_names c.args.s.now c.parts_owned.new.s (frame_at c.args.s.now c.args.frame.0) c.args.walk.members c.in_ok-members.members c.in_ok-members.ensures.members) c.requires.walk.names;
+}

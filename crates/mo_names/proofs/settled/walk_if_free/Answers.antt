@@ -13,3 +13,6 @@ returns-clause-is c =
     let less : c.args.made.deep ≤ c.class_count.result = omega arith in
     λ place. free_elements (table_in c.args.s.now) (frame_at c.args.s.now c.args.frame.0) (walk_at c.args.s.now c.args.made.walk) c.args.made.classes c.args.made.deep c.class_count.result place
     (ap (contains c.args.made.classes) (sym c.class_of.ensures.is) ∙ other) c.requires.told less c.class_count.ensures
+
+pub returns-clause-stand : goal.returns-clause-stand
+returns-clause-stand c = c.requires.stand
