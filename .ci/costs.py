@@ -18,8 +18,10 @@ TICKS = os.sysconf("SC_CLK_TCK")
 PARTS = ("proof", "tests", "seed", "edits")
 
 
-def part_of(words):
-    """What a check is for, by its words."""
+def part_of(words, place):
+    """What a check is for, by its words and the folder that it runs in."""
+    if "/rt-edit-" in place:
+        return "edits"
     if "/rt-edits-" in " ".join(words):
         return "seed" if any(it.endswith("/seed") for it in words) else "edits"
     return "tests" if "--test" in words else "proof"
@@ -34,11 +36,11 @@ def look(seen):
             words = (folder / "cmdline").read_bytes().decode(errors="replace").split("\0")
             if not words[0].endswith("/rattle") or "--crate-name" not in words:
                 continue
-            numbers = (folder / "stat").read_text().rsplit(")", 1)[1].split()
+            place, numbers = os.readlink(folder / "cwd"), (folder / "stat").read_text().rsplit(")", 1)[1].split()
         except OSError:
             continue
         crate = words[words.index("--crate-name") + 1]
-        seen[folder.name, numbers[19]] = crate, part_of(words), (int(numbers[11]) + int(numbers[12])) / TICKS
+        seen[folder.name, numbers[19]] = crate, part_of(words, place), (int(numbers[11]) + int(numbers[12])) / TICKS
 
 
 def told(seen):
@@ -61,4 +63,5 @@ def main():
     return run.returncode
 
 
-sys.exit(main())
+if __name__ == "__main__":
+    sys.exit(main())
