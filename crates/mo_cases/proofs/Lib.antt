@@ -1,1 +1,2 @@
 mod Diamond
+mod OneFile

@@ -2,6 +2,7 @@
 ghost use Rattle.mo_grammar.specs.Lexeme.{lexemes};
 ghost use Rattle.mo_parse_class.specs.WholeFiles.{EndsAtEnd};
 
+use crate::frames::{Question, is_of_class, put_of_class};
 use crate::telling::put_number;
 use crate::turns::{ROOM, Ran, Transfer, is_turned, run_over, turned};
 use mo_front::Status;
@@ -9,7 +10,7 @@ use mo_lexer::tokens;
 use mo_parse_body::{class_mod, equation_item, statement};
 use mo_parse_class::stored_definition;
 use mo_parse_expr::expression;
-use mo_syntax::{ClassDef, FileTree, List, NoMemory, Stop, Text, Token};
+use mo_syntax::{ClassDef, FileTree, List, NoMemory, Stop, Text, Token, both};
 use mo_unparse::{class_text, expr_text};
 use std::alloc::Global;
 
@@ -62,12 +63,18 @@ fn count<T: Drop>(read: Result<(T, usize), Stop>) -> Result<usize, Stop> {
     Ok(behind)
 }
 
-/// Writes what is asked of the tokens of a text by that word: `print` its classes, `expression` the expression that it begins with;
-/// `modifiers`, `equation` and `statement` how many tokens such a part at its begin has.
-fn put_read(alloc: Global, out: &mut Vec<u8>, word: &str, tokens: &[Token]) -> Result<(), Stop>
+/// Writes what is asked of the tokens of a text: `print` its classes, `expression` the expression that it begins with; `modifiers`, `equation`
+/// and `statement` how many tokens such a part at its begin has; what is asked of a class.
+fn put_read(
+    alloc: Global,
+    out: &mut Vec<u8>,
+    question: &Question,
+    tokens: &[Token],
+) -> Result<(), Stop>
     requires { EndsAtEnd (lexemes tokens.now) }
 {
-    match word {
+    match question.word {
+        word if is_of_class(word) => put_of_class(alloc, out, tokens, question),
         "expression" => put_expression(alloc, out, tokens),
         "modifiers" => Ok(put_number(out, count(class_mod(alloc, tokens, 0, 0))?)?),
         "equation" => Ok(put_number(out, count(equation_item(alloc, tokens, 0, 0))?)?),
@@ -76,19 +83,53 @@ fn put_read(alloc: Global, out: &mut Vec<u8>, word: &str, tokens: &[Token]) -> R
     }
 }
 
-/// Writes what is asked of a text by that word.
-fn put_asked(alloc: Global, out: &mut Vec<u8>, word: &str, text: &str) -> Result<(), Stop> {
+/// Writes what is asked of a text.
+fn put_asked(
+    alloc: Global,
+    out: &mut Vec<u8>,
+    question: &Question,
+    text: &str,
+) -> Result<(), Stop> {
     if text.len() > ROOM {
         return Err(Stop::NoMemory);
     }
     let list = tokens(alloc, 1, text)?;
-    put_read(alloc, out, word, list.as_slice())
+    put_read(alloc, out, question, list.as_slice())
 }
 
-/// What is asked of a text by that word; status 1 where the text breaks a rule.
-fn asked(alloc: Global, word: &str, bytes: &[u8]) -> Result<Ran, NoMemory> {
+/// The word of that place as a text, the empty one where there is none.
+fn text_at(alloc: Global, words: &[String], at: usize) -> Result<Text, NoMemory> {
+    match words.get(at) {
+        Some(word) => Text::from_str(alloc, word.as_str()),
+        None => Text::from_str(alloc, ""),
+    }
+}
+
+/// What these words ask, of which the first is given and the second names the file.
+fn question_of<'w>(
+    alloc: Global,
+    word: &'w str,
+    words: &[String],
+) -> Result<Question<'w>, NoMemory> {
+    let below = both(text_at(alloc, words, 3), text_at(alloc, words, 4));
+    let (class, (element, part)) = both(text_at(alloc, words, 2), below)?;
+    Ok(Question {
+        word,
+        class,
+        element,
+        part,
+    })
+}
+
+/// What is asked of a text; status 1 where the text breaks a rule.
+fn asked(alloc: Global, question: &Question, bytes: &[u8]) -> Result<Ran, NoMemory> {
     let mut text = Vec::new(alloc);
-    match put_asked(alloc, &mut text, word, str::from_utf8(bytes).unwrap_or("")) {
+    match put_asked(
+        alloc,
+        &mut text,
+        question,
+        str::from_utf8(bytes).unwrap_or(""),
+    ) {
         Ok(()) => Ok(Ran {
             status: Status::Done,
             text,
@@ -103,10 +144,11 @@ fn asked(alloc: Global, word: &str, bytes: &[u8]) -> Result<Ran, NoMemory> {
 
 /// Whether the word asks for what is read of a text, and not for a run.
 fn is_asked(word: &str) -> bool {
-    matches!(
-        word,
-        "print" | "expression" | "modifiers" | "equation" | "statement"
-    )
+    is_of_class(word)
+        || matches!(
+            word,
+            "print" | "expression" | "modifiers" | "equation" | "statement"
+        )
 }
 
 /// The words behind the first.
@@ -128,7 +170,8 @@ pub(crate) fn answer(
             turned(alloc, word.as_str(), behind_first(words), files.as_slice())
         }
         (Some(word), Some((_, bytes))) if is_asked(word.as_str()) => {
-            asked(alloc, word.as_str(), bytes.as_slice())
+            let question = question_of(alloc, word.as_str(), words)?;
+            asked(alloc, &question, bytes.as_slice())
         }
         _ => run_well(alloc, words, files),
     }

@@ -7,6 +7,7 @@
 
 mod answers;
 mod case;
+mod frames;
 mod telling;
 mod turns;
 
