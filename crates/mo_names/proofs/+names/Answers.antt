@@ -1,1038 +1,719 @@
--- One step further.
-use Rattle.mo_names.proofs.Circling.{is_busy_still, none_left, walked_further, drop_map, left_from, loop_err, names_step, then_ok, told_of, package_names_step, exit_err, later_gives, package_is, star_is, left_read, in_frame_is, around_less, err_on, class_names_step, class_is}
-use Rattle.mo_names.proofs.HandedOn.{any_met_told, behind_told, ends_give, go_next, goes_on_around, imported_is, inherited_told, open_told, option_later, outwards_told, some_later, through_star_told, walked_told}
-use Rattle.mo_names.proofs.Later.{grows_trans, grows_refl, table_later, is_frame_later, is_walk_later}
-use Rattle.mo_names.proofs.Naming.{class_named_is}
-use Rattle.mo_names.proofs.Outcomes.{gives_same, exit_same, then_same_ok}
-use Rattle.mo_names.proofs.OwnElements.{counted_next, own_part, own_part_later}
-use Rattle.mo_names.proofs.Outwards.{imports_told, past_told}
-use Rattle.mo_names.proofs.Walking.{part_read, part_told}
-use Rattle.mo_names.specs.steps.Bases.{first_of_parts, part_walked, parts_walked}
-use Rattle.mo_names.specs.steps.Parts.{imports_of, parts_of}
-use Rattle.mo_names.specs.Past.{Goes_on}
-use Rattle.mo_names.specs.Sights.{asking_at, asks, met_seen, classed_seen, found_at, walk_at}
-use Rattle.mo_names.specs.steps.Lookup.{before_dot, import_step, package_behind, package_step, package_at_top, also_found, found_by, found_by_all, imports_met, met_or, class_step, next_item, started}
-use Rattle.mo_scope.proofs.Numbered.{is_no_top}
-use Rattle.mo_scope.specs.Frames.{Frame, class_of, Scope}
-use Rattle.mo_scope.specs.Lookup.{and_also, contains, walked_class, Found, import_behind, through_star, Asking, found_element, Classed, class_behind, Walked, leaf_checked}
-use Rattle.mo_scope.specs.Rows.{row_at, Part, Row}
-use Rattle.mo_scope.specs.Sights.{part_seen, scope_at}
-use Rattle.mo_scope.specs.Worlds.{frame_at, frames_of, table_in}
-use Rattle.mo_syntax.specs.Outcome.{and_then}
-use Rattle.mo_syntax.specs.declared.class.Import.{Import}
-use Rattle.mo_syntax.specs.declared.meaning.FrameId.{FrameId}
-use Rattle.mo_syntax.specs.declared.place.Place.{Place}
-use Rattle.mo_syntax.specs.declared.text.Text.{Text}
-use Rattle.std.proofs.Common.{◌-◌, ◌<◌, ◌++◌, ◌∷◌, [], List, ℕ, ap, arith, sym, ◌≡◌, ◌∙◌, ◌+◌, Bor, Option, drop, map, Err, Some, None, subst, Ok, refl}
-use Rattle.std.proofs.lemmas.Result.{err_from_is_err_and}
-use Rattle.std.specs.Prelude.{option_map, slice_get}
+-- The answers of the circle, each with the file that has it.
+use Rattle.mo_names.proofs.+names.Answers.Bases as bases
+use Rattle.mo_names.proofs.+names.Answers.ClassNames as class_names
+use Rattle.mo_names.proofs.+names.Answers.ImportPaths as import_paths
+use Rattle.mo_names.proofs.+names.Answers.Importing as importing
+use Rattle.mo_names.proofs.+names.Answers.Outwards as outwards
+use Rattle.mo_names.proofs.+names.Answers.Reaching as reaching
 use Rattle.mo_names.proofs.+names.Goals as goal
+mod Bases
+mod ClassNames
+mod ImportPaths
+mod Importing
+mod Outwards
+mod Reaching
 
 pub circle::walked-returns-then-ask-eq0-clause-value : goal.circle::walked-returns-then-ask-eq0-clause-value
-circle::walked-returns-then-ask-eq0-clause-value t c =
-    rw c.stop.ensures (none_left (table_in c.args.s.now) c.args.ask.now.left c.args.ask.now.busy.now c.args.ask.now.place (frame_at c.args.s.now c.args.frame.0) c.if-ask-eq0.true)
+circle::walked-returns-then-ask-eq0-clause-value = reaching.walked-returns-then-ask-eq0-clause-value
 
 pub circle::walked-returns-then-is_busy-clause-value : goal.circle::walked-returns-then-is_busy-clause-value
-circle::walked-returns-then-is_busy-clause-value t c =
-    rw c.stop-then-is_busy.ensures (is_busy_still (table_in c.args.s.now) c.args.ask.now.left c.args.ask.now.busy.now c.args.ask.now.place (frame_at c.args.s.now c.args.frame.0)
-    (ap (contains c.args.ask.now.busy.now) (sym c.class_of-class.ensures.is) ∙ sym c.is_busy.ensures ∙ c.if-is_busy.true))
+circle::walked-returns-then-is_busy-clause-value = reaching.walked-returns-then-is_busy-clause-value
 
 pub circle::walked-returns-clause-value : goal.circle::walked-returns-clause-value
-circle::walked-returns-clause-value t c =
-    let F : Frame = frame_at c.args.s.now c.args.frame.0 in
-    let same : c.as_slice.result.now ≡ c.args.ask.now.busy.now ++ class_of F ∷ [] = c.as_slice.ensures ∙ c.in_ok-busy.ensures ∙ ap (λ (n : ℕ). c.args.ask.now.busy.now ++ n ∷ []) c.class_of-class.ensures.is in
-    let some : 0 < c.args.ask.now.left = omega arith in
-    gives_same (walk_at c.walked_class.new.s) c.walked_class.result _ _
-    (ap (λ (b : List ℕ). walked_class (table_in c.args.s.now) (asking_at (table_in c.args.s.now) (c.args.ask.now.left - 1) b) F (row_at (table_in c.args.s.now) (class_of F))) same
-    ∙ walked_further (table_in c.args.s.now) c.args.ask.now.left c.args.ask.now.busy.now c.args.ask.now.place F some
-    (ap (contains c.args.ask.now.busy.now) (sym c.class_of-class.ensures.is) ∙ sym c.is_busy.ensures ∙ c.if-is_busy.false))
-    c.walked_class.ensures.value
+circle::walked-returns-clause-value = reaching.walked-returns-clause-value
 
 pub circle::walked-returns-then-ask-eq0-clause-grows : goal.circle::walked-returns-then-ask-eq0-clause-grows
-circle::walked-returns-then-ask-eq0-clause-grows t c = grows_refl c.args.s.now
+circle::walked-returns-then-ask-eq0-clause-grows = reaching.walked-returns-then-ask-eq0-clause-grows
 
 pub circle::walked-returns-then-is_busy-clause-grows : goal.circle::walked-returns-then-is_busy-clause-grows
-circle::walked-returns-then-is_busy-clause-grows t c = grows_refl c.args.s.now
+circle::walked-returns-then-is_busy-clause-grows = reaching.walked-returns-then-is_busy-clause-grows
 
 pub circle::walked-returns-in_err-depth-clause-grows : goal.circle::walked-returns-in_err-depth-clause-grows
-circle::walked-returns-in_err-depth-clause-grows t c = grows_refl c.args.s.now
+circle::walked-returns-in_err-depth-clause-grows = reaching.walked-returns-in_err-depth-clause-grows
 
 pub circle::walked-returns-in_err-busy-clause-grows : goal.circle::walked-returns-in_err-busy-clause-grows
-circle::walked-returns-in_err-busy-clause-grows t c = grows_refl c.args.s.now
+circle::walked-returns-in_err-busy-clause-grows = reaching.walked-returns-in_err-busy-clause-grows
 
 pub circle::walked-returns-clause-grows : goal.circle::walked-returns-clause-grows
-circle::walked-returns-clause-grows t c = c.walked_class.ensures.grows
+circle::walked-returns-clause-grows = reaching.walked-returns-clause-grows
 
 pub circle::walked-returns-clause-stand : goal.circle::walked-returns-clause-stand
-circle::walked-returns-clause-stand t c = c.walked_class.ensures.stand
+circle::walked-returns-clause-stand = reaching.walked-returns-clause-stand
 
 pub circle::walked_and_kept-walk_given-requires-clause-is : goal.circle::walked_and_kept-walk_given-requires-clause-is
-circle::walked_and_kept-walk_given-requires-clause-is t c =
-    gives_same _ c.walked-walk.result _ _ (sym (walked_told c.args.s.now c.walked-walk.new.s c.args.ask.now c.args.frame.0 c.walked-walk.ensures.grows c.requires)) c.walked-walk.ensures.value
+circle::walked_and_kept-walk_given-requires-clause-is = reaching.walked_and_kept-walk_given-requires-clause-is
 
 pub circle::walked_and_kept-returns-clause-value : goal.circle::walked_and_kept-returns-clause-value
-circle::walked_and_kept-returns-clause-value t c =
-    gives_same _ c.walk_given.result _ _ (walked_told c.args.s.now c.walked-walk.new.s c.args.ask.now c.args.frame.0 c.walked-walk.ensures.grows c.requires) c.walk_given.ensures.value
+circle::walked_and_kept-returns-clause-value = reaching.walked_and_kept-returns-clause-value
 
 pub circle::walked_and_kept-walked-walk-requires : goal.circle::walked_and_kept-walked-walk-requires
-circle::walked_and_kept-walked-walk-requires t c = (omega arith, c.requires)
+circle::walked_and_kept-walked-walk-requires = reaching.walked_and_kept-walked-walk-requires
 
 pub circle::walked_and_kept-walk_given-requires-clause-frame : goal.circle::walked_and_kept-walk_given-requires-clause-frame
-circle::walked_and_kept-walk_given-requires-clause-frame t c = is_frame_later _ _ _ c.walked-walk.ensures.grows c.requires
+circle::walked_and_kept-walk_given-requires-clause-frame = reaching.walked_and_kept-walk_given-requires-clause-frame
 
 pub circle::walked_and_kept-returns-clause-grows : goal.circle::walked_and_kept-returns-clause-grows
-circle::walked_and_kept-returns-clause-grows t c = grows_trans _ _ _ c.walked-walk.ensures.grows c.walk_given.ensures.grows
+circle::walked_and_kept-returns-clause-grows = reaching.walked_and_kept-returns-clause-grows
 
 pub circle::walked_and_kept-walk_given-requires-clause-stands : goal.circle::walked_and_kept-walk_given-requires-clause-stands
-circle::walked_and_kept-walk_given-requires-clause-stands t c = c.walked-walk.ensures.stand
+circle::walked_and_kept-walk_given-requires-clause-stands = reaching.walked_and_kept-walk_given-requires-clause-stands
 
 pub circle::walked_and_kept-returns-clause-stand : goal.circle::walked_and_kept-returns-clause-stand
-circle::walked_and_kept-returns-clause-stand t c = c.walk_given.ensures.stand
+circle::walked_and_kept-returns-clause-stand = reaching.walked_and_kept-returns-clause-stand
 
 pub circle::reached-returns-in-None-clause-value : goal.circle::reached-returns-in-None-clause-value
-circle::reached-returns-in-None-clause-value t c =
-    gives_same _ c.reached_given.result _ _
-    (inherited_told c.args.s.now c.walked_and_kept-walk.new.s c.args.ask.now c.args.frame.0 c.args.name.now c.walked_and_kept-walk.ensures.grows (c.reached_at_hand.ensures.inherited c.in-None.is))
-    (c.reached_given.ensures.value _ c.walked_and_kept-walk.ensures.value)
+circle::reached-returns-in-None-clause-value = reaching.reached-returns-in-None-clause-value
 
 pub circle::reached-walked_and_kept-walk-requires : goal.circle::reached-walked_and_kept-walk-requires
-circle::reached-walked_and_kept-walk-requires t c = (omega arith, c.requires)
+circle::reached-walked_and_kept-walk-requires = reaching.reached-walked_and_kept-walk-requires
 
 pub circle::reached-returns-in-Some-clause-grows : goal.circle::reached-returns-in-Some-clause-grows
-circle::reached-returns-in-Some-clause-grows t c = grows_refl c.args.s.now
+circle::reached-returns-in-Some-clause-grows = reaching.reached-returns-in-Some-clause-grows
 
 pub circle::reached-reached_given-requires : goal.circle::reached-reached_given-requires
-circle::reached-reached_given-requires t c = c.walked_and_kept-walk.ensures.stand
+circle::reached-reached_given-requires = reaching.reached-reached_given-requires
 
 pub circle::reached-returns-in-None-clause-grows : goal.circle::reached-returns-in-None-clause-grows
-circle::reached-returns-in-None-clause-grows t c = c.walked_and_kept-walk.ensures.grows
+circle::reached-returns-in-None-clause-grows = reaching.reached-returns-in-None-clause-grows
 
 pub circle::reached-returns-in-None-clause-stand : goal.circle::reached-returns-in-None-clause-stand
-circle::reached-returns-in-None-clause-stand t c = c.reached_given.ensures.stand
+circle::reached-returns-in-None-clause-stand = reaching.reached-returns-in-None-clause-stand
 
 pub circle::is_package-returns-clause-value : goal.circle::is_package-returns-clause-value
-circle::is_package-returns-clause-value t c =
-    gives_same _ c.are_open_given.result _ _
-    (open_told (table_in c.args.s.now) c.args.ask.now (frame_at c.args.s.now c.args.frame.0)
-    (ap (contains c.args.ask.now.busy.now) (sym c.class_of.ensures.is) ∙ sym c.is_busy.ensures ∙ c.if-is_busy.false))
-    (c.are_open_given.ensures _ c.walked_and_kept-walk.ensures.value)
+circle::is_package-returns-clause-value = reaching.is_package-returns-clause-value
 
 pub circle::is_package-walked_and_kept-walk-requires : goal.circle::is_package-walked_and_kept-walk-requires
-circle::is_package-walked_and_kept-walk-requires t c = (omega arith, c.requires)
+circle::is_package-walked_and_kept-walk-requires = reaching.is_package-walked_and_kept-walk-requires
 
 pub circle::is_package-returns-in-Some-clause-grows : goal.circle::is_package-returns-in-Some-clause-grows
-circle::is_package-returns-in-Some-clause-grows t c = grows_refl c.args.s.now
+circle::is_package-returns-in-Some-clause-grows = reaching.is_package-returns-in-Some-clause-grows
 
 pub circle::is_package-returns-then-is_busy-clause-grows : goal.circle::is_package-returns-then-is_busy-clause-grows
-circle::is_package-returns-then-is_busy-clause-grows t c = grows_refl c.args.s.now
+circle::is_package-returns-then-is_busy-clause-grows = reaching.is_package-returns-then-is_busy-clause-grows
 
 pub circle::is_package-returns-clause-grows : goal.circle::is_package-returns-clause-grows
-circle::is_package-returns-clause-grows t c = c.walked_and_kept-walk.ensures.grows
+circle::is_package-returns-clause-grows = reaching.is_package-returns-clause-grows
 
 pub circle::counted-is_package-requires : goal.circle::counted-is_package-requires
-circle::counted-is_package-requires t c = (omega arith, c.requires.frame)
+circle::counted-is_package-requires = reaching.counted-is_package-requires
 
 pub circle::counted-returns-in_err-is_package-clause-grows : goal.circle::counted-returns-in_err-is_package-clause-grows
-circle::counted-returns-in_err-is_package-clause-grows t c = c.in_err-is_package.ensures.grows
+circle::counted-returns-in_err-is_package-clause-grows = reaching.counted-returns-in_err-is_package-clause-grows
 
 pub circle::counted_given-returns-in_err-counted-in-Ok-Element-clause-grows : goal.circle::counted_given-returns-in_err-counted-in-Ok-Element-clause-grows
-circle::counted_given-returns-in_err-counted-in-Ok-Element-clause-grows t c = c.in_err-counted-in-Ok-Element.ensures.grows
+circle::counted_given-returns-in_err-counted-in-Ok-Element-clause-grows = reaching.counted_given-returns-in_err-counted-in-Ok-Element-clause-grows
 
 pub circle::counted_given-returns-in_ok-counted-in-Ok-Element-clause-grows : goal.circle::counted_given-returns-in_ok-counted-in-Ok-Element-clause-grows
-circle::counted_given-returns-in_ok-counted-in-Ok-Element-clause-grows t c = c.in_ok-counted-in-Ok-Element.ensures.grows
+circle::counted_given-returns-in_ok-counted-in-Ok-Element-clause-grows = reaching.counted_given-returns-in_ok-counted-in-Ok-Element-clause-grows
 
 pub circle::counted_given-returns-in-Ok-Other-clause-grows : goal.circle::counted_given-returns-in-Ok-Other-clause-grows
-circle::counted_given-returns-in-Ok-Other-clause-grows t c = grows_refl c.args.s.now
+circle::counted_given-returns-in-Ok-Other-clause-grows = reaching.counted_given-returns-in-Ok-Other-clause-grows
 
 pub circle::counted_given-returns-in-Ok-Absent-clause-grows : goal.circle::counted_given-returns-in-Ok-Absent-clause-grows
-circle::counted_given-returns-in-Ok-Absent-clause-grows t c = grows_refl c.args.s.now
+circle::counted_given-returns-in-Ok-Absent-clause-grows = reaching.counted_given-returns-in-Ok-Absent-clause-grows
 
 pub circle::counted_given-returns-in-Err-clause-grows : goal.circle::counted_given-returns-in-Err-clause-grows
-circle::counted_given-returns-in-Err-clause-grows t c = grows_refl c.args.s.now
+circle::counted_given-returns-in-Err-clause-grows = reaching.counted_given-returns-in-Err-clause-grows
 
 pub circle::counted_given-returns-in_err-counted-in-Ok-Element-clause-stand : goal.circle::counted_given-returns-in_err-counted-in-Ok-Element-clause-stand
-circle::counted_given-returns-in_err-counted-in-Ok-Element-clause-stand t c =
-    let p = err_from_is_err_and c.from_residual.result c.from_residual.ensures.1 in
-    rw p.1 tt
+circle::counted_given-returns-in_err-counted-in-Ok-Element-clause-stand = reaching.counted_given-returns-in_err-counted-in-Ok-Element-clause-stand
 
 pub circle::behind_class-returns-clause-value : goal.circle::behind_class-returns-clause-value
-circle::behind_class-returns-clause-value t c =
-    gives_same _ c.behind_given.result _ _
-    (behind_told c.args.s.now c.reached-any.new.s c.counted_given-counts.new.s c.args.ask.now c.args.place c.args.component c.args.frame.0 c.args.name.now c.reached-any.ensures.grows c.counted_given-counts.ensures.grows c.requires)
-    (c.behind_given.ensures.value _ (c.counted_given-counts.ensures.value _ c.reached-any.ensures.value))
+circle::behind_class-returns-clause-value = reaching.behind_class-returns-clause-value
 
 pub circle::behind_class-reached-any-requires : goal.circle::behind_class-reached-any-requires
-circle::behind_class-reached-any-requires t c = (omega arith, c.requires)
+circle::behind_class-reached-any-requires = reaching.behind_class-reached-any-requires
 
 pub circle::behind_class-counted_given-counts-requires : goal.circle::behind_class-counted_given-counts-requires
-circle::behind_class-counted_given-counts-requires t c = (omega arith, (is_frame_later _ _ _ c.reached-any.ensures.grows c.requires, c.reached-any.ensures.stand))
+circle::behind_class-counted_given-counts-requires = reaching.behind_class-counted_given-counts-requires
 
 pub circle::behind_class-behind_given-requires-clause-frame : goal.circle::behind_class-behind_given-requires-clause-frame
-circle::behind_class-behind_given-requires-clause-frame t c = is_frame_later _ _ _ c.counted_given-counts.ensures.grows (is_frame_later _ _ _ c.reached-any.ensures.grows c.requires)
+circle::behind_class-behind_given-requires-clause-frame = reaching.behind_class-behind_given-requires-clause-frame
 
 pub circle::behind_class-returns-clause-grows : goal.circle::behind_class-returns-clause-grows
-circle::behind_class-returns-clause-grows t c = grows_trans _ _ _ c.reached-any.ensures.grows (grows_trans _ _ _ c.counted_given-counts.ensures.grows c.behind_given.ensures.grows)
+circle::behind_class-returns-clause-grows = reaching.behind_class-returns-clause-grows
 
 pub circle::behind_class-behind_given-requires-clause-any : goal.circle::behind_class-behind_given-requires-clause-any
-circle::behind_class-behind_given-requires-clause-any t c = c.counted_given-counts.ensures.stand
+circle::behind_class-behind_given-requires-clause-any = reaching.behind_class-behind_given-requires-clause-any
 
 pub circle::behind_class-returns-clause-stand : goal.circle::behind_class-returns-clause-stand
-circle::behind_class-returns-clause-stand t c = c.behind_given.ensures.stand
+circle::behind_class-returns-clause-stand = reaching.behind_class-returns-clause-stand
 
 pub circle::import_step-returns-in_err-frame-clause-grows : goal.circle::import_step-returns-in_err-frame-clause-grows
-circle::import_step-returns-in_err-frame-clause-grows t c = grows_refl c.args.s.now
+circle::import_step-returns-in_err-frame-clause-grows = import_paths.import_step-returns-in_err-frame-clause-grows
 
 pub circle::import_step-behind_class-requires : goal.circle::import_step-behind_class-requires
-circle::import_step-behind_class-requires t c = (omega arith, c.in_ok-frame.ensures.stand)
+circle::import_step-behind_class-requires = import_paths.import_step-behind_class-requires
 
 pub circle::import_step-returns-in_err-frame-clause-stand : goal.circle::import_step-returns-in_err-frame-clause-stand
-circle::import_step-returns-in_err-frame-clause-stand t c =
-    let p = err_from_is_err_and c.from_residual.result c.from_residual.ensures.1 in
-    rw p.1 tt
+circle::import_step-returns-in_err-frame-clause-stand = import_paths.import_step-returns-in_err-frame-clause-stand
 
 pub circle::import_step-returns-clause-grows : goal.circle::import_step-returns-clause-grows
-circle::import_step-returns-clause-grows t c = c.behind_class.ensures.grows
+circle::import_step-returns-clause-grows = import_paths.import_step-returns-clause-grows
 
 pub circle::import_step-returns-clause-stand : goal.circle::import_step-returns-clause-stand
-circle::import_step-returns-clause-stand t c = c.behind_class.ensures.stand
+circle::import_step-returns-clause-stand = import_paths.import_step-returns-clause-stand
 
 pub circle::import_behind-returns-in-Err-clause-value : goal.circle::import_behind-returns-in-Err-clause-value
-circle::import_behind-returns-in-Err-clause-value t c =
-    let F : Found = found_at c.loop-at.s c.loop-at.found in
-    let rest : List (List ℕ) = map (λ (name : Bor Text). name.now) (drop (c.loop-at.at + 1) c.args.names.now) in
-    let before : c.before_dot-before.result ≡ before_dot c.args.place rest = c.before_dot-before.ensures ∙ ap (before_dot c.args.place) (drop_map (λ (name : Bor Text). name.now) c.args.names.now (c.loop-at.at + 1)) in
-    loop_err (found_at c.import_step.new.s) (found_at c.import_step.new.s) c.in-Err.stop c.args.s.now c.loop-at.s
-    (λ t. import_step t (asks t c.args.ask.now) c.args.ask.now.place c.args.place c.before_dot-before.result F c.index-names-at.result.now)
-    (λ next. import_behind (table_in c.args.s.now) (asks (table_in c.args.s.now) c.args.ask.now) c.args.ask.now.place c.args.place next rest) _
-    c.loop-at.invariant.grows c.in-Err.ensures.value
-    (rw before (names_step (table_in c.args.s.now) (asks (table_in c.args.s.now) c.args.ask.now) c.args.ask.now.place c.args.place F c.index-names-at.result.now rest
-    ∙ left_from (λ xs. import_behind (table_in c.args.s.now) (asks (table_in c.args.s.now) c.args.ask.now) c.args.ask.now.place c.args.place F (map (λ (name : Bor Text). name.now) xs)) c.args.names.now c.loop-at.at c.index-names-at.result _ c.loop-at-test.true c.index-names-at.is c.loop-at.invariant.left))
+circle::import_behind-returns-in-Err-clause-value = import_paths.import_behind-returns-in-Err-clause-value
 
 pub circle::import_behind-loop-at-preserved : goal.circle::import_behind-loop-at-preserved
-circle::import_behind-loop-at-preserved t c =
-    let F : Found = found_at c.loop-at.s c.loop-at.found in
-    let rest : List (List ℕ) = map (λ (name : Bor Text). name.now) (drop (c.loop-at.at + 1) c.args.names.now) in
-    let before : c.before_dot-before.result ≡ before_dot c.args.place rest = c.before_dot-before.ensures ∙ ap (before_dot c.args.place) (drop_map (λ (name : Bor Text). name.now) c.args.names.now (c.loop-at.at + 1)) in
-    record {
-      grows = grows_trans c.args.s.now c.loop-at.s c.import_step.new.s c.loop-at.invariant.grows c.in-Ok.ensures.grows;
-      stand = c.in-Ok.ensures.stand;
-      left =
-          then_ok (import_step (table_in c.args.s.now) (asks (table_in c.args.s.now) c.args.ask.now) c.args.ask.now.place c.args.place (before_dot c.args.place rest) F c.index-names-at.result.now)
-          (λ next. import_behind (table_in c.args.s.now) (asks (table_in c.args.s.now) c.args.ask.now) c.args.ask.now.place c.args.place next rest)
-          (found_at c.import_step.new.s c.in-Ok.next) _
-          (names_step (table_in c.args.s.now) (asks (table_in c.args.s.now) c.args.ask.now) c.args.ask.now.place c.args.place F c.index-names-at.result.now rest
-          ∙ left_from (λ xs. import_behind (table_in c.args.s.now) (asks (table_in c.args.s.now) c.args.ask.now) c.args.ask.now.place c.args.place F (map (λ (name : Bor Text). name.now) xs)) c.args.names.now c.loop-at.at c.index-names-at.result _ c.loop-at-test.true c.index-names-at.is c.loop-at.invariant.left)
-          (ap (λ (b : Option Place). import_step (table_in c.args.s.now) (asks (table_in c.args.s.now) c.args.ask.now) c.args.ask.now.place c.args.place b F c.index-names-at.result.now) (sym before)
-          ∙ told_of (λ t. import_step t (asks t c.args.ask.now) c.args.ask.now.place c.args.place c.before_dot-before.result F c.index-names-at.result.now) c.args.s.now c.loop-at.s _ c.loop-at.invariant.grows c.in-Ok.ensures.value);
-    }
+circle::import_behind-loop-at-preserved = import_paths.import_behind-loop-at-preserved
 
 pub circle::import_behind-import_step-requires : goal.circle::import_behind-import_step-requires
-circle::import_behind-import_step-requires t c = (omega arith, c.loop-at.invariant.stand)
+circle::import_behind-import_step-requires = import_paths.import_behind-import_step-requires
 
 pub circle::import_behind-returns-in-Err-clause-grows : goal.circle::import_behind-returns-in-Err-clause-grows
-circle::import_behind-returns-in-Err-clause-grows t c = grows_trans _ _ _ c.loop-at.invariant.grows c.in-Err.ensures.grows
+circle::import_behind-returns-in-Err-clause-grows = import_paths.import_behind-returns-in-Err-clause-grows
 
 pub circle::import_behind-loop-at-init : goal.circle::import_behind-loop-at-init
-circle::import_behind-loop-at-init t c = record {
-  grows = grows_refl c.args.s.now;
-  stand = c.requires;
-  left = refl;
-}
+circle::import_behind-loop-at-init = import_paths.import_behind-loop-at-init
 
 pub circle::import_behind-returns-clause-grows : goal.circle::import_behind-returns-clause-grows
-circle::import_behind-returns-clause-grows t c = c.loop-at.invariant.grows
+circle::import_behind-returns-clause-grows = import_paths.import_behind-returns-clause-grows
 
 pub circle::import_behind-returns-clause-stand : goal.circle::import_behind-returns-clause-stand
-circle::import_behind-returns-clause-stand t c = c.loop-at.invariant.stand
+circle::import_behind-returns-clause-stand = import_paths.import_behind-returns-clause-stand
 
 pub circle::imported-import_behind-requires : goal.circle::imported-import_behind-requires
-circle::imported-import_behind-requires t c = (omega arith, c.in-Ok.ensures.stand)
+circle::imported-import_behind-requires = import_paths.imported-import_behind-requires
 
 pub circle::imported-returns-in-Ok-clause-grows : goal.circle::imported-returns-in-Ok-clause-grows
-circle::imported-returns-in-Ok-clause-grows t c = grows_trans _ _ _ c.in-Ok.ensures.grows c.import_behind.ensures.grows
+circle::imported-returns-in-Ok-clause-grows = import_paths.imported-returns-in-Ok-clause-grows
 
 pub circle::imported-returns-in-empty-clause-grows : goal.circle::imported-returns-in-empty-clause-grows
-circle::imported-returns-in-empty-clause-grows t c = grows_refl c.args.s.now
+circle::imported-returns-in-empty-clause-grows = import_paths.imported-returns-in-empty-clause-grows
 
 pub circle::imported-returns-in-Err-clause-grows : goal.circle::imported-returns-in-Err-clause-grows
-circle::imported-returns-in-Err-clause-grows t c = c.in-Err.ensures.grows
+circle::imported-returns-in-Err-clause-grows = import_paths.imported-returns-in-Err-clause-grows
 
 pub circle::imported-returns-in-Ok-clause-stand : goal.circle::imported-returns-in-Ok-clause-stand
-circle::imported-returns-in-Ok-clause-stand t c = c.import_behind.ensures.stand
+circle::imported-returns-in-Ok-clause-stand = import_paths.imported-returns-in-Ok-clause-stand
 
 pub circle::package_step-returns-clause-value : goal.circle::package_step-returns-clause-value
-circle::package_step-returns-clause-value t c = c.class_given.ensures.value _ c.behind_class-found.ensures.value
+circle::package_step-returns-clause-value = import_paths.package_step-returns-clause-value
 
 pub circle::package_step-behind_class-found-requires : goal.circle::package_step-behind_class-found-requires
-circle::package_step-behind_class-found-requires t c = (omega arith, c.requires)
+circle::package_step-behind_class-found-requires = import_paths.package_step-behind_class-found-requires
 
 pub circle::package_step-class_given-requires : goal.circle::package_step-class_given-requires
-circle::package_step-class_given-requires t c = c.behind_class-found.ensures.stand
+circle::package_step-class_given-requires = import_paths.package_step-class_given-requires
 
 pub circle::package_step-returns-clause-grows : goal.circle::package_step-returns-clause-grows
-circle::package_step-returns-clause-grows t c = c.behind_class-found.ensures.grows
+circle::package_step-returns-clause-grows = import_paths.package_step-returns-clause-grows
 
 pub circle::package_step-returns-clause-stand : goal.circle::package_step-returns-clause-stand
-circle::package_step-returns-clause-stand t c = c.class_given.ensures.stand
+circle::package_step-returns-clause-stand = import_paths.package_step-returns-clause-stand
 
 pub circle::package_behind-returns-in_err-frame-clause-value : goal.circle::package_behind-returns-in_err-frame-clause-value
-circle::package_behind-returns-in_err-frame-clause-value t c =
-    let p = err_from_is_err_and c.from_residual.result c.from_residual.ensures.1 in
-    let F : Frame = frame_at c.loop-name.s c.loop-name.frame.0 in
-    rw (p.1, p.2) (loop_err (λ (f : FrameId). frame_at c.package_step.new.s f.0) (λ (f : FrameId). frame_at c.package_step.new.s f.0) c.in_err-frame.field-0.0 c.args.s.now c.loop-name.s
-    (λ t. package_step t (asks t c.args.ask.now) c.args.ask.now.place c.args.place F c.name-item.result)
-    (λ next. package_behind (table_in c.args.s.now) (asks (table_in c.args.s.now) c.args.ask.now) c.args.ask.now.place c.args.place next (drop (c.loop-name.name-index + 1) c.args.names.now)) _
-    c.loop-name.invariant.grows c.in_err-frame.ensures.value
-    (package_names_step (table_in c.args.s.now) (asks (table_in c.args.s.now) c.args.ask.now) c.args.ask.now.place c.args.place F c.name-item.result (drop (c.loop-name.name-index + 1) c.args.names.now)
-    ∙ left_from (package_behind (table_in c.args.s.now) (asks (table_in c.args.s.now) c.args.ask.now) c.args.ask.now.place c.args.place F) c.args.names.now c.loop-name.name-index c.name-item.result _ c.loop-name-test.true c.name-item.is c.loop-name.invariant.left))
+circle::package_behind-returns-in_err-frame-clause-value = import_paths.package_behind-returns-in_err-frame-clause-value
 
 pub circle::package_behind-loop-name-preserved : goal.circle::package_behind-loop-name-preserved
-circle::package_behind-loop-name-preserved t c = record {
-  grows = grows_trans c.args.s.now c.loop-name.s c.package_step.new.s c.loop-name.invariant.grows c.in_ok-frame.ensures.grows;
-  stand = c.in_ok-frame.ensures.stand;
-  left =
-      let F : Frame = frame_at c.loop-name.s c.loop-name.frame.0 in
-      then_ok (package_step (table_in c.args.s.now) (asks (table_in c.args.s.now) c.args.ask.now) c.args.ask.now.place c.args.place F c.name-item.result)
-      (λ next. package_behind (table_in c.args.s.now) (asks (table_in c.args.s.now) c.args.ask.now) c.args.ask.now.place c.args.place next (drop (c.loop-name.name-index + 1) c.args.names.now))
-      (frame_at c.package_step.new.s c.in_ok-frame.frame.0) _
-      (package_names_step (table_in c.args.s.now) (asks (table_in c.args.s.now) c.args.ask.now) c.args.ask.now.place c.args.place F c.name-item.result (drop (c.loop-name.name-index + 1) c.args.names.now)
-      ∙ left_from (package_behind (table_in c.args.s.now) (asks (table_in c.args.s.now) c.args.ask.now) c.args.ask.now.place c.args.place F) c.args.names.now c.loop-name.name-index c.name-item.result _ c.loop-name-test.true c.name-item.is c.loop-name.invariant.left)
-      (told_of (λ t. package_step t (asks t c.args.ask.now) c.args.ask.now.place c.args.place F c.name-item.result) c.args.s.now c.loop-name.s _ c.loop-name.invariant.grows c.in_ok-frame.ensures.value);
-}
+circle::package_behind-loop-name-preserved = import_paths.package_behind-loop-name-preserved
 
 pub circle::package_behind-package_step-requires : goal.circle::package_behind-package_step-requires
-circle::package_behind-package_step-requires t c = (omega arith, c.loop-name.invariant.stand)
+circle::package_behind-package_step-requires = import_paths.package_behind-package_step-requires
 
 pub circle::package_behind-returns-in_err-frame-clause-grows : goal.circle::package_behind-returns-in_err-frame-clause-grows
-circle::package_behind-returns-in_err-frame-clause-grows t c = grows_trans _ _ _ c.loop-name.invariant.grows c.in_err-frame.ensures.grows
+circle::package_behind-returns-in_err-frame-clause-grows = import_paths.package_behind-returns-in_err-frame-clause-grows
 
 pub circle::package_behind-loop-name-init : goal.circle::package_behind-loop-name-init
-circle::package_behind-loop-name-init t c = record {
-  grows = grows_refl c.args.s.now;
-  stand = c.requires;
-  left = refl;
-}
+circle::package_behind-loop-name-init = import_paths.package_behind-loop-name-init
 
 pub circle::package_behind-returns-in_err-frame-clause-stand : goal.circle::package_behind-returns-in_err-frame-clause-stand
-circle::package_behind-returns-in_err-frame-clause-stand t c =
-    let p = err_from_is_err_and c.from_residual.result c.from_residual.ensures.1 in
-    rw p.1 tt
+circle::package_behind-returns-in_err-frame-clause-stand = import_paths.package_behind-returns-in_err-frame-clause-stand
 
 pub circle::package_behind-returns-clause-grows : goal.circle::package_behind-returns-clause-grows
-circle::package_behind-returns-clause-grows t c = c.loop-name.invariant.grows
+circle::package_behind-returns-clause-grows = import_paths.package_behind-returns-clause-grows
 
 pub circle::package_behind-returns-clause-stand : goal.circle::package_behind-returns-clause-stand
-circle::package_behind-returns-clause-stand t c = c.loop-name.invariant.stand
+circle::package_behind-returns-clause-stand = import_paths.package_behind-returns-clause-stand
 
 pub circle::package_named-returns-in_err-first-clause-value : goal.circle::package_named-returns-in_err-first-clause-value
-circle::package_named-returns-in_err-first-clause-value t c =
-    let p = err_from_is_err_and c.from_residual.result c.from_residual.ensures.1 in
-    exit_err (λ (f : FrameId). frame_at c.package_at_top.new.s f.0) _ c.from_residual.result c.in_err-first.field-0.0 c.args.s.now c.args.s.now
-    (λ t. package_at_top t c.args.place c.args.name.now)
-    (λ frame. package_behind (table_in c.args.s.now) (asks (table_in c.args.s.now) c.args.ask.now) c.args.ask.now.place c.args.place frame c.args.names.now) _ (p.1 ∙ ap Err p.2)
-    (grows_refl c.args.s.now) c.in_err-first.ensures.value
-    (package_is (table_in c.args.s.now) (asks (table_in c.args.s.now) c.args.ask.now) c.args.ask.now.place c.args.place c.args.name.now c.args.names.now)
+circle::package_named-returns-in_err-first-clause-value = import_paths.package_named-returns-in_err-first-clause-value
 
 pub circle::package_named-returns-clause-value : goal.circle::package_named-returns-clause-value
-circle::package_named-returns-clause-value t c =
-    later_gives _ c.package_behind.result c.args.s.now c.package_at_top.new.s
-    (λ t. package_behind t (asks t c.args.ask.now) c.args.ask.now.place c.args.place (frame_at c.package_at_top.new.s c.in_ok-first.first.0) c.args.names.now) _
-    c.in_ok-first.ensures.grows c.package_behind.ensures.value
-    (then_ok (package_at_top (table_in c.args.s.now) c.args.place c.args.name.now)
-    (λ frame. package_behind (table_in c.args.s.now) (asks (table_in c.args.s.now) c.args.ask.now) c.args.ask.now.place c.args.place frame c.args.names.now)
-    (frame_at c.package_at_top.new.s c.in_ok-first.first.0) _
-    (package_is (table_in c.args.s.now) (asks (table_in c.args.s.now) c.args.ask.now) c.args.ask.now.place c.args.place c.args.name.now c.args.names.now)
-    c.in_ok-first.ensures.value)
+circle::package_named-returns-clause-value = import_paths.package_named-returns-clause-value
 
 pub circle::package_named-package_behind-requires : goal.circle::package_named-package_behind-requires
-circle::package_named-package_behind-requires t c = (omega arith, c.in_ok-first.ensures.stand)
+circle::package_named-package_behind-requires = import_paths.package_named-package_behind-requires
 
 pub circle::package_named-returns-in_err-first-clause-grows : goal.circle::package_named-returns-in_err-first-clause-grows
-circle::package_named-returns-in_err-first-clause-grows t c = c.in_err-first.ensures.grows
+circle::package_named-returns-in_err-first-clause-grows = import_paths.package_named-returns-in_err-first-clause-grows
 
 pub circle::package_named-returns-clause-grows : goal.circle::package_named-returns-clause-grows
-circle::package_named-returns-clause-grows t c = grows_trans _ _ _ c.in_ok-first.ensures.grows c.package_behind.ensures.grows
+circle::package_named-returns-clause-grows = import_paths.package_named-returns-clause-grows
 
 pub circle::package_named-returns-in_err-first-clause-stand : goal.circle::package_named-returns-in_err-first-clause-stand
-circle::package_named-returns-in_err-first-clause-stand t c =
-    let p = err_from_is_err_and c.from_residual.result c.from_residual.ensures.1 in
-    rw p.1 tt
+circle::package_named-returns-in_err-first-clause-stand = import_paths.package_named-returns-in_err-first-clause-stand
 
 pub circle::package_named-returns-clause-stand : goal.circle::package_named-returns-clause-stand
-circle::package_named-returns-clause-stand t c = c.package_behind.ensures.stand
+circle::package_named-returns-clause-stand = import_paths.package_named-returns-clause-stand
 
 pub circle::imported_package-returns-in-empty-clause-grows : goal.circle::imported_package-returns-in-empty-clause-grows
-circle::imported_package-returns-in-empty-clause-grows t c = grows_refl c.args.s.now
+circle::imported_package-returns-in-empty-clause-grows = import_paths.imported_package-returns-in-empty-clause-grows
 
 pub circle::imported_package-returns-in-len1-up-clause-grows : goal.circle::imported_package-returns-in-len1-up-clause-grows
-circle::imported_package-returns-in-len1-up-clause-grows t c = c.package_named.ensures.grows
+circle::imported_package-returns-in-len1-up-clause-grows = import_paths.imported_package-returns-in-len1-up-clause-grows
 
 pub circle::imported_package-returns-in-len1-up-clause-stand : goal.circle::imported_package-returns-in-len1-up-clause-stand
-circle::imported_package-returns-in-len1-up-clause-stand t c = c.package_named.ensures.stand
+circle::imported_package-returns-in-len1-up-clause-stand = import_paths.imported_package-returns-in-len1-up-clause-stand
 
 pub circle::through_star-returns-clause-value : goal.circle::through_star-returns-clause-value
-circle::through_star-returns-clause-value t c =
-    gives_same _ c.star_given.result _ _
-    (through_star_told c.args.s.now c.reached-any.new.s c.counted_given-counts.new.s c.args.ask.now c.args.place c.args.frame.0 c.args.name.now c.reached-any.ensures.grows c.counted_given-counts.ensures.grows c.requires)
-    (c.star_given.ensures.value _ (c.counted_given-counts.ensures.value _ (c.shown-public.ensures.value _ c.reached-any.ensures.value)))
+circle::through_star-returns-clause-value = importing.through_star-returns-clause-value
 
 pub circle::through_star-reached-any-requires : goal.circle::through_star-reached-any-requires
-circle::through_star-reached-any-requires t c = (omega arith, c.requires)
+circle::through_star-reached-any-requires = importing.through_star-reached-any-requires
 
 pub circle::through_star-counted_given-counts-requires : goal.circle::through_star-counted_given-counts-requires
-circle::through_star-counted_given-counts-requires t c = (omega arith, (is_frame_later _ _ _ c.reached-any.ensures.grows c.requires, c.shown-public.ensures.stand))
+circle::through_star-counted_given-counts-requires = importing.through_star-counted_given-counts-requires
 
 pub circle::through_star-star_given-requires-clause-frame : goal.circle::through_star-star_given-requires-clause-frame
-circle::through_star-star_given-requires-clause-frame t c = is_frame_later _ _ _ c.counted_given-counts.ensures.grows (is_frame_later _ _ _ c.reached-any.ensures.grows c.requires)
+circle::through_star-star_given-requires-clause-frame = importing.through_star-star_given-requires-clause-frame
 
 pub circle::through_star-returns-clause-grows : goal.circle::through_star-returns-clause-grows
-circle::through_star-returns-clause-grows t c = grows_trans _ _ _ c.reached-any.ensures.grows (grows_trans _ _ _ c.counted_given-counts.ensures.grows c.star_given.ensures.grows)
+circle::through_star-returns-clause-grows = importing.through_star-returns-clause-grows
 
 pub circle::through_star-shown-public-requires : goal.circle::through_star-shown-public-requires
-circle::through_star-shown-public-requires t c = c.reached-any.ensures.stand
+circle::through_star-shown-public-requires = importing.through_star-shown-public-requires
 
 pub circle::through_star-star_given-requires-clause-any : goal.circle::through_star-star_given-requires-clause-any
-circle::through_star-star_given-requires-clause-any t c = c.counted_given-counts.ensures.stand
+circle::through_star-star_given-requires-clause-any = importing.through_star-star_given-requires-clause-any
 
 pub circle::through_star-returns-clause-stand : goal.circle::through_star-returns-clause-stand
-circle::through_star-returns-clause-stand t c = c.star_given.ensures.stand
+circle::through_star-returns-clause-stand = importing.through_star-returns-clause-stand
 
 pub circle::found_by_import-returns-in-Ok-None-clause-grows : goal.circle::found_by_import-returns-in-Ok-None-clause-grows
-circle::found_by_import-returns-in-Ok-None-clause-grows t c = grows_refl c.args.s.now
+circle::found_by_import-returns-in-Ok-None-clause-grows = importing.found_by_import-returns-in-Ok-None-clause-grows
 
 pub circle::found_by_import-returns-clause-grows : goal.circle::found_by_import-returns-clause-grows
-circle::found_by_import-returns-clause-grows t c = grows_refl c.args.s.now
+circle::found_by_import-returns-clause-grows = importing.found_by_import-returns-clause-grows
 
 pub circle::found_by_star-returns-in_ok-frame-in-All-clause-value : goal.circle::found_by_star-returns-in_ok-frame-in-All-clause-value
-circle::found_by_star-returns-in_ok-frame-in-All-clause-value t c =
-    later_gives (option_map (found_at c.through_star.new.s)) c.through_star.result c.args.s.now c.imported_package.new.s
-    (λ t. through_star t (asks t c.args.ask.now) c.args.ask.now.place c.in-All.place (frame_at c.imported_package.new.s c.in_ok-frame-in-All.frame.0) c.args.name.now) _
-    c.in_ok-frame-in-All.ensures.grows c.through_star.ensures.value
-    (star_is (table_in c.args.s.now) (asks (table_in c.args.s.now) c.args.ask.now) c.args.ask.now.place c.in-All.place c.in-All.path c.as_slice.result.now c.args.name.now c.args.clause.now
-    (frame_at c.imported_package.new.s c.in_ok-frame-in-All.frame.0) c.in-All.is c.as_slice.ensures c.in_ok-frame-in-All.ensures.value)
+circle::found_by_star-returns-in_ok-frame-in-All-clause-value = importing.found_by_star-returns-in_ok-frame-in-All-clause-value
 
 pub circle::found_by_star-through_star-requires : goal.circle::found_by_star-through_star-requires
-circle::found_by_star-through_star-requires t c = (omega arith, c.in_ok-frame-in-All.ensures.stand)
+circle::found_by_star-through_star-requires = importing.found_by_star-through_star-requires
 
 pub circle::found_by_star-returns-in_err-frame-in-All-clause-grows : goal.circle::found_by_star-returns-in_err-frame-in-All-clause-grows
-circle::found_by_star-returns-in_err-frame-in-All-clause-grows t c = c.in_err-frame-in-All.ensures.grows
+circle::found_by_star-returns-in_err-frame-in-All-clause-grows = importing.found_by_star-returns-in_err-frame-in-All-clause-grows
 
 pub circle::found_by_star-returns-in_ok-frame-in-All-clause-grows : goal.circle::found_by_star-returns-in_ok-frame-in-All-clause-grows
-circle::found_by_star-returns-in_ok-frame-in-All-clause-grows t c = grows_trans _ _ _ c.in_ok-frame-in-All.ensures.grows c.through_star.ensures.grows
+circle::found_by_star-returns-in_ok-frame-in-All-clause-grows = importing.found_by_star-returns-in_ok-frame-in-All-clause-grows
 
 pub circle::found_by_star-returns-in-Renamed-clause-grows : goal.circle::found_by_star-returns-in-Renamed-clause-grows
-circle::found_by_star-returns-in-Renamed-clause-grows t c = grows_refl c.args.s.now
+circle::found_by_star-returns-in-Renamed-clause-grows = importing.found_by_star-returns-in-Renamed-clause-grows
 
 pub circle::found_by_star-returns-in-Named-clause-grows : goal.circle::found_by_star-returns-in-Named-clause-grows
-circle::found_by_star-returns-in-Named-clause-grows t c = grows_refl c.args.s.now
+circle::found_by_star-returns-in-Named-clause-grows = importing.found_by_star-returns-in-Named-clause-grows
 
 pub circle::found_by_star-returns-in-Group-clause-grows : goal.circle::found_by_star-returns-in-Group-clause-grows
-circle::found_by_star-returns-in-Group-clause-grows t c = grows_refl c.args.s.now
+circle::found_by_star-returns-in-Group-clause-grows = importing.found_by_star-returns-in-Group-clause-grows
 
 pub circle::found_by_star-returns-in_err-frame-in-All-clause-stand : goal.circle::found_by_star-returns-in_err-frame-in-All-clause-stand
-circle::found_by_star-returns-in_err-frame-in-All-clause-stand t c =
-    let p = err_from_is_err_and c.from_residual.result c.from_residual.ensures.1 in
-    rw p.1 tt
+circle::found_by_star-returns-in_err-frame-in-All-clause-stand = importing.found_by_star-returns-in_err-frame-in-All-clause-stand
 
 pub circle::found_by_star-returns-in_ok-frame-in-All-clause-stand : goal.circle::found_by_star-returns-in_ok-frame-in-All-clause-stand
-circle::found_by_star-returns-in_ok-frame-in-All-clause-stand t c = c.through_star.ensures.stand
+circle::found_by_star-returns-in_ok-frame-in-All-clause-stand = importing.found_by_star-returns-in_ok-frame-in-All-clause-stand
 
 pub circle::found_by-returns-then-star-clause-grows : goal.circle::found_by-returns-then-star-clause-grows
-circle::found_by-returns-then-star-clause-grows t c = c.found_by_star.ensures.grows
+circle::found_by-returns-then-star-clause-grows = importing.found_by-returns-then-star-clause-grows
 
 pub circle::found_by-returns-then-star-clause-stand : goal.circle::found_by-returns-then-star-clause-stand
-circle::found_by-returns-then-star-clause-stand t c = c.found_by_star.ensures.stand
+circle::found_by-returns-then-star-clause-stand = importing.found_by-returns-then-star-clause-stand
 
 pub circle::found_by-returns-else-star-clause-grows : goal.circle::found_by-returns-else-star-clause-grows
-circle::found_by-returns-else-star-clause-grows t c = c.found_by_import.ensures.grows
+circle::found_by-returns-else-star-clause-grows = importing.found_by-returns-else-star-clause-grows
 
 pub circle::found_by-returns-else-star-clause-stand : goal.circle::found_by-returns-else-star-clause-stand
-circle::found_by-returns-else-star-clause-stand t c = c.found_by_import.ensures.stand
+circle::found_by-returns-else-star-clause-stand = importing.found_by-returns-else-star-clause-stand
 
 pub circle::also_by-returns-clause-value : goal.circle::also_by-returns-clause-value
-circle::also_by-returns-clause-value t c =
-    gives_same _ c.also_given.result _ _
-    (ap (λ so_far. and_then (found_by (table_in c.args.s.now) (asks (table_in c.args.s.now) c.args.ask.now) c.args.ask.now.place c.args.star c.args.name.now c.args.clause.now) (and_also c.args.ask.now.place so_far))
-    (option_later c.args.s.now c.found_by-found.new.s c.args.so_far c.found_by-found.ensures.grows c.requires))
-    (c.also_given.ensures.value _ c.found_by-found.ensures.value)
+circle::also_by-returns-clause-value = importing.also_by-returns-clause-value
 
 pub circle::also_by-also_given-requires-clause-so_far : goal.circle::also_by-also_given-requires-clause-so_far
-circle::also_by-also_given-requires-clause-so_far t c = some_later _ _ c.args.so_far c.found_by-found.ensures.grows c.requires
+circle::also_by-also_given-requires-clause-so_far = importing.also_by-also_given-requires-clause-so_far
 
 pub circle::also_by-also_given-requires-clause-found : goal.circle::also_by-also_given-requires-clause-found
-circle::also_by-also_given-requires-clause-found t c = c.found_by-found.ensures.stand
+circle::also_by-also_given-requires-clause-found = importing.also_by-also_given-requires-clause-found
 
 pub circle::also_by-returns-clause-grows : goal.circle::also_by-returns-clause-grows
-circle::also_by-returns-clause-grows t c = c.found_by-found.ensures.grows
+circle::also_by-returns-clause-grows = importing.also_by-returns-clause-grows
 
 pub circle::also_by-returns-clause-stand : goal.circle::also_by-returns-clause-stand
-circle::also_by-returns-clause-stand t c = c.also_given.ensures.stand
+circle::also_by-returns-clause-stand = importing.also_by-returns-clause-stand
 
 pub circle::found_by_each-returns-in-Err-clause-value : goal.circle::found_by_each-returns-in-Err-clause-value
-circle::found_by_each-returns-in-Err-clause-value t c =
-    let F : Option Found = option_map (found_at c.loop-at.s) c.loop-at.found in
-    let all : List Import = imports_of (row_at (table_in c.args.s.now) c.class_of-class.result.0) in
-    let read : slice_get all c.loop-at.at ≡ Some c.import_at-clause.result.now = subst (λ t. slice_get (imports_of (row_at t c.class_of-class.result.0)) c.loop-at.at ≡ Some c.import_at-clause.result.now) (table_later c.args.s.now c.loop-at.s c.loop-at.invariant.grows) c.import_at-clause.ensures in
-    loop_err (option_map (found_at c.also_by.new.s)) (option_map (found_at c.also_by.new.s)) c.in-Err.stop c.args.s.now c.loop-at.s
-    (λ t. also_found t (asks t c.args.ask.now) c.args.ask.now.place c.args.star c.args.name.now F c.import_at-clause.result.now)
-    (λ next. found_by_all (table_in c.args.s.now) (asks (table_in c.args.s.now) c.args.ask.now) c.args.ask.now.place c.args.star c.args.name.now next (drop (c.loop-at.at + 1) all)) _
-    c.loop-at.invariant.grows c.in-Err.ensures.value
-    (left_read (found_by_all (table_in c.args.s.now) (asks (table_in c.args.s.now) c.args.ask.now) c.args.ask.now.place c.args.star c.args.name.now F) all c.loop-at.at c.import_at-clause.result.now _ read c.loop-at.invariant.left
-    ∙ ap (λ (n : ℕ). found_by_all (table_in c.args.s.now) (asks (table_in c.args.s.now) c.args.ask.now) c.args.ask.now.place c.args.star c.args.name.now None (imports_of (row_at (table_in c.args.s.now) n))) c.class_of-class.ensures.is)
+circle::found_by_each-returns-in-Err-clause-value = importing.found_by_each-returns-in-Err-clause-value
 
 pub circle::found_by_each-loop-at-preserved : goal.circle::found_by_each-loop-at-preserved
-circle::found_by_each-loop-at-preserved t c =
-    let F : Option Found = option_map (found_at c.loop-at.s) c.loop-at.found in
-    let all : List Import = imports_of (row_at (table_in c.args.s.now) c.class_of-class.result.0) in
-    let read : slice_get all c.loop-at.at ≡ Some c.import_at-clause.result.now = subst (λ t. slice_get (imports_of (row_at t c.class_of-class.result.0)) c.loop-at.at ≡ Some c.import_at-clause.result.now) (table_later c.args.s.now c.loop-at.s c.loop-at.invariant.grows) c.import_at-clause.ensures in
-    record {
-      grows = grows_trans c.args.s.now c.loop-at.s c.also_by.new.s c.loop-at.invariant.grows c.in-Ok.ensures.grows;
-      stand = c.in-Ok.ensures.stand;
-      left =
-          then_ok (also_found (table_in c.args.s.now) (asks (table_in c.args.s.now) c.args.ask.now) c.args.ask.now.place c.args.star c.args.name.now F c.import_at-clause.result.now)
-          (λ next. found_by_all (table_in c.args.s.now) (asks (table_in c.args.s.now) c.args.ask.now) c.args.ask.now.place c.args.star c.args.name.now next (drop (c.loop-at.at + 1) all))
-          (option_map (found_at c.also_by.new.s) c.in-Ok.next) _
-          (left_read (found_by_all (table_in c.args.s.now) (asks (table_in c.args.s.now) c.args.ask.now) c.args.ask.now.place c.args.star c.args.name.now F) all c.loop-at.at c.import_at-clause.result.now _ read c.loop-at.invariant.left)
-          (told_of (λ t. also_found t (asks t c.args.ask.now) c.args.ask.now.place c.args.star c.args.name.now F c.import_at-clause.result.now) c.args.s.now c.loop-at.s _ c.loop-at.invariant.grows c.in-Ok.ensures.value);
-    }
+circle::found_by_each-loop-at-preserved = importing.found_by_each-loop-at-preserved
 
 pub circle::found_by_each-also_by-requires : goal.circle::found_by_each-also_by-requires
-circle::found_by_each-also_by-requires t c = (omega arith, c.loop-at.invariant.stand)
+circle::found_by_each-also_by-requires = importing.found_by_each-also_by-requires
 
 pub circle::found_by_each-returns-in-Err-clause-grows : goal.circle::found_by_each-returns-in-Err-clause-grows
-circle::found_by_each-returns-in-Err-clause-grows t c = grows_trans _ _ _ c.loop-at.invariant.grows c.in-Err.ensures.grows
+circle::found_by_each-returns-in-Err-clause-grows = importing.found_by_each-returns-in-Err-clause-grows
 
 pub circle::found_by_each-returns-clause-grows : goal.circle::found_by_each-returns-clause-grows
-circle::found_by_each-returns-clause-grows t c = c.loop-at.invariant.grows
+circle::found_by_each-returns-clause-grows = importing.found_by_each-returns-clause-grows
 
 pub circle::found_by_each-returns-clause-stand : goal.circle::found_by_each-returns-clause-stand
-circle::found_by_each-returns-clause-stand t c = c.loop-at.invariant.stand
+circle::found_by_each-returns-clause-stand = importing.found_by_each-returns-clause-stand
 
 pub circle::found_by_imports-found_by_each-requires : goal.circle::found_by_imports-found_by_each-requires
-circle::found_by_imports-found_by_each-requires t c = (omega arith, c.requires)
+circle::found_by_imports-found_by_each-requires = importing.found_by_imports-found_by_each-requires
 
 pub circle::found_by_imports-found_by_each-requires-in-Ok-None : goal.circle::found_by_imports-found_by_each-requires-in-Ok-None
-circle::found_by_imports-found_by_each-requires-in-Ok-None t c = (omega arith, is_frame_later _ _ _ c.in-Ok-None.ensures.grows c.requires)
+circle::found_by_imports-found_by_each-requires-in-Ok-None = importing.found_by_imports-found_by_each-requires-in-Ok-None
 
 pub circle::found_by_imports-returns-in-Ok-None-clause-grows : goal.circle::found_by_imports-returns-in-Ok-None-clause-grows
-circle::found_by_imports-returns-in-Ok-None-clause-grows t c = grows_trans _ _ _ c.in-Ok-None.ensures.grows c.found_by_each-in-Ok-None.ensures.grows
+circle::found_by_imports-returns-in-Ok-None-clause-grows = importing.found_by_imports-returns-in-Ok-None-clause-grows
 
 pub circle::found_by_imports-returns-in-Err-clause-grows : goal.circle::found_by_imports-returns-in-Err-clause-grows
-circle::found_by_imports-returns-in-Err-clause-grows t c = c.in-Err.ensures.grows
+circle::found_by_imports-returns-in-Err-clause-grows = importing.found_by_imports-returns-in-Err-clause-grows
 
 pub circle::found_by_imports-returns-in-Ok-Some-clause-grows : goal.circle::found_by_imports-returns-in-Ok-Some-clause-grows
-circle::found_by_imports-returns-in-Ok-Some-clause-grows t c = c.in-Ok-Some.ensures.grows
+circle::found_by_imports-returns-in-Ok-Some-clause-grows = importing.found_by_imports-returns-in-Ok-Some-clause-grows
 
 pub circle::found_by_imports-returns-in-Ok-None-clause-stand : goal.circle::found_by_imports-returns-in-Ok-None-clause-stand
-circle::found_by_imports-returns-in-Ok-None-clause-stand t c = c.found_by_each-in-Ok-None.ensures.stand
+circle::found_by_imports-returns-in-Ok-None-clause-stand = importing.found_by_imports-returns-in-Ok-None-clause-stand
 
 pub circle::found_element-returns-clause-value : goal.circle::found_element-returns-clause-value
-circle::found_element-returns-clause-value t c =
-    gives_same _ c.element_given.result _ _
-    (any_met_told c.args.s.now c.reached-any.new.s c.args.ask.now c.args.bare c.args.frame.0 c.args.name.now c.reached-any.ensures.grows c.requires c.if-bare.false)
-    (c.element_given.ensures.value _ c.reached-any.ensures.value)
+circle::found_element-returns-clause-value = outwards.found_element-returns-clause-value
 
 pub circle::found_element-reached-any-requires : goal.circle::found_element-reached-any-requires
-circle::found_element-reached-any-requires t c = (omega arith, c.requires)
+circle::found_element-reached-any-requires = outwards.found_element-reached-any-requires
 
 pub circle::found_element-element_given-requires-clause-frame : goal.circle::found_element-element_given-requires-clause-frame
-circle::found_element-element_given-requires-clause-frame t c = is_frame_later _ _ _ c.reached-any.ensures.grows c.requires
+circle::found_element-element_given-requires-clause-frame = outwards.found_element-element_given-requires-clause-frame
 
 pub circle::found_element-returns-clause-grows : goal.circle::found_element-returns-clause-grows
-circle::found_element-returns-clause-grows t c = grows_trans _ _ _ c.reached-any.ensures.grows c.element_given.ensures.grows
+circle::found_element-returns-clause-grows = outwards.found_element-returns-clause-grows
 
 pub circle::found_element-element_given-requires-clause-any : goal.circle::found_element-element_given-requires-clause-any
-circle::found_element-element_given-requires-clause-any t c = c.reached-any.ensures.stand
+circle::found_element-element_given-requires-clause-any = outwards.found_element-element_given-requires-clause-any
 
 pub circle::found_element-returns-then-bare-clause-grows : goal.circle::found_element-returns-then-bare-clause-grows
-circle::found_element-returns-then-bare-clause-grows t c = c.own_met.ensures.grows
+circle::found_element-returns-then-bare-clause-grows = outwards.found_element-returns-then-bare-clause-grows
 
 pub circle::found_element-returns-then-bare-clause-stand : goal.circle::found_element-returns-then-bare-clause-stand
-circle::found_element-returns-then-bare-clause-stand t c = c.own_met.ensures.stand
+circle::found_element-returns-then-bare-clause-stand = outwards.found_element-returns-then-bare-clause-stand
 
 pub circle::found_element-returns-clause-stand : goal.circle::found_element-returns-clause-stand
-circle::found_element-returns-clause-stand t c = c.element_given.ensures.stand
+circle::found_element-returns-clause-stand = outwards.found_element-returns-clause-stand
 
 pub circle::met_by_imports-returns-clause-value : goal.circle::met_by_imports-returns-clause-value
-circle::met_by_imports-returns-clause-value t c =
-    gives_same _ c.met_given.result _ _ (imported_is _) (c.met_given.ensures.value _ c.found_by_imports-found.ensures.value)
+circle::met_by_imports-returns-clause-value = importing.met_by_imports-returns-clause-value
 
 pub circle::met_by_imports-found_by_imports-found-requires : goal.circle::met_by_imports-found_by_imports-found-requires
-circle::met_by_imports-found_by_imports-found-requires t c = (omega arith, c.requires)
+circle::met_by_imports-found_by_imports-found-requires = importing.met_by_imports-found_by_imports-found-requires
 
 pub circle::met_by_imports-met_given-requires : goal.circle::met_by_imports-met_given-requires
-circle::met_by_imports-met_given-requires t c = c.found_by_imports-found.ensures.stand
+circle::met_by_imports-met_given-requires = importing.met_by_imports-met_given-requires
 
 pub circle::met_by_imports-returns-clause-grows : goal.circle::met_by_imports-returns-clause-grows
-circle::met_by_imports-returns-clause-grows t c = c.found_by_imports-found.ensures.grows
+circle::met_by_imports-returns-clause-grows = importing.met_by_imports-returns-clause-grows
 
 pub circle::met_by_imports-returns-clause-stand : goal.circle::met_by_imports-returns-clause-stand
-circle::met_by_imports-returns-clause-stand t c = c.met_given.ensures.stand
+circle::met_by_imports-returns-clause-stand = importing.met_by_imports-returns-clause-stand
 
 pub circle::found_in-returns-in-Err-clause-value : goal.circle::found_in-returns-in-Err-clause-value
-circle::found_in-returns-in-Err-clause-value t c =
-    let A : Asking = asks (table_in c.args.s.now) c.args.ask.now in
-    let F : Frame = frame_at c.args.s.now c.args.frame.0 in
-    err_on (option_map (found_at c.found_element.new.s)) (option_map (met_seen (frames_of c.found_element.new.s))) c.in-Err.stop (found_element (table_in c.args.s.now) A c.args.bare F c.args.ask.now.place c.args.name.now)
-    (λ found. met_or c.args.near found (imports_met (table_in c.args.s.now) A c.args.ask.now.place c.args.name.now (imports_of (row_at (table_in c.args.s.now) (class_of F))))) _
-    c.in-Err.ensures.value
-    (in_frame_is (table_in c.args.s.now) A c.args.bare c.args.near F c.args.ask.now.place c.args.name.now)
+circle::found_in-returns-in-Err-clause-value = outwards.found_in-returns-in-Err-clause-value
 
 pub circle::found_in-returns-in-Ok-Some-clause-value : goal.circle::found_in-returns-in-Ok-Some-clause-value
-circle::found_in-returns-in-Ok-Some-clause-value t c =
-    let A : Asking = asks (table_in c.args.s.now) c.args.ask.now in
-    let F : Frame = frame_at c.args.s.now c.args.frame.0 in
-    sym (then_ok (found_element (table_in c.args.s.now) A c.args.bare F c.args.ask.now.place c.args.name.now)
-    (λ found. met_or c.args.near found (imports_met (table_in c.args.s.now) A c.args.ask.now.place c.args.name.now (imports_of (row_at (table_in c.args.s.now) (class_of F)))))
-    (Some (found_at c.found_element.new.s c.in-Ok-Some.found)) _
-    (in_frame_is (table_in c.args.s.now) A c.args.bare c.args.near F c.args.ask.now.place c.args.name.now)
-    (c.in-Ok-Some.ensures.value ∙ ap (λ o. Ok (option_map (found_at c.found_element.new.s) o)) c.in-Ok-Some.field-0-is))
+circle::found_in-returns-in-Ok-Some-clause-value = outwards.found_in-returns-in-Ok-Some-clause-value
 
 pub circle::found_in-returns-in-Ok-None-clause-value : goal.circle::found_in-returns-in-Ok-None-clause-value
-circle::found_in-returns-in-Ok-None-clause-value t c =
-    let A : Asking = asks (table_in c.args.s.now) c.args.ask.now in
-    let F : Frame = frame_at c.args.s.now c.args.frame.0 in
-    gives_same _ c.met_by_imports.result _ _
-    (imports_told c.args.s.now c.found_element.new.s c.args.ask.now c.args.frame.0 c.args.name.now c.in-Ok-None.ensures.grows c.requires
-    ∙ then_ok (found_element (table_in c.args.s.now) A c.args.bare F c.args.ask.now.place c.args.name.now)
-    (λ found. met_or c.args.near found (imports_met (table_in c.args.s.now) A c.args.ask.now.place c.args.name.now (imports_of (row_at (table_in c.args.s.now) (class_of F)))))
-    None _
-    (in_frame_is (table_in c.args.s.now) A c.args.bare c.args.near F c.args.ask.now.place c.args.name.now)
-    (c.in-Ok-None.ensures.value ∙ ap (λ o. Ok (option_map (found_at c.found_element.new.s) o)) c.in-Ok-None.field-0-is))
-    c.met_by_imports.ensures.value
+circle::found_in-returns-in-Ok-None-clause-value = outwards.found_in-returns-in-Ok-None-clause-value
 
 pub circle::found_in-found_element-requires : goal.circle::found_in-found_element-requires
-circle::found_in-found_element-requires t c = (omega arith, c.requires)
+circle::found_in-found_element-requires = outwards.found_in-found_element-requires
 
 pub circle::found_in-met_by_imports-requires : goal.circle::found_in-met_by_imports-requires
-circle::found_in-met_by_imports-requires t c = (omega arith, is_frame_later _ _ _ c.in-Ok-None.ensures.grows c.requires)
+circle::found_in-met_by_imports-requires = outwards.found_in-met_by_imports-requires
 
 pub circle::found_in-returns-in-Ok-None-clause-grows : goal.circle::found_in-returns-in-Ok-None-clause-grows
-circle::found_in-returns-in-Ok-None-clause-grows t c = grows_trans _ _ _ c.in-Ok-None.ensures.grows c.met_by_imports.ensures.grows
+circle::found_in-returns-in-Ok-None-clause-grows = outwards.found_in-returns-in-Ok-None-clause-grows
 
 pub circle::found_in-returns-in-Err-clause-grows : goal.circle::found_in-returns-in-Err-clause-grows
-circle::found_in-returns-in-Err-clause-grows t c = c.in-Err.ensures.grows
+circle::found_in-returns-in-Err-clause-grows = outwards.found_in-returns-in-Err-clause-grows
 
 pub circle::found_in-returns-in-Ok-Some-clause-grows : goal.circle::found_in-returns-in-Ok-Some-clause-grows
-circle::found_in-returns-in-Ok-Some-clause-grows t c = c.in-Ok-Some.ensures.grows
+circle::found_in-returns-in-Ok-Some-clause-grows = outwards.found_in-returns-in-Ok-Some-clause-grows
 
 pub circle::found_in-returns-in-Ok-None-clause-stand : goal.circle::found_in-returns-in-Ok-None-clause-stand
-circle::found_in-returns-in-Ok-None-clause-stand t c = c.met_by_imports.ensures.stand
+circle::found_in-returns-in-Ok-None-clause-stand = outwards.found_in-returns-in-Ok-None-clause-stand
 
 pub bases::found_from-returns-in-Ends-clause-value : goal.bases::found_from-returns-in-Ends-clause-value
-bases::found_from-returns-in-Ends-clause-value t c =
-    let A : Asking = asks (table_in c.args.s.now) c.args.ask.now in
-    ends_give (frames_of c.next_past.new.s) c.in-Ends.met _ (go_next (table_in c.args.s.now) A c.args.ask.now.place c.args.name.now) _ (λ met. refl)
-    (rw c.in-Ends.is at (c.next_past.ensures.value _ c.found_in-here.ensures.value))
-    (outwards_told c.args.s.now c.loop-met.s c.found_in-here.new.s c.args.ask.now c.loop-met.own c.loop-met.at_hand c.loop-met.frame.0 c.args.name.now _
-    c.loop-met.invariant.grows c.found_in-here.ensures.grows c.loop-met.invariant.stand (is_no_top c.loop-met.s c.loop-met.frame.0 c.loop-met.invariant.stand) c.loop-met.invariant.left)
+bases::found_from-returns-in-Ends-clause-value = outwards.found_from-returns-in-Ends-clause-value
 
 pub bases::found_from-loop-met-preserved : goal.bases::found_from-loop-met-preserved
-bases::found_from-loop-met-preserved t c = record {
-  grows = grows_trans c.args.s.now c.loop-met.s c.next_past.new.s c.loop-met.invariant.grows (grows_trans c.loop-met.s c.found_in-here.new.s c.next_past.new.s c.found_in-here.ensures.grows c.next_past.ensures.grows);
-  stand = rw c.in-Around.is at c.next_past.ensures.stand;
-  left =
-      let A : Asking = asks (table_in c.args.s.now) c.args.ask.now in
-      then_ok _ (go_next (table_in c.args.s.now) A c.args.ask.now.place c.args.name.now) (Goes_on (frame_at c.next_past.new.s c.in-Around.outer.0)) _
-      (outwards_told c.args.s.now c.loop-met.s c.found_in-here.new.s c.args.ask.now c.loop-met.own c.loop-met.at_hand c.loop-met.frame.0 c.args.name.now _
-      c.loop-met.invariant.grows c.found_in-here.ensures.grows c.loop-met.invariant.stand (is_no_top c.loop-met.s c.loop-met.frame.0 c.loop-met.invariant.stand) c.loop-met.invariant.left)
-      (rw c.in-Around.is at (c.next_past.ensures.value _ c.found_in-here.ensures.value));
-}
+bases::found_from-loop-met-preserved = outwards.found_from-loop-met-preserved
 
 pub bases::found_from-loop-met-smaller : goal.bases::found_from-loop-met-smaller
-bases::found_from-loop-met-smaller t c =
-    let F : Frame = frame_at c.loop-met.s c.loop-met.frame.0 in
-    around_less (table_in c.args.s.now) c.args.ask.now.place F (frame_at c.next_past.new.s c.in-Around.outer.0) c.args.name.now (is_no_top c.loop-met.s c.loop-met.frame.0 c.loop-met.invariant.stand)
-    (sym (past_told c.args.s.now c.loop-met.s c.found_in-here.new.s c.args.ask.now.place c.loop-met.frame.0 c.args.name.now c.loop-met.invariant.grows c.found_in-here.ensures.grows c.loop-met.invariant.stand)
-    ∙ goes_on_around _ _ _ (rw c.in-Around.is at (c.next_past.ensures.value _ c.found_in-here.ensures.value)))
+bases::found_from-loop-met-smaller = outwards.found_from-loop-met-smaller
 
 pub bases::found_from-found_in-here-requires : goal.bases::found_from-found_in-here-requires
-bases::found_from-found_in-here-requires t c = (omega arith, c.loop-met.invariant.stand)
+bases::found_from-found_in-here-requires = outwards.found_from-found_in-here-requires
 
 pub bases::found_from-next_past-requires-clause-frame : goal.bases::found_from-next_past-requires-clause-frame
-bases::found_from-next_past-requires-clause-frame t c = is_frame_later _ _ _ c.found_in-here.ensures.grows c.loop-met.invariant.stand
+bases::found_from-next_past-requires-clause-frame = outwards.found_from-next_past-requires-clause-frame
 
 pub bases::found_from-returns-in-Ends-clause-grows : goal.bases::found_from-returns-in-Ends-clause-grows
-bases::found_from-returns-in-Ends-clause-grows t c = grows_trans _ _ _ c.loop-met.invariant.grows (grows_trans _ _ _ c.found_in-here.ensures.grows c.next_past.ensures.grows)
+bases::found_from-returns-in-Ends-clause-grows = outwards.found_from-returns-in-Ends-clause-grows
 
 pub bases::found_from-loop-met-init : goal.bases::found_from-loop-met-init
-bases::found_from-loop-met-init t c = record {
-  grows = grows_refl c.args.s.now;
-  stand = c.requires;
-  left = refl;
-}
+bases::found_from-loop-met-init = outwards.found_from-loop-met-init
 
 pub bases::found_from-next_past-requires-clause-here : goal.bases::found_from-next_past-requires-clause-here
-bases::found_from-next_past-requires-clause-here t c = c.found_in-here.ensures.stand
+bases::found_from-next_past-requires-clause-here = outwards.found_from-next_past-requires-clause-here
 
 pub bases::found_first-found_from-requires : goal.bases::found_first-found_from-requires
-bases::found_first-found_from-requires t c = (omega arith, c.requires)
+bases::found_first-found_from-requires = outwards.found_first-found_from-requires
 
 pub bases::found_first-returns-in-Some-clause-grows : goal.bases::found_first-returns-in-Some-clause-grows
-bases::found_first-returns-in-Some-clause-grows t c = grows_refl c.args.s.now
+bases::found_first-returns-in-Some-clause-grows = outwards.found_first-returns-in-Some-clause-grows
 
 pub bases::found_first-returns-then-top-clause-grows : goal.bases::found_first-returns-then-top-clause-grows
-bases::found_first-returns-then-top-clause-grows t c = c.met_at_top.ensures.grows
+bases::found_first-returns-then-top-clause-grows = outwards.found_first-returns-then-top-clause-grows
 
 pub bases::found_first-returns-then-top-clause-stand : goal.bases::found_first-returns-then-top-clause-stand
-bases::found_first-returns-then-top-clause-stand t c = c.met_at_top.ensures.stand
+bases::found_first-returns-then-top-clause-stand = outwards.found_first-returns-then-top-clause-stand
 
 pub bases::found_first-returns-in-None-clause-grows : goal.bases::found_first-returns-in-None-clause-grows
-bases::found_first-returns-in-None-clause-grows t c = c.found_from.ensures.grows
+bases::found_first-returns-in-None-clause-grows = outwards.found_first-returns-in-None-clause-grows
 
 pub bases::found_first-returns-in-None-clause-stand : goal.bases::found_first-returns-in-None-clause-stand
-bases::found_first-returns-in-None-clause-stand t c = c.found_from.ensures.stand
+bases::found_first-returns-in-None-clause-stand = outwards.found_first-returns-in-None-clause-stand
 
 pub bases::first_class-returns-clause-value : goal.bases::first_class-returns-clause-value
-bases::first_class-returns-clause-value t c = c.classed_met.ensures.value _ c.found_first-met.ensures.value
+bases::first_class-returns-clause-value = class_names.first_class-returns-clause-value
 
 pub bases::first_class-classed_met-requires : goal.bases::first_class-classed_met-requires
-bases::first_class-classed_met-requires t c = c.found_first-met.ensures.stand
+bases::first_class-classed_met-requires = class_names.first_class-classed_met-requires
 
 pub bases::first_class-returns-clause-grows : goal.bases::first_class-returns-clause-grows
-bases::first_class-returns-clause-grows t c = c.found_first-met.ensures.grows
+bases::first_class-returns-clause-grows = class_names.first_class-returns-clause-grows
 
 pub bases::first_class-returns-clause-stand : goal.bases::first_class-returns-clause-stand
-bases::first_class-returns-clause-stand t c = c.classed_met.ensures.stand
+bases::first_class-returns-clause-stand = class_names.first_class-returns-clause-stand
 
 pub bases::class_first-first_class-requires : goal.bases::class_first-first_class-requires
-bases::class_first-first_class-requires t c = (omega arith, c.requires)
+bases::class_first-first_class-requires = class_names.class_first-first_class-requires
 
 pub bases::class_first-returns-in-None-clause-grows : goal.bases::class_first-returns-in-None-clause-grows
-bases::class_first-returns-in-None-clause-grows t c = grows_refl c.args.s.now
+bases::class_first-returns-in-None-clause-grows = class_names.class_first-returns-in-None-clause-grows
 
 pub bases::class_first-returns-in-Some-clause-grows : goal.bases::class_first-returns-in-Some-clause-grows
-bases::class_first-returns-in-Some-clause-grows t c = c.first_class.ensures.grows
+bases::class_first-returns-in-Some-clause-grows = class_names.class_first-returns-in-Some-clause-grows
 
 pub bases::class_first-returns-in-Some-clause-stand : goal.bases::class_first-returns-in-Some-clause-stand
-bases::class_first-returns-in-Some-clause-stand t c = c.first_class.ensures.stand
+bases::class_first-returns-in-Some-clause-stand = class_names.class_first-returns-in-Some-clause-stand
 
 pub bases::class_step-returns-clause-value : goal.bases::class_step-returns-clause-value
-bases::class_step-returns-clause-value t c = c.classed_given.ensures.value _ c.behind_class-found.ensures.value
+bases::class_step-returns-clause-value = class_names.class_step-returns-clause-value
 
 pub bases::class_step-classed_given-requires : goal.bases::class_step-classed_given-requires
-bases::class_step-classed_given-requires t c = c.behind_class-found.ensures.stand
+bases::class_step-classed_given-requires = class_names.class_step-classed_given-requires
 
 pub bases::class_step-returns-clause-grows : goal.bases::class_step-returns-clause-grows
-bases::class_step-returns-clause-grows t c = c.behind_class-found.ensures.grows
+bases::class_step-returns-clause-grows = class_names.class_step-returns-clause-grows
 
 pub bases::class_step-returns-clause-stand : goal.bases::class_step-returns-clause-stand
-bases::class_step-returns-clause-stand t c = c.classed_given.ensures.stand
+bases::class_step-returns-clause-stand = class_names.class_step-returns-clause-stand
 
 pub bases::class_behind-returns-in_err-class-clause-value : goal.bases::class_behind-returns-in_err-class-clause-value
-bases::class_behind-returns-in_err-class-clause-value t c =
-    let p = err_from_is_err_and c.from_residual.result c.from_residual.ensures.1 in
-    let C : Classed = classed_seen (frames_of c.loop-part.s) c.loop-part.class in
-    rw (p.1, p.2) (loop_err (classed_seen (frames_of c.class_step.new.s)) (classed_seen (frames_of c.class_step.new.s)) c.in_err-class.field-0.0 c.args.s.now c.loop-part.s
-    (λ t. class_step t (asks t c.args.ask.now) C c.part-item.result)
-    (λ next. class_behind (table_in c.args.s.now) (asks (table_in c.args.s.now) c.args.ask.now) next (drop (c.loop-part.part-index + 1) c.args.parts.now)) _
-    c.loop-part.invariant.grows c.in_err-class.ensures.value
-    (class_names_step (table_in c.args.s.now) (asks (table_in c.args.s.now) c.args.ask.now) C c.part-item.result (drop (c.loop-part.part-index + 1) c.args.parts.now)
-    ∙ left_from (class_behind (table_in c.args.s.now) (asks (table_in c.args.s.now) c.args.ask.now) C) c.args.parts.now c.loop-part.part-index c.part-item.result _ c.loop-part-test.true c.part-item.is c.loop-part.invariant.left))
+bases::class_behind-returns-in_err-class-clause-value = class_names.class_behind-returns-in_err-class-clause-value
 
 pub bases::class_behind-loop-part-preserved : goal.bases::class_behind-loop-part-preserved
-bases::class_behind-loop-part-preserved t c = record {
-  grows = grows_trans c.args.s.now c.loop-part.s c.class_step.new.s c.loop-part.invariant.grows c.in_ok-class.ensures.grows;
-  stand = c.in_ok-class.ensures.stand;
-  left =
-      let C : Classed = classed_seen (frames_of c.loop-part.s) c.loop-part.class in
-      then_ok (class_step (table_in c.args.s.now) (asks (table_in c.args.s.now) c.args.ask.now) C c.part-item.result)
-      (λ next. class_behind (table_in c.args.s.now) (asks (table_in c.args.s.now) c.args.ask.now) next (drop (c.loop-part.part-index + 1) c.args.parts.now))
-      (classed_seen (frames_of c.class_step.new.s) c.in_ok-class.class) _
-      (class_names_step (table_in c.args.s.now) (asks (table_in c.args.s.now) c.args.ask.now) C c.part-item.result (drop (c.loop-part.part-index + 1) c.args.parts.now)
-      ∙ left_from (class_behind (table_in c.args.s.now) (asks (table_in c.args.s.now) c.args.ask.now) C) c.args.parts.now c.loop-part.part-index c.part-item.result _ c.loop-part-test.true c.part-item.is c.loop-part.invariant.left)
-      (told_of (λ t. class_step t (asks t c.args.ask.now) C c.part-item.result) c.args.s.now c.loop-part.s _ c.loop-part.invariant.grows c.in_ok-class.ensures.value);
-}
+bases::class_behind-loop-part-preserved = class_names.class_behind-loop-part-preserved
 
 pub bases::class_behind-class_step-requires : goal.bases::class_behind-class_step-requires
-bases::class_behind-class_step-requires t c = (omega arith, c.loop-part.invariant.stand)
+bases::class_behind-class_step-requires = class_names.class_behind-class_step-requires
 
 pub bases::class_behind-returns-in_err-class-clause-grows : goal.bases::class_behind-returns-in_err-class-clause-grows
-bases::class_behind-returns-in_err-class-clause-grows t c = grows_trans _ _ _ c.loop-part.invariant.grows c.in_err-class.ensures.grows
+bases::class_behind-returns-in_err-class-clause-grows = class_names.class_behind-returns-in_err-class-clause-grows
 
 pub bases::class_behind-loop-part-init : goal.bases::class_behind-loop-part-init
-bases::class_behind-loop-part-init t c = record {
-  grows = grows_refl c.args.s.now;
-  stand = c.requires;
-  left = refl;
-}
+bases::class_behind-loop-part-init = class_names.class_behind-loop-part-init
 
 pub bases::class_behind-returns-in_err-class-clause-stand : goal.bases::class_behind-returns-in_err-class-clause-stand
-bases::class_behind-returns-in_err-class-clause-stand t c =
-    let p = err_from_is_err_and c.from_residual.result c.from_residual.ensures.1 in
-    rw p.1 tt
+bases::class_behind-returns-in_err-class-clause-stand = class_names.class_behind-returns-in_err-class-clause-stand
 
 pub bases::class_behind-returns-clause-grows : goal.bases::class_behind-returns-clause-grows
-bases::class_behind-returns-clause-grows t c = c.loop-part.invariant.grows
+bases::class_behind-returns-clause-grows = class_names.class_behind-returns-clause-grows
 
 pub bases::class_behind-returns-clause-stand : goal.bases::class_behind-returns-clause-stand
-bases::class_behind-returns-clause-stand t c = c.loop-part.invariant.stand
+bases::class_behind-returns-clause-stand = class_names.class_behind-returns-clause-stand
 
 pub bases::class_named-returns-in_err-first-clause-value : goal.bases::class_named-returns-in_err-first-clause-value
-bases::class_named-returns-in_err-first-clause-value t c =
-    let p = err_from_is_err_and c.from_residual.result c.from_residual.ensures.1 in
-    let A : Asking = asks (table_in c.args.s.now) c.args.ask.now in
-    let S : Scope = scope_at c.args.s.now c.args.scope.now in
-    exit_err (classed_seen (frames_of c.class_first.new.s)) _ c.from_residual.result c.in_err-first.field-0.0 c.args.s.now c.args.s.now
-    (λ t. first_of_parts t (asks t c.args.ask.now) c.args.bare c.args.reference.now.top S c.args.reference.now.parts)
-    (λ class. class_behind (table_in c.args.s.now) A class (drop 1 c.args.reference.now.parts)) _ (p.1 ∙ ap Err p.2)
-    (grows_refl c.args.s.now) c.in_err-first.ensures.value
-    (class_named_is (table_in c.args.s.now) A c.args.bare S c.args.reference.now)
+bases::class_named-returns-in_err-first-clause-value = class_names.class_named-returns-in_err-first-clause-value
 
 pub bases::class_named-returns-clause-value : goal.bases::class_named-returns-clause-value
-bases::class_named-returns-clause-value t c =
-    let A : Asking = asks (table_in c.args.s.now) c.args.ask.now in
-    let S : Scope = scope_at c.args.s.now c.args.scope.now in
-    let C : Classed = classed_seen (frames_of c.class_first.new.s) c.in_ok-first.first in
-    later_gives _ c.class_behind.result c.args.s.now c.class_first.new.s
-    (λ t. class_behind t (asks t c.args.ask.now) C c.behind_first-parts.result.now) _
-    c.in_ok-first.ensures.grows c.class_behind.ensures.value
-    (ap (class_behind (table_in c.args.s.now) A C) (c.behind_first-parts.ensures ∙ ap (drop 1) c.as_slice.ensures)
-    ∙ then_ok (first_of_parts (table_in c.args.s.now) A c.args.bare c.args.reference.now.top S c.args.reference.now.parts)
-    (λ class. class_behind (table_in c.args.s.now) A class (drop 1 c.args.reference.now.parts)) C _
-    (class_named_is (table_in c.args.s.now) A c.args.bare S c.args.reference.now)
-    c.in_ok-first.ensures.value)
+bases::class_named-returns-clause-value = class_names.class_named-returns-clause-value
 
 pub bases::class_named-class_first-requires : goal.bases::class_named-class_first-requires
-bases::class_named-class_first-requires t c = (omega arith, c.requires)
+bases::class_named-class_first-requires = class_names.class_named-class_first-requires
 
 pub bases::class_named-class_behind-requires : goal.bases::class_named-class_behind-requires
-bases::class_named-class_behind-requires t c = (omega arith, c.in_ok-first.ensures.stand)
+bases::class_named-class_behind-requires = class_names.class_named-class_behind-requires
 
 pub bases::class_named-returns-in_err-first-clause-grows : goal.bases::class_named-returns-in_err-first-clause-grows
-bases::class_named-returns-in_err-first-clause-grows t c = c.in_err-first.ensures.grows
+bases::class_named-returns-in_err-first-clause-grows = class_names.class_named-returns-in_err-first-clause-grows
 
 pub bases::class_named-returns-clause-grows : goal.bases::class_named-returns-clause-grows
-bases::class_named-returns-clause-grows t c = grows_trans _ _ _ c.in_ok-first.ensures.grows c.class_behind.ensures.grows
+bases::class_named-returns-clause-grows = class_names.class_named-returns-clause-grows
 
 pub bases::class_named-returns-in_err-first-clause-stand : goal.bases::class_named-returns-in_err-first-clause-stand
-bases::class_named-returns-in_err-first-clause-stand t c =
-    let p = err_from_is_err_and c.from_residual.result c.from_residual.ensures.1 in
-    rw p.1 tt
+bases::class_named-returns-in_err-first-clause-stand = class_names.class_named-returns-in_err-first-clause-stand
 
 pub bases::class_named-returns-clause-stand : goal.bases::class_named-returns-clause-stand
-bases::class_named-returns-clause-stand t c = c.class_behind.ensures.stand
+bases::class_named-returns-clause-stand = class_names.class_named-returns-clause-stand
 
 pub bases::base_class-returns-in_err-class-clause-grows : goal.bases::base_class-returns-in_err-class-clause-grows
-bases::base_class-returns-in_err-class-clause-grows t c = c.in_err-class.ensures.grows
+bases::base_class-returns-in_err-class-clause-grows = bases.base_class-returns-in_err-class-clause-grows
 
 pub bases::base_class-returns-then-class-clause-grows : goal.bases::base_class-returns-then-class-clause-grows
-bases::base_class-returns-then-class-clause-grows t c = c.in_ok-class.ensures.grows
+bases::base_class-returns-then-class-clause-grows = bases.base_class-returns-then-class-clause-grows
 
 pub bases::base_class-returns-clause-grows : goal.bases::base_class-returns-clause-grows
-bases::base_class-returns-clause-grows t c = c.in_ok-class.ensures.grows
+bases::base_class-returns-clause-grows = bases.base_class-returns-clause-grows
 
 pub bases::base_class-returns-in_err-class-clause-stand : goal.bases::base_class-returns-in_err-class-clause-stand
-bases::base_class-returns-in_err-class-clause-stand t c =
-    let p = err_from_is_err_and c.from_residual.result c.from_residual.ensures.1 in
-    rw p.1 tt
+bases::base_class-returns-in_err-class-clause-stand = bases.base_class-returns-in_err-class-clause-stand
 
 pub bases::base_class-returns-clause-stand : goal.bases::base_class-returns-clause-stand
-bases::base_class-returns-clause-stand t c = c.in_ok-class.ensures.stand
+bases::base_class-returns-clause-stand = bases.base_class-returns-clause-stand
 
 pub bases::base_found-base_class-requires : goal.bases::base_found-base_class-requires
-bases::base_found-base_class-requires t c = (omega arith, c.requires)
+bases::base_found-base_class-requires = bases.base_found-base_class-requires
 
 pub bases::base_found-base_entered-requires-clause-frame : goal.bases::base_found-base_entered-requires-clause-frame
-bases::base_found-base_entered-requires-clause-frame t c = is_frame_later _ _ _ c.in_ok-class.ensures.grows c.requires
+bases::base_found-base_entered-requires-clause-frame = bases.base_found-base_entered-requires-clause-frame
 
 pub bases::base_found-base_entered-requires-clause-class : goal.bases::base_found-base_entered-requires-clause-class
-bases::base_found-base_entered-requires-clause-class t c = c.in_ok-class.ensures.stand
+bases::base_found-base_entered-requires-clause-class = bases.base_found-base_entered-requires-clause-class
 
 pub bases::base_found-returns-then-is_none-clause-grows : goal.bases::base_found-returns-then-is_none-clause-grows
-bases::base_found-returns-then-is_none-clause-grows t c = grows_refl c.args.s.now
+bases::base_found-returns-then-is_none-clause-grows = bases.base_found-returns-then-is_none-clause-grows
 
 pub bases::base_found-returns-in_err-class-clause-grows : goal.bases::base_found-returns-in_err-class-clause-grows
-bases::base_found-returns-in_err-class-clause-grows t c = c.in_err-class.ensures.grows
+bases::base_found-returns-in_err-class-clause-grows = bases.base_found-returns-in_err-class-clause-grows
 
 pub bases::base_found-returns-in_err-base_entered-clause-grows : goal.bases::base_found-returns-in_err-base_entered-clause-grows
-bases::base_found-returns-in_err-base_entered-clause-grows t c = grows_trans _ _ _ c.in_ok-class.ensures.grows c.in_err-base_entered.ensures.grows
+bases::base_found-returns-in_err-base_entered-clause-grows = bases.base_found-returns-in_err-base_entered-clause-grows
 
 pub bases::base_found-returns-clause-grows : goal.bases::base_found-returns-clause-grows
-bases::base_found-returns-clause-grows t c = grows_trans _ _ _ c.in_ok-class.ensures.grows c.in_ok-base_entered.ensures.grows
+bases::base_found-returns-clause-grows = bases.base_found-returns-clause-grows
 
 pub bases::base_found-returns-in_err-class-clause-stand : goal.bases::base_found-returns-in_err-class-clause-stand
-bases::base_found-returns-in_err-class-clause-stand t c =
-    let p = err_from_is_err_and c.from_residual.result c.from_residual.ensures.1 in
-    rw p.1 tt
+bases::base_found-returns-in_err-class-clause-stand = bases.base_found-returns-in_err-class-clause-stand
 
 pub bases::base_found-returns-in_err-base_entered-clause-stand : goal.bases::base_found-returns-in_err-base_entered-clause-stand
-bases::base_found-returns-in_err-base_entered-clause-stand t c =
-    let p = err_from_is_err_and c.from_residual-in_err-base_entered.result c.from_residual-in_err-base_entered.ensures.1 in
-    rw p.1 tt
+bases::base_found-returns-in_err-base_entered-clause-stand = bases.base_found-returns-in_err-base_entered-clause-stand
 
 pub bases::base_found-returns-clause-stand : goal.bases::base_found-returns-clause-stand
-bases::base_found-returns-clause-stand t c = c.in_ok-base_entered.ensures.stand
+bases::base_found-returns-clause-stand = bases.base_found-returns-clause-stand
 
 pub bases::base_found-returns-then-is_none-clause-stand : goal.bases::base_found-returns-then-is_none-clause-stand
-bases::base_found-returns-then-is_none-clause-stand t c = c.requires
+bases::base_found-returns-then-is_none-clause-stand = bases.base_found-returns-then-is_none-clause-stand
 
 pub bases::base_elements-base_found-requires : goal.bases::base_elements-base_found-requires
-bases::base_elements-base_found-requires t c = (omega arith, c.requires)
+bases::base_elements-base_found-requires = bases.base_elements-base_found-requires
 
 pub bases::base_elements-returns-in_err-base-clause-grows : goal.bases::base_elements-returns-in_err-base-clause-grows
-bases::base_elements-returns-in_err-base-clause-grows t c = c.in_err-base.ensures.grows
+bases::base_elements-returns-in_err-base-clause-grows = bases.base_elements-returns-in_err-base-clause-grows
 
 pub bases::base_elements-returns-in_err-walked-clause-grows : goal.bases::base_elements-returns-in_err-walked-clause-grows
-bases::base_elements-returns-in_err-walked-clause-grows t c = grows_trans _ _ _ c.in_ok-base.ensures.grows c.in_err-walked.ensures.grows
+bases::base_elements-returns-in_err-walked-clause-grows = bases.base_elements-returns-in_err-walked-clause-grows
 
 pub bases::base_elements-returns-clause-grows : goal.bases::base_elements-returns-clause-grows
-bases::base_elements-returns-clause-grows t c = grows_trans _ _ _ c.in_ok-base.ensures.grows c.in_ok-walked.ensures.grows
+bases::base_elements-returns-clause-grows = bases.base_elements-returns-clause-grows
 
 pub bases::base_elements-returns-clause-stand : goal.bases::base_elements-returns-clause-stand
-bases::base_elements-returns-clause-stand t c = (is_frame_later _ _ _ c.in_ok-walked.ensures.grows c.in_ok-base.ensures.stand, c.in_ok-walked.ensures.stand)
+bases::base_elements-returns-clause-stand = bases.base_elements-returns-clause-stand
 
 pub bases::base_elements-returns-in_err-base-clause-stand : goal.bases::base_elements-returns-in_err-base-clause-stand
-bases::base_elements-returns-in_err-base-clause-stand t c =
-    let p = err_from_is_err_and c.from_residual.result c.from_residual.ensures.1 in
-    rw p.1 tt
+bases::base_elements-returns-in_err-base-clause-stand = bases.base_elements-returns-in_err-base-clause-stand
 
 pub bases::base_elements-returns-in_err-walked-clause-stand : goal.bases::base_elements-returns-in_err-walked-clause-stand
-bases::base_elements-returns-in_err-walked-clause-stand t c =
-    let p = err_from_is_err_and c.from_residual-in_err-walked.result c.from_residual-in_err-walked.ensures.1 in
-    rw p.1 tt
+bases::base_elements-returns-in_err-walked-clause-stand = bases.base_elements-returns-in_err-walked-clause-stand
 
 pub bases::base_walked-with_base-requires-clause-so_far : goal.bases::base_walked-with_base-requires-clause-so_far
-bases::base_walked-with_base-requires-clause-so_far t c = is_walk_later c.args.s.now c.base_elements.new.s c.args.so_far.now c.in_ok-base.ensures.grows c.requires.so_far
+bases::base_walked-with_base-requires-clause-so_far = bases.base_walked-with_base-requires-clause-so_far
 
 pub bases::base_walked-base_elements-requires : goal.bases::base_walked-base_elements-requires
-bases::base_walked-base_elements-requires t c = (omega arith, c.requires.frame)
+bases::base_walked-base_elements-requires = bases.base_walked-base_elements-requires
 
 pub bases::base_walked-returns-in_err-base-clause-grows : goal.bases::base_walked-returns-in_err-base-clause-grows
-bases::base_walked-returns-in_err-base-clause-grows t c = c.in_err-base.ensures.grows
+bases::base_walked-returns-in_err-base-clause-grows = bases.base_walked-returns-in_err-base-clause-grows
 
 pub bases::base_walked-returns-in_err-base-clause-stand : goal.bases::base_walked-returns-in_err-base-clause-stand
-bases::base_walked-returns-in_err-base-clause-stand t c =
-    let p = err_from_is_err_and c.from_residual.result c.from_residual.ensures.1 in
-    rw p.1 tt
+bases::base_walked-returns-in_err-base-clause-stand = bases.base_walked-returns-in_err-base-clause-stand
 
 pub bases::base_walked-returns-clause-grows : goal.bases::base_walked-returns-clause-grows
-bases::base_walked-returns-clause-grows t c = c.in_ok-base.ensures.grows
+bases::base_walked-returns-clause-grows = bases.base_walked-returns-clause-grows
 
 pub bases::base_walked-returns-clause-stand : goal.bases::base_walked-returns-clause-stand
-bases::base_walked-returns-clause-stand t c = c.with_base.ensures.stand
+bases::base_walked-returns-clause-stand = bases.base_walked-returns-clause-stand
 
 pub bases::part_walked-base_walked-requires : goal.bases::part_walked-base_walked-requires
-bases::part_walked-base_walked-requires t c = (omega arith, (c.requires.frame, c.requires.so_far))
+bases::part_walked-base_walked-requires = bases.part_walked-base_walked-requires
 
 pub bases::part_walked-returns-in_err-own_walked-in-Element-clause-grows : goal.bases::part_walked-returns-in_err-own_walked-in-Element-clause-grows
-bases::part_walked-returns-in_err-own_walked-in-Element-clause-grows t c = grows_refl c.args.s.now
+bases::part_walked-returns-in_err-own_walked-in-Element-clause-grows = bases.part_walked-returns-in_err-own_walked-in-Element-clause-grows
 
 pub bases::part_walked-returns-in_ok-own_walked-in-Element-clause-grows : goal.bases::part_walked-returns-in_ok-own_walked-in-Element-clause-grows
-bases::part_walked-returns-in_ok-own_walked-in-Element-clause-grows t c = grows_refl c.args.s.now
+bases::part_walked-returns-in_ok-own_walked-in-Element-clause-grows = bases.part_walked-returns-in_ok-own_walked-in-Element-clause-grows
 
 pub bases::part_walked-returns-in_err-base_walked-in-Base-clause-grows : goal.bases::part_walked-returns-in_err-base_walked-in-Base-clause-grows
-bases::part_walked-returns-in_err-base_walked-in-Base-clause-grows t c = c.in_err-base_walked-in-Base.ensures.grows
+bases::part_walked-returns-in_err-base_walked-in-Base-clause-grows = bases.part_walked-returns-in_err-base_walked-in-Base-clause-grows
 
 pub bases::part_walked-returns-in_ok-base_walked-in-Base-clause-grows : goal.bases::part_walked-returns-in_ok-base_walked-in-Base-clause-grows
-bases::part_walked-returns-in_ok-base_walked-in-Base-clause-grows t c = c.in_ok-base_walked-in-Base.ensures.grows
+bases::part_walked-returns-in_ok-base_walked-in-Base-clause-grows = bases.part_walked-returns-in_ok-base_walked-in-Base-clause-grows
 
 pub bases::walked_parts-returns-in_err-item-clause-value : goal.bases::walked_parts-returns-in_err-item-clause-value
-bases::walked_parts-returns-in_err-item-clause-value t c =
-    let p = err_from_is_err_and c.from_residual.result c.from_residual.ensures.1 in
-    let F : Frame = frame_at c.args.s.now c.args.frame.0 in
-    let A : Asking = asks (table_in c.args.s.now) c.args.ask.now in
-    let row : Option Row = row_at (table_in c.args.s.now) (class_of F) in
-    let W : Walked = walk_at c.loop-at.s c.loop-at.so_far in
-    let part : Part = part_seen c.part_at-part.result in
-    let read : slice_get (parts_of row) c.loop-at.at ≡ Some part = part_read c.args.s.now c.loop-at.s c.class_of-class.result.0 F c.loop-at.at part c.loop-at.invariant.grows c.class_of-class.ensures.is c.part_at-part.ensures.is in
-    exit_same {T = ℕ} (λ _. walk_at c.part_walked.new.s c.part_walked.new.so_far) _ c.from_residual.result c.in_err-item.field-0.0 _ (part_walked (table_in c.args.s.now) A F row c.loop-at.item part W)
-    (λ w. parts_walked (table_in c.args.s.now) A F row (next_item part c.loop-at.item) (drop (c.loop-at.at + 1) (parts_of row)) w) _
-    (p.1 ∙ ap Err p.2) (part_told c.args.s.now c.loop-at.s c.args.ask.now c.args.frame.0 c.loop-at.item part W c.loop-at.invariant.grows c.requires.frame) c.in_err-item.ensures.value
-    (left_read (λ ps. parts_walked (table_in c.args.s.now) A F row c.loop-at.item ps W) (parts_of row) c.loop-at.at part _ read c.loop-at.invariant.left)
+bases::walked_parts-returns-in_err-item-clause-value = bases.walked_parts-returns-in_err-item-clause-value
 
 pub bases::walked_parts-part_walked-requires : goal.bases::walked_parts-part_walked-requires
-bases::walked_parts-part_walked-requires t c =
-    let F : Frame = frame_at c.args.s.now c.args.frame.0 in
-    let part : Part = part_seen c.part_at-part.result in (
-      omega arith,
-      (
-        is_frame_later c.args.s.now c.loop-at.s c.args.frame.0 c.loop-at.invariant.grows c.requires.frame,
-        (
-          c.loop-at.invariant.stand,
-          (
-            c.part_at-part.ensures.exists,
-            own_part_later c.args.s.now c.loop-at.s c.args.frame.0 c.loop-at.item part c.loop-at.invariant.grows c.requires.frame
-                (own_part (table_in c.args.s.now) F c.loop-at.at c.loop-at.item part
-                (part_read c.args.s.now c.loop-at.s c.class_of-class.result.0 F c.loop-at.at part c.loop-at.invariant.grows c.class_of-class.ensures.is c.part_at-part.ensures.is)
-                c.loop-at.invariant.counted),
-          ),
-        ),
-      ),
-    )
+bases::walked_parts-part_walked-requires = bases.walked_parts-part_walked-requires
 
 pub bases::walked_parts-loop-at-preserved : goal.bases::walked_parts-loop-at-preserved
-bases::walked_parts-loop-at-preserved t c =
-    let F : Frame = frame_at c.args.s.now c.args.frame.0 in
-    let A : Asking = asks (table_in c.args.s.now) c.args.ask.now in
-    let row : Option Row = row_at (table_in c.args.s.now) (class_of F) in
-    let W : Walked = walk_at c.loop-at.s c.loop-at.so_far in
-    let part : Part = part_seen c.part_at-part.result in
-    let read : slice_get (parts_of row) c.loop-at.at ≡ Some part = part_read c.args.s.now c.loop-at.s c.class_of-class.result.0 F c.loop-at.at part c.loop-at.invariant.grows c.class_of-class.ensures.is c.part_at-part.ensures.is in
-    record {
-      grows = grows_trans c.args.s.now c.loop-at.s c.part_walked.new.s c.loop-at.invariant.grows c.in_ok-item.ensures.grows;
-      stand = c.in_ok-item.ensures.stand;
-      left =
-          ap (λ n. parts_walked (table_in c.args.s.now) A F row n (drop (c.loop-at.at + 1) (parts_of row)) (walk_at c.part_walked.new.s c.part_walked.new.so_far)) c.in_ok-item.ensures.item
-          ∙ then_same_ok _ (part_walked (table_in c.args.s.now) A F row c.loop-at.item part W)
-          (λ w. parts_walked (table_in c.args.s.now) A F row (next_item part c.loop-at.item) (drop (c.loop-at.at + 1) (parts_of row)) w)
-          (walk_at c.part_walked.new.s c.part_walked.new.so_far) _
-          (part_told c.args.s.now c.loop-at.s c.args.ask.now c.args.frame.0 c.loop-at.item part W c.loop-at.invariant.grows c.requires.frame)
-          (left_read (λ ps. parts_walked (table_in c.args.s.now) A F row c.loop-at.item ps W) (parts_of row) c.loop-at.at part _ read c.loop-at.invariant.left)
-          c.in_ok-item.ensures.value;
-      counted = c.in_ok-item.ensures.item ∙ counted_next (parts_of row) c.loop-at.at c.loop-at.item part read c.loop-at.invariant.counted;
-    }
+bases::walked_parts-loop-at-preserved = bases.walked_parts-loop-at-preserved
 
 pub bases::walked_parts-returns-in_err-item-clause-grows : goal.bases::walked_parts-returns-in_err-item-clause-grows
-bases::walked_parts-returns-in_err-item-clause-grows t c = grows_trans _ _ _ c.loop-at.invariant.grows c.in_err-item.ensures.grows
+bases::walked_parts-returns-in_err-item-clause-grows = bases.walked_parts-returns-in_err-item-clause-grows
 
 pub bases::walked_parts-returns-in_err-item-clause-stand : goal.bases::walked_parts-returns-in_err-item-clause-stand
-bases::walked_parts-returns-in_err-item-clause-stand t c =
-    let p = err_from_is_err_and c.from_residual.result c.from_residual.ensures.1 in
-    rw p.1 tt
+bases::walked_parts-returns-in_err-item-clause-stand = bases.walked_parts-returns-in_err-item-clause-stand
 
 pub bases::walked_parts-returns-clause-grows : goal.bases::walked_parts-returns-clause-grows
-bases::walked_parts-returns-clause-grows t c = c.loop-at.invariant.grows
+bases::walked_parts-returns-clause-grows = bases.walked_parts-returns-clause-grows
 
 pub bases::walked_parts-returns-clause-stand : goal.bases::walked_parts-returns-clause-stand
-bases::walked_parts-returns-clause-stand t c = c.loop-at.invariant.stand
+bases::walked_parts-returns-clause-stand = bases.walked_parts-returns-clause-stand
 
 pub bases::walked_class-returns-in_err-walk-clause-value : goal.bases::walked_class-returns-in_err-walk-clause-value
-bases::walked_class-returns-in_err-walk-clause-value t c =
-    let p = err_from_is_err_and c.from_residual.result c.from_residual.ensures.1 in
-    let A : Asking = asks (table_in c.args.s.now) c.args.ask.now in
-    let F : Frame = frame_at c.args.s.now c.args.frame.0 in
-    let row : Option Row = row_at (table_in c.args.s.now) (class_of F) in
-    exit_same (walk_at c.args.s.now) _ c.from_residual.result c.in_err-walk.field-0.0 (started F row) (started F row)
-    (λ w. and_then (parts_walked (table_in c.args.s.now) A F row 0 (parts_of row) w) leaf_checked) _ (p.1 ∙ ap Err p.2) refl c.in_err-walk.ensures.value
-    (class_is (table_in c.args.s.now) A F row)
+bases::walked_class-returns-in_err-walk-clause-value = bases.walked_class-returns-in_err-walk-clause-value
 
 pub bases::walked_class-returns-clause-value : goal.bases::walked_class-returns-clause-value
-bases::walked_class-returns-clause-value t c =
-    let A : Asking = asks (table_in c.args.s.now) c.args.ask.now in
-    let F : Frame = frame_at c.args.s.now c.args.frame.0 in
-    let row : Option Row = row_at (table_in c.args.s.now) (class_of F) in
-    let W : Walked = walk_at c.args.s.now c.in_ok-walk.walk in
-    gives_same _ c.walk_checked.result _ _
-    (then_ok (started F row) (λ w. and_then (parts_walked (table_in c.args.s.now) A F row 0 (parts_of row) w) leaf_checked) W _ (class_is (table_in c.args.s.now) A F row) c.in_ok-walk.ensures.value)
-    (c.walk_checked.ensures.value _ c.walked_parts-done.ensures.value)
+bases::walked_class-returns-clause-value = bases.walked_class-returns-clause-value
 
 pub bases::walked_class-walked_parts-done-requires : goal.bases::walked_class-walked_parts-done-requires
-bases::walked_class-walked_parts-done-requires t c = (omega arith, (c.requires, c.in_ok-walk.ensures.stand))
+bases::walked_class-walked_parts-done-requires = bases.walked_class-walked_parts-done-requires
 
 pub bases::walked_class-returns-in_err-walk-clause-grows : goal.bases::walked_class-returns-in_err-walk-clause-grows
-bases::walked_class-returns-in_err-walk-clause-grows t c = grows_refl c.args.s.now
+bases::walked_class-returns-in_err-walk-clause-grows = bases.walked_class-returns-in_err-walk-clause-grows
 
 pub bases::walked_class-returns-in_err-walk-clause-stand : goal.bases::walked_class-returns-in_err-walk-clause-stand
-bases::walked_class-returns-in_err-walk-clause-stand t c =
-    let p = err_from_is_err_and c.from_residual.result c.from_residual.ensures.1 in
-    rw p.1 tt
+bases::walked_class-returns-in_err-walk-clause-stand = bases.walked_class-returns-in_err-walk-clause-stand
 
 pub bases::walked_class-walk_checked-requires : goal.bases::walked_class-walk_checked-requires
-bases::walked_class-walk_checked-requires t c = c.walked_parts-done.ensures.stand
+bases::walked_class-walk_checked-requires = bases.walked_class-walk_checked-requires
 
 pub bases::walked_class-returns-clause-grows : goal.bases::walked_class-returns-clause-grows
-bases::walked_class-returns-clause-grows t c = c.walked_parts-done.ensures.grows
+bases::walked_class-returns-clause-grows = bases.walked_class-returns-clause-grows
 
 pub bases::walked_class-returns-clause-stand : goal.bases::walked_class-returns-clause-stand
-bases::walked_class-returns-clause-stand t c = c.walk_checked.ensures.stand
+bases::walked_class-returns-clause-stand = bases.walked_class-returns-clause-stand
