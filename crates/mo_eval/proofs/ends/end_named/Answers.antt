@@ -8,6 +8,7 @@ use Rattle.mo_eval.specs.steps.Naming.{names_seen, referred_seen}
 use Rattle.mo_eval.proofs.Earlier.{seen_as}
 use Rattle.mo_eval.proofs.Ending.{components_end, names_end, no_names}
 use Rattle.mo_eval.proofs.Grown.{kept_still}
+use Rattle.mo_names.proofs.Later.{grows_trans}
 use Rattle.mo_eval.proofs.ends.end_named.Goals as goal
 
 pub returns-in_err-names-clause-kept : goal.returns-in_err-names-clause-kept
@@ -40,3 +41,6 @@ returns-in-Other-clause-kept c = kept_still _ _ c.named.ensures.grows _ c.requir
 pub returns-in-Other-clause-exact : goal.returns-in-Other-clause-exact
 returns-in-Other-clause-exact c =
     names_end c.args.s.now c.args.site.now c.requires.left c.args.reference.now _ (rw c.in-Other.is at c.in_ok-names.ensures.exact)
+
+pub returns-in-Components-clause-grows : goal.returns-in-Components-clause-grows
+returns-in-Components-clause-grows c = grows_trans _ _ _ c.in_ok-names.ensures.grows c.with_components.ensures.grows

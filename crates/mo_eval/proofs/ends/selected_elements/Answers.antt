@@ -1,7 +1,7 @@
 use Rattle.std.proofs.Common.{◌≡◌, ◌-◌, List, Ok, Err, ap, arith, get_or, rules, sym, ◌∙◌}
 use Rattle.mo_flat.specs.declared.array.Subscript.{Subscript}
 use Rattle.mo_scope.specs.Worlds.{frames_of}
-use Rattle.mo_names.proofs.Later.{is_member_later}
+use Rattle.mo_names.proofs.Later.{grows_trans, is_member_later}
 use Rattle.mo_typing.specs.Dims.{Dims}
 use Rattle.mo_eval.specs.Ends.{Selects}
 use Rattle.mo_eval.specs.steps.Absence.{Removes, stop_for}
@@ -71,3 +71,12 @@ returns-clause-exact c =
     let all = sym before ∙ (rw c.as_slice.ensures at (c.in_ok-elements.ensures.exact Removes)) in
     all_chosen w c.args.site.now c.args.place names first c.requires.some front c.requires.left deeper less chosen (c.in_ok-chosen.ensures.exact Removes) elements all
     ∙ ap (λ (handed : Dims × List Subscript). Ok (Selects handed.0 handed.1 elements)) (sym c.in_ok-dims.ensures)
+
+pub returns-in_err-elements-clause-grows : goal.returns-in_err-elements-clause-grows
+returns-in_err-elements-clause-grows c = grows_trans _ _ _ c.in_ok-chosen.ensures.grows c.in_err-elements.ensures.grows
+
+pub returns-in_err-dims-clause-grows : goal.returns-in_err-dims-clause-grows
+returns-in_err-dims-clause-grows c = grows_trans _ _ _ c.in_ok-chosen.ensures.grows c.in_ok-elements.ensures.grows
+
+pub returns-clause-grows : goal.returns-clause-grows
+returns-clause-grows c = grows_trans _ _ _ c.in_ok-chosen.ensures.grows c.in_ok-elements.ensures.grows

@@ -4,6 +4,7 @@ use Rattle.mo_scope.specs.Worlds.{frame_in, frames_of, table_in}
 use Rattle.mo_names.specs.Sights.{found_in, member_of}
 use Rattle.mo_eval.proofs.Growing.{gives_as}
 use Rattle.mo_eval.proofs.Naming.{no_subs, other_counted, some_counted}
+use Rattle.mo_names.proofs.Later.{grows_refl}
 use Rattle.mo_eval.proofs.names.counted.Goals as goal
 
 pub returns-then-is_empty-clause-exact : goal.returns-then-is_empty-clause-exact
@@ -35,3 +36,21 @@ returns-in-Function-clause-exact c = λ f.
 pub returns-in-Time-clause-exact : goal.returns-in-Time-clause-exact
 returns-in-Time-clause-exact c = λ f.
     rw c.in-Time.is (other_counted (table_in c.args.s.now) Time f c.args.at.now.part.now c.is_empty.result tt c.is_empty.ensures (search rules) ∙ ap Err (sym (search rules)))
+
+pub returns-then-is_empty-clause-grows : goal.returns-then-is_empty-clause-grows
+returns-then-is_empty-clause-grows c = grows_refl _
+
+pub returns-in-Class-clause-grows : goal.returns-in-Class-clause-grows
+returns-in-Class-clause-grows c = grows_refl _
+
+pub returns-in-Literal-clause-grows : goal.returns-in-Literal-clause-grows
+returns-in-Literal-clause-grows c = grows_refl _
+
+pub returns-in-Iteration-clause-grows : goal.returns-in-Iteration-clause-grows
+returns-in-Iteration-clause-grows c = grows_refl _
+
+pub returns-in-Function-clause-grows : goal.returns-in-Function-clause-grows
+returns-in-Function-clause-grows c = grows_refl _
+
+pub returns-in-Time-clause-grows : goal.returns-in-Time-clause-grows
+returns-in-Time-clause-grows c = grows_refl _

@@ -8,6 +8,7 @@ use Rattle.mo_eval.specs.steps.Naming.{referred_seen}
 use Rattle.mo_eval.specs.steps.Parts.{as_identifier}
 use Rattle.mo_eval.proofs.Earlier.{seen_as, seen_halts_seen}
 use Rattle.mo_eval.proofs.Naming.{begun, first_named}
+use Rattle.mo_names.proofs.Later.{grows_trans}
 use Rattle.mo_eval.proofs.names.named_parts.Goals as goal
 
 pub returns-in-Err-clause-exact : goal.returns-in-Err-clause-exact
@@ -34,3 +35,6 @@ returns-in-Ok-clause-exact c =
     seen_as (referred_seen f (frames_of c.parts_behind.new.s)) c.parts_behind.result _ _
     (begun s mid c.in-Ok.ensures.grows (scope_of s c.args.site.now) c.args.top c.in-Ok.found part others c.in-Ok.ensures.value)
     (c.parts_behind.ensures.exact f)
+
+pub returns-in-Ok-clause-grows : goal.returns-in-Ok-clause-grows
+returns-in-Ok-clause-grows c = grows_trans _ _ _ c.in-Ok.ensures.grows c.parts_behind.ensures.grows

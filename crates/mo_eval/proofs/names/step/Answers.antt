@@ -59,3 +59,9 @@ returns-in-Ok-clause-names c =
     let end = c.find_behind.new.s in
     let grown = grows_trans s mid end c.in_ok-counted.ensures.grows c.in-Ok.ensures.grows in
     c.in_ok-put.ensures.there end (is_found_later s end c.args.at.now.found grown c.requires.found) (are_names_later s end grown c.args.names.now c.requires.names)
+
+pub returns-in-Ok-clause-grows : goal.returns-in-Ok-clause-grows
+returns-in-Ok-clause-grows c = grows_trans _ _ _ c.in_ok-counted.ensures.grows c.in-Ok.ensures.grows
+
+pub returns-in-Err-clause-grows : goal.returns-in-Err-clause-grows
+returns-in-Err-clause-grows c = grows_trans _ _ _ c.in_ok-counted.ensures.grows c.in-Err.ensures.grows

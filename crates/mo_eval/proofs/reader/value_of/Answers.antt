@@ -7,6 +7,7 @@ use Rattle.mo_eval.specs.steps.Sites.{elements_in}
 use Rattle.mo_eval.specs.Values.{most_references}
 use Rattle.mo_eval.specs.Virtuals.{known_at}
 use Rattle.mo_eval.proofs.Growing.{gives_halt}
+use Rattle.mo_names.proofs.Later.{grows_refl}
 use Rattle.mo_eval.proofs.reader.value_of.Goals as goal
 
 pub returns-in_err-known-clause-exact : goal.returns-in_err-known-clause-exact
@@ -26,3 +27,9 @@ returns-clause-exact c =
     let kind : kind_of asked.expression ≡ Ok k = sym c.kind_of.ensures ∙ c.in_ok-kind.ensures in
     let known : known_at (elements_in c.args.s.now most_references) asked c.args.index.now ≡ Ok c.in_ok-known.known = rw c.as_slice.ensures at c.in_ok-known.ensures.exact in
     rw (c.in_ok-fitting.ensures, kind, known) (ap Ok (sym (c.value_with.ensures.exact ∙ ap (value_with k) c.if_it_has.ensures.exact)))
+
+pub returns-in_err-fitting-clause-grows : goal.returns-in_err-fitting-clause-grows
+returns-in_err-fitting-clause-grows c = grows_refl _
+
+pub returns-in_err-kind-clause-grows : goal.returns-in_err-kind-clause-grows
+returns-in_err-kind-clause-grows c = grows_refl _

@@ -3,7 +3,7 @@ use Rattle.mo_syntax.specs.declared.meaning.FrameId.{FrameId}
 use Rattle.mo_scope.specs.Worlds.{frame_at, frames_of, table_in}
 use Rattle.mo_names.specs.Children.{component_entered}
 use Rattle.mo_names.specs.Sights.{member_of}
-use Rattle.mo_names.proofs.Later.{table_later}
+use Rattle.mo_names.proofs.Later.{grows_trans, table_later}
 use Rattle.mo_eval.specs.steps.Selecting.{component_in}
 use Rattle.mo_eval.proofs.Chosen.{component_behind_by}
 use Rattle.mo_eval.proofs.Earlier.{seen_as, seen_halts_seen}
@@ -27,3 +27,6 @@ returns-clause-exact c =
     rw (component_behind_by T c.args.place member c.args.index.now c.args.name.now, c.in_ok-frame.ensures.value)
     (seen_as (member_of (frames_of c.component_in.new.s)) c.component_in.result _ _
     (ap (λ t. component_in t c.args.place (frame_at mid c.in_ok-frame.frame.0) c.args.name.now) (table_later c.args.s.now mid c.in_ok-frame.ensures.grows)) c.component_in.ensures.exact)
+
+pub returns-clause-grows : goal.returns-clause-grows
+returns-clause-grows c = grows_trans _ _ _ c.in_ok-frame.ensures.grows c.component_in.ensures.grows

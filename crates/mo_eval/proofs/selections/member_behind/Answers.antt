@@ -5,6 +5,7 @@ use Rattle.mo_eval.specs.steps.Naming.{names_seen}
 use Rattle.mo_eval.specs.steps.Selecting.{member_behind, selection_seen}
 use Rattle.mo_eval.proofs.Chosen.{first_of}
 use Rattle.mo_eval.proofs.Earlier.{seen_as}
+use Rattle.mo_names.proofs.Later.{grows_refl}
 use Rattle.mo_eval.proofs.selections.member_behind.Goals as goal
 
 pub returns-in-len1-up-clause-exact : goal.returns-in-len1-up-clause-exact
@@ -14,3 +15,6 @@ returns-in-len1-up-clause-exact c = λ f.
     let opened = first_of c.args.names.now c.next-item.result (omega (arith, c.in-len1-up.len_at_least)) c.next-item.is in
     seen_as (option_map (member_of (frames_of c.next_behind.new.s))) c.next_behind.result _ _
     (ap (λ names. member_behind (table_in c.args.s.now) member (selection_seen c.args.selection.now) (names_seen f frames names)) (sym opened)) (c.next_behind.ensures.exact f)
+
+pub returns-in-empty-clause-grows : goal.returns-in-empty-clause-grows
+returns-in-empty-clause-grows c = grows_refl _

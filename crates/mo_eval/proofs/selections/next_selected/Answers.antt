@@ -8,6 +8,7 @@ use Rattle.mo_eval.specs.steps.Parts.{as_identifier}
 use Rattle.mo_eval.specs.steps.Selecting.{next_among}
 use Rattle.mo_eval.proofs.Chosen.{no_first, some_first}
 use Rattle.mo_eval.proofs.Earlier.{seen_as, seen_halts_seen}
+use Rattle.mo_names.proofs.Later.{grows_refl}
 use Rattle.mo_eval.proofs.selections.next_selected.Goals as goal
 
 pub returns-in_default-clause-exact : goal.returns-in_default-clause-exact
@@ -42,3 +43,9 @@ returns-clause-exact c = λ f.
     let first = ap (next_among T member next) (sym made ∙ some_first c.in_ok-indices.indices index (rw c.in-Some.is at c.get.ensures)) in
     let told : component_behind T next.place member index next.name ≡ Ok (member_of (frames_of c.component_behind.new.s) c.in_ok-behind.behind) = rw c.as_slice-3.ensures at c.in_ok-behind.ensures.exact in
     first ∙ rw told refl
+
+pub returns-in_err-indices-clause-grows : goal.returns-in_err-indices-clause-grows
+returns-in_err-indices-clause-grows c = grows_refl _
+
+pub returns-in_default-clause-grows : goal.returns-in_default-clause-grows
+returns-in_default-clause-grows c = grows_refl _

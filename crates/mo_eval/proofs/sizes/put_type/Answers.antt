@@ -31,3 +31,6 @@ returns-in_default-clause-exact c =
 
 pub returns-clause-exact : goal.returns-clause-exact
 returns-clause-exact c = type_ended c.args.s.now c.loop-left.s c.loop-left.made c.loop-left.frame.0 c.loop-left.left _ (omega arith) c.loop-left.invariant.is
+
+pub returns-in_err-left-clause-grows : goal.returns-in_err-left-clause-grows
+returns-in_err-left-clause-grows c = grows_refl _

@@ -6,6 +6,7 @@ use Rattle.mo_scope.specs.Worlds.{frames_of}
 use Rattle.mo_redeclare.specs.steps.Sights.{IsKept, entry_of, named_seen}
 use Rattle.mo_redeclare.proofs.Checking.{walk_is}
 use Rattle.mo_redeclare.proofs.Tables.{all_kept}
+use Rattle.mo_names.proofs.Later.{grows_refl}
 use Rattle.mo_redeclare.proofs.check.walk_checked.Goals as goal
 
 pub each_checked_in-requires-clause-members : goal.each_checked_in-requires-clause-members
@@ -20,3 +21,9 @@ returns-clause-value c =
     c.is_some.ensures
     (ap (map (named_seen (frames_of c.args.s.now))) c.as_slice-2.ensures ∙ c.in_ok-redeclared.ensures.are))
     c.each_checked_in.ensures.value
+
+pub returns-in_err-redeclared-clause-grows : goal.returns-in_err-redeclared-clause-grows
+returns-in_err-redeclared-clause-grows c = grows_refl _
+
+pub returns-in_err-members-clause-grows : goal.returns-in_err-members-clause-grows
+returns-in_err-members-clause-grows c = grows_refl _

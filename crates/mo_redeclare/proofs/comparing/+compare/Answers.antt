@@ -1,5 +1,5 @@
 -- One step further.
-use Rattle.mo_names.proofs.Later.{grows_trans, is_member_later}
+use Rattle.mo_names.proofs.Later.{grows_refl, grows_trans, is_member_later}
 use Rattle.mo_names.specs.Sights.{member_of, IsInherited, inherited_seen, walk_at}
 use Rattle.mo_names.specs.declared.walk.Inherited.{Inherited}
 use Rattle.mo_redeclare.proofs.Later.{are_kept_later, matched_before}
@@ -159,3 +159,33 @@ walks_compared-returns-clause-value t c =
     let b : Walked = walk_at c.args.s.now c.args.wanted.now in
     sym (then_ok (leaves_compared c.args.at.now.place a.leaf b.leaf) (λ (none : Bool). if none then are_matched T C c.args.at.now.place (members_in a) (members_in b) else Ok tt) false _
     (leaves_first T C c.args.at.now.place a b) (c.in_ok-no_leaves.ensures ∙ ap (λ (x : Bool). Ok x) c.if-no_leaves.false))
+
+pub components_compared-returns-clause-grows : goal.components_compared-returns-clause-grows
+components_compared-returns-clause-grows t c = grows_trans _ _ _ c.in_ok-walk.ensures.grows c.walks_compared.ensures.grows
+
+pub element_matched-returns-clause-grows : goal.element_matched-returns-clause-grows
+element_matched-returns-clause-grows t c = grows_refl _
+
+pub frames_compared-returns-then-left-lt1-clause-grows : goal.frames_compared-returns-then-left-lt1-clause-grows
+frames_compared-returns-then-left-lt1-clause-grows t c = grows_refl _
+
+pub frames_compared-returns-then-among-clause-grows : goal.frames_compared-returns-then-among-clause-grows
+frames_compared-returns-then-among-clause-grows t c = grows_refl _
+
+pub frames_compared-returns-in_err-pairs-clause-grows : goal.frames_compared-returns-in_err-pairs-clause-grows
+frames_compared-returns-in_err-pairs-clause-grows t c = grows_refl _
+
+pub is_matched-returns-in-None-clause-grows : goal.is_matched-returns-in-None-clause-grows
+is_matched-returns-in-None-clause-grows t c = grows_refl _
+
+pub members_compared-returns-in_err-members-clause-grows : goal.members_compared-returns-in_err-members-clause-grows
+members_compared-returns-in_err-members-clause-grows t c = grows_refl _
+
+pub pair_compared-returns-clause-grows : goal.pair_compared-returns-clause-grows
+pair_compared-returns-clause-grows t c = grows_trans _ _ _ c.in_ok-frame.ensures.grows c.frames_compared.ensures.grows
+
+pub walks_compared-returns-in_err-no_leaves-clause-grows : goal.walks_compared-returns-in_err-no_leaves-clause-grows
+walks_compared-returns-in_err-no_leaves-clause-grows t c = grows_refl _
+
+pub walks_compared-returns-clause-grows : goal.walks_compared-returns-clause-grows
+walks_compared-returns-clause-grows t c = grows_refl _

@@ -5,7 +5,7 @@ use Rattle.mo_scope.specs.Frames.{Frame}
 use Rattle.mo_scope.specs.Rows.{Table}
 use Rattle.mo_scope.specs.Sizes.{count_sizes, sizes_from, type_sizes}
 use Rattle.mo_scope.specs.Worlds.{frame_at, frames_of, table_in}
-use Rattle.mo_names.proofs.Later.{grows_trans, table_later}
+use Rattle.mo_names.proofs.Later.{grows_refl, grows_trans, table_later}
 use Rattle.mo_redeclare.specs.steps.Ways.{step_of, step_seen}
 use Rattle.mo_redeclare.proofs.Counting.{none_counts, step_more, step_none}
 use Rattle.mo_redeclare.proofs.dims.type_count.Goals as goal
@@ -46,3 +46,6 @@ returns-clause-value c =
     let here = frame_at c.loop-left.s c.loop-left.frame.0 in
     let nothing : count_sizes (sizes_from T c.loop-left.left here) ≡ 0 = none_counts T c.loop-left.left here (omega (arith, c.loop-left-test.false)) in
     omega (arith, nothing, c.loop-left.invariant.counted)
+
+pub returns-in_err-left-clause-grows : goal.returns-in_err-left-clause-grows
+returns-in_err-left-clause-grows c = grows_refl _

@@ -6,7 +6,7 @@ use Rattle.mo_scope.specs.Outcome.{Gives}
 use Rattle.mo_scope.specs.Worlds.{frame_at, frames_of, table_in}
 use Rattle.mo_names.specs.Children.{child_seen}
 use Rattle.mo_names.specs.Sights.{member_of}
-use Rattle.mo_names.proofs.Later.{is_member_later}
+use Rattle.mo_names.proofs.Later.{grows_trans, is_member_later}
 use Rattle.mo_redeclare.proofs.Later.{alike, entered_before, is_child_later, unlike}
 use Rattle.mo_redeclare.proofs.entering.entered_if_alike.Goals as goal
 
@@ -31,3 +31,6 @@ both_entered-requires-clause-new c =
 pub both_entered-requires-clause-wanted : goal.both_entered-requires-clause-wanted
 both_entered-requires-clause-wanted c =
     (is_member_later c.args.s.now c.same_counts.new.s c.args.wanted.0.now c.in_ok-same.ensures.grows c.requires.wanted.0, is_child_later c.args.s.now c.same_counts.new.s c.args.wanted.1 c.in_ok-same.ensures.grows c.requires.wanted.1)
+
+pub returns-then-same-clause-grows : goal.returns-then-same-clause-grows
+returns-then-same-clause-grows c = grows_trans _ _ _ c.in_ok-same.ensures.grows c.both_entered.ensures.grows

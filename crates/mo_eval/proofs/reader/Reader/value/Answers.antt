@@ -6,6 +6,7 @@ use Rattle.mo_eval.specs.steps.Sites.{elements_in}
 use Rattle.mo_eval.specs.Values.{most_references}
 use Rattle.mo_eval.specs.steps.Asking.{value_in}
 use Rattle.mo_eval.proofs.Growing.{gives_as, same_elements}
+use Rattle.mo_names.proofs.Later.{grows_trans}
 use Rattle.mo_eval.proofs.reader.Reader.value.Goals as goal
 
 pub returns-clause-exact : goal.returns-clause-exact
@@ -17,3 +18,6 @@ returns-clause-exact c =
     rw (rw c.for_value.ensures at c.in_ok-resolved.ensures.exact)
     (gives_as c.value_of.result (value_in (elements_in mid most_references) place c.args.index.now asked) (value_in (elements_in c.args.s.now most_references) place c.args.index.now asked)
     (ap (λ read. value_in read place c.args.index.now asked) same) c.value_of.ensures.exact)
+
+pub returns-clause-grows : goal.returns-clause-grows
+returns-clause-grows c = grows_trans _ _ _ c.in_ok-resolved.ensures.grows c.value_of.ensures.grows
