@@ -1,22 +1,23 @@
 -- The checks of a frame and of its bases, in later worlds and one after another.
-use Rattle.std.proofs.Common.{◌≡◌, ℕ, ◌<◌, Bool, false, List, [], ◌∷◌, ◌++◌, length, map, reverse, drop, Option, Some, Ok, Err, refl, ap, sym, subst, ◌∙◌, arith}
+use Rattle.std.proofs.Common.{◌≡◌, ℕ, ◌<◌, Bool, true, false, List, [], ◌∷◌, ◌++◌, length, map, reverse, drop, Option, Some, Ok, Err, refl, ap, sym, subst, ◌∙◌, arith}
 use Rattle.std.specs.Prelude.{slice_get, unwrap_or}
 use Rattle.std.proofs.lemmas.List.{reverse-append}
 use Rattle.mo_syntax.specs.Outcome.{Outcome, and_then}
 use Rattle.mo_syntax.specs.declared.meaning.FrameId.{FrameId}
 use Rattle.mo_syntax.specs.declared.place.Place.{Place}
-use Rattle.mo_scope.specs.Rows.{Table}
-use Rattle.mo_scope.specs.Frames.{Frame, Source, sources_of}
+use Rattle.mo_scope.specs.Rows.{Table, row_at}
+use Rattle.mo_scope.specs.Frames.{Frame, Source, class_of, sources_of}
 use Rattle.mo_scope.specs.Arguments.{second_pass}
 use Rattle.mo_scope.specs.Lookup.{Walked}
-use Rattle.mo_scope.specs.Names.{walk_of}
+use Rattle.mo_scope.specs.Names.{clauses_of, walk_of}
 use Rattle.mo_scope.specs.Redeclarations.{Checked, each_checked, fine, redeclared_checked, redeclarations_checked}
+use Rattle.mo_scope.specs.Sizes.{first_base}
 use Rattle.mo_scope.specs.Worlds.{World, Grows, IsFrame, frame_at, frame_in, frames_of, table_in}
 use Rattle.mo_names.specs.declared.walk.Walk.{Walk}
 use Rattle.mo_names.specs.Sights.{AreThrough, frames_through}
 use Rattle.mo_names.proofs.Ends.{final_is}
 use Rattle.mo_names.proofs.Later.{frame_later, table_later, through_later}
-use Rattle.mo_instance.specs.Checks.{added_to, base_passed, before_last, frame_checked, frame_passed, in_profile, replaces_inherited, whole_class}
+use Rattle.mo_instance.specs.Checks.{added_to, base_passed, before_last, frame_checked, frame_passed, in_profile, is_partial_short, partial_base, replaces_inherited, type_checked, whole_class}
 use Rattle.mo_instance.specs.steps.Checks.{frame_passes, through_passed}
 use Rattle.mo_instance.specs.steps.FirstPass.{is_replaced_by}
 use Rattle.mo_instance.specs.Passes.{first_pass, inherits}
@@ -131,3 +132,20 @@ base_before u v frame base walked passed g is there found counted =
     ∙ ap (λ (b : Frame). and_then (frame_passed (table_in u) (inherits walked) (drop passed (sources_of b)) b) (λ _. fine)) (frame_later u v base g there)
     ∙ ap (λ n. and_then (frame_passed (table_in u) (inherits walked) (drop n (sources_of (frame_at u base))) (frame_at u base)) (λ _. fine)) (counted ∙ ap (λ (f : Frame). length (sources_of f)) (frame_later u v frame g is))
     ∙ sym (ap (λ (o : Outcome Walked). and_then o (λ walked. and_then (frame_passed (table_in u) (inherits walked) (added_to (frame_at u frame) (frame_at u base)) (frame_at u base)) (λ _. fine))) found)
+
+-- ---- the class of a component's type
+
+module _ (table : Table) (frame : Frame) where
+  pub whole_base : is_partial_short (row_at table (class_of frame)) ≡ false → partial_base table frame ≡ fine
+  whole_base is = rw is refl
+
+  pub base_asked : is_partial_short (row_at table (class_of frame)) ≡ true →
+      and_then (first_base table frame (clauses_of table frame)) (λ _. fine) ≡ partial_base table frame
+  base_asked is = rw is refl
+
+pub type_left : (u v : World) (place : Place) (frame : ℕ) → Grows u v → IsFrame u frame → partial_base (table_in u) (frame_at u frame) ≡ fine →
+    frame_checked (table_in v) place (frame_at v frame) ≡ type_checked (table_in u) place (frame_at u frame)
+type_left u v place frame g there is =
+    ap (λ (t : Table). frame_checked t place (frame_at v frame)) (table_later u v g)
+    ∙ ap (λ (f : Frame). frame_checked (table_in u) place f) (frame_later u v frame g there)
+    ∙ sym (ap (λ (o : Checked). and_then o (λ _. frame_checked (table_in u) place (frame_at u frame))) is)

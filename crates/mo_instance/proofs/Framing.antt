@@ -14,7 +14,7 @@ use Rattle.mo_names.specs.Sights.{IsMember, member_of}
 use Rattle.mo_names.proofs.Later.{frame_later, member_later, table_later}
 use Rattle.mo_typing.specs.Dims.{Dims}
 use Rattle.mo_typing.specs.Indices.{Index}
-use Rattle.mo_instance.specs.Checks.{frame_checked}
+use Rattle.mo_instance.specs.Checks.{type_checked}
 use Rattle.mo_instance.specs.Elements.{Around, class_place}
 use Rattle.mo_instance.specs.steps.Instances.{element_frame, element_in_frame, element_made, instance_at, room_among}
 
@@ -47,7 +47,7 @@ module _ (table : Table) (around : Around) (member : Member) (dims : Dims) where
   with_walk walked instance = Ok (instance, walked)
 
   -- an element whose frame was checked
-  pub in_frame : (place : Place) (frame : Frame) (walked : Walked) → frame_checked table place frame ≡ Ok walked →
+  pub in_frame : (place : Place) (frame : Frame) (walked : Walked) → type_checked table place frame ≡ Ok walked →
       and_then (instance_at table around member dims frame walked) (with_walk walked) ≡ element_in_frame table around member dims place frame
   in_frame place frame walked found =
       sym (ap (λ (o : Outcome Walked). and_then o (λ walked. and_then (instance_at table around member dims frame walked) (with_walk walked))) found)

@@ -22,7 +22,7 @@ use Rattle.mo_mods.proofs.PathTests.{text_test}
 use Rattle.mo_typing.specs.Dims.{Dims}
 use Rattle.mo_typing.specs.Indices.{Index, indices, numbers_to}
 use Rattle.mo_eval.specs.Values.{most_references, there_of}
-use Rattle.mo_instance.specs.Checks.{base_passed, before_last, frame_checked, frame_passed, in_profile, replaces_inherited, whole_class}
+use Rattle.mo_instance.specs.Checks.{base_passed, before_last, frame_checked, frame_passed, in_profile, partial_base, replaces_inherited, type_checked, whole_class}
 use Rattle.mo_instance.specs.Elements.{Around, class_place, instance_of, leaf_of, room_for_one}
 use Rattle.mo_instance.specs.Instances.{Adding, Parts, Deeper, adding_each, around_root, component_entered, deeper, element_entered, entered_by, instances_by, instances_in, instances_of, member_entered, most_names, parts_entered, root_frame, root_instance}
 use Rattle.mo_instance.specs.Outer.{outer_checked}
@@ -62,6 +62,11 @@ checked_walk table place frame walked e =
     found_behind (walk_of table frame) (λ _. in_profile table frame) (λ walked. first_pass table frame (λ name. false) walked (sources_of frame)) (λ _. second_pass table (sources_of frame))
     (λ walked. redeclarations_checked table walked frame) (λ _. replaces_inherited table frame) passed.0 passed.1
     ∙ same_behind (each_checked (λ through. base_passed table (before_last frame through) (final_frame through)) passed.0.bases) passed.0 walked passed.2
+
+pub type_walk : (table : Table) (place : Place) (frame : Frame) (walked : Walked) → type_checked table place frame ≡ Ok walked → walk_of table frame ≡ Ok walked
+type_walk table place frame walked e =
+    let named = then_inverse (partial_base table frame) _ walked e in
+    checked_walk table place frame walked named.2
 
 -- ---- where instances stand
 
@@ -347,22 +352,22 @@ module _ (naming : Naming) (table : Table) (named : Every (RowNamed naming) tabl
           (parts_law.law around (component_frame member index child) walked (so_far ++ instance_of member dims (component_frame member index child) leaf ∷ []) (at_index p member.name index) found (at_frame child)
           (named_longer p member.name index all name) (stands_last (at_index p member.name index) so_far _ (path_is child leaf)) (none_below child leaf))
 
-      by_frame : (child : Child) (checked : Outcome Walked) → frame_checked table (class_place member child.redeclared) (component_frame member index child) ≡ checked →
+      by_frame : (child : Child) (checked : Outcome Walked) → type_checked table (class_place member child.redeclared) (component_frame member index child) ≡ checked →
           ExtendsTo naming (OfElement p member.name index) so_far (and_then checked (λ walked. entered_by table parts around member dims (component_frame member index child) walked so_far))
       by_frame child (Err b) is = tt
-      by_frame child (Ok walked) is = by_leaf child walked (checked_walk table _ _ walked is) (leaf_of table around member (component_frame member index child) walked)
+      by_frame child (Ok walked) is = by_leaf child walked (type_walk table _ _ walked is) (leaf_of table around member (component_frame member index child) walked)
 
       by_child : (child : Outcome Child) →
           ExtendsTo naming (OfElement p member.name index) so_far (and_then child (λ child.
-          and_then (frame_checked table (class_place member child.redeclared) (component_frame member index child)) (λ walked.
+          and_then (type_checked table (class_place member child.redeclared) (component_frame member index child)) (λ walked.
           entered_by table parts around member dims (component_frame member index child) walked so_far)))
       by_child (Err b) = tt
-      by_child (Ok child) = by_frame child (frame_checked table (class_place member child.redeclared) (component_frame member index child)) refl
+      by_child (Ok child) = by_frame child (type_checked table (class_place member child.redeclared) (component_frame member index child)) refl
 
       by_room : (room : Checked) →
           ExtendsTo naming (OfElement p member.name index) so_far (and_then room (λ _.
           and_then (child_of_member table member index) (λ child.
-          and_then (frame_checked table (class_place member child.redeclared) (component_frame member index child)) (λ walked.
+          and_then (type_checked table (class_place member child.redeclared) (component_frame member index child)) (λ walked.
           entered_by table parts around member dims (component_frame member index child) walked so_far))))
       by_room (Err b) = tt
       by_room (Ok u) = by_child (child_of_member table member index)

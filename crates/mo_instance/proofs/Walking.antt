@@ -23,7 +23,7 @@ use Rattle.mo_syntax.specs.declared.rules.TheConstants.{INSTANCE_TOO_DEEP}
 use Rattle.mo_typing.specs.Dims.{Dims}
 use Rattle.mo_typing.specs.Indices.{Index, indices, numbers_to}
 use Rattle.mo_eval.specs.Values.{most_references, there_of, component_dims}
-use Rattle.mo_instance.specs.Checks.{frame_checked}
+use Rattle.mo_instance.specs.Checks.{type_checked}
 use Rattle.mo_instance.specs.Prefixes.{prefix_in_profile}
 use Rattle.mo_instance.specs.Outer.{outer_checked}
 use Rattle.mo_instance.specs.Elements.{Around, around_parts, class_place, leaf_of, instance_of, room_for_one}
@@ -239,16 +239,16 @@ element_is table parts around member dims index so_far = by_room (room_for_one a
         and_then {A = Instance × Walked} (and_then {A = Place × Frame} (and_then {A = Child} {B = Place × Frame} child (λ child. Ok (class_place member child.redeclared, component_frame member index child))) (λ at. element_in_frame table around member dims at.0 at.1))
         (λ made. parts around made.1 (so_far ++ made.0 ∷ []))
         ≡ and_then child (λ child.
-        and_then (frame_checked table (class_place member child.redeclared) (component_frame member index child)) (λ walked.
+        and_then (type_checked table (class_place member child.redeclared) (component_frame member index child)) (λ walked.
         entered_by table parts around member dims (component_frame member index child) walked so_far))
-    by_child (Ok child) = by_frame (component_frame member index child) (frame_checked table (class_place member child.redeclared) (component_frame member index child))
+    by_child (Ok child) = by_frame (component_frame member index child) (type_checked table (class_place member child.redeclared) (component_frame member index child))
     by_child (Err b) = refl
 
     by_room : (room : Checked) →
         and_then (and_then room (λ _. and_then (element_frame table member index) (λ at. element_in_frame table around member dims at.0 at.1))) (λ made. parts around made.1 (so_far ++ made.0 ∷ []))
         ≡ and_then room (λ _.
         and_then (child_of_member table member index) (λ child.
-        and_then (frame_checked table (class_place member child.redeclared) (component_frame member index child)) (λ walked.
+        and_then (type_checked table (class_place member child.redeclared) (component_frame member index child)) (λ walked.
         entered_by table parts around member dims (component_frame member index child) walked so_far)))
     by_room (Ok u) = by_child (child_of_member table member index)
     by_room (Err b) = refl

@@ -2,19 +2,20 @@
 --
 -- Its class is not partial; then its elements, the two passes over its arguments, its redeclarations; and all but the first of these for
 -- each of its bases, once, in the order of the extends clauses.
-use Rattle.std.specs.Prelude.{ℕ, Bool, true, false, ◌||◌, List, [], ◌∷◌, ◌++◌, map, filter, length, drop, Option, Some, None, Ok, if◌then◌else◌, nat_lt}
+use Rattle.std.specs.Prelude.{ℕ, Bool, true, false, ◌&&◌, ◌||◌, List, [], ◌∷◌, ◌++◌, map, filter, length, drop, Option, Some, None, Ok, if◌then◌else◌, nat_lt}
 use Rattle.mo_syntax.specs.Outcome.{Outcome, and_then, breaks}
 use Rattle.mo_syntax.specs.declared.class.ClassKind.{ClassKind}
 use Rattle.mo_syntax.specs.declared.class.ClassKind.TheVariants.{Function, Operator}
 use Rattle.mo_syntax.specs.declared.class.Element.{Element}
 use Rattle.mo_syntax.specs.declared.place.Place.{Place}
-use Rattle.mo_scope.specs.Rows.{Table, Row, row_at, Declares, Clause, clauses_in, elements_in, is_class}
+use Rattle.mo_scope.specs.Rows.{Table, Row, row_at, Declares, Clause, clauses_in, elements_in, is_class, is_short_form}
 use Rattle.mo_scope.specs.Frames.{Frame, Source, class_of, sources_of}
 use Rattle.mo_scope.specs.Parts.{declared_in}
 use Rattle.mo_scope.specs.Arguments.{second_pass}
 use Rattle.mo_scope.specs.Lookup.{Walked, final_frame}
-use Rattle.mo_scope.specs.Names.{walk_of}
+use Rattle.mo_scope.specs.Names.{clauses_of, walk_of}
 use Rattle.mo_scope.specs.Redeclarations.{Checked, fine, each_checked, redeclarations_checked}
+use Rattle.mo_scope.specs.Sizes.{first_base}
 use Rattle.mo_instance.specs.Passes.{first_pass, inherits}
 use Rattle.mo_syntax.specs.declared.rules.TheConstants.{PARTIAL_CLASS, OUTSIDE_PROFILE, MODIFIED_ELEMENT_NOT_FOUND}
 
@@ -113,3 +114,18 @@ frame_checked table place frame =
     and_then (whole_class table place frame) (λ _.
     and_then (frame_passed table (λ name. false) (sources_of frame) frame) (λ walked.
     and_then (each_checked (λ through. base_passed table (before_last frame through) (final_frame through)) walked.bases) (λ _. Ok walked)))
+
+-- ---- the class of a component's type
+
+abbrev pub is_partial_short : Option Row → Bool
+is_partial_short None = false
+is_partial_short (Some row) = row.class.flags.partial && is_short_form row.form
+
+-- The way to the dimensions of a type goes through a short class to its base, so of a partial one the name of the base is asked first.
+abbrev pub partial_base : Table → Frame → Checked
+partial_base table frame =
+    if is_partial_short (row_at table (class_of frame)) then and_then (first_base table frame (clauses_of table frame)) (λ _. fine) else fine
+
+-- The elements of a frame of a component, all checks being made. Rule 26 stands at the place.
+abbrev pub type_checked : Table → Place → Frame → Outcome Walked
+type_checked table place frame = and_then (partial_base table frame) (λ _. frame_checked table place frame)

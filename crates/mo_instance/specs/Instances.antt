@@ -21,7 +21,7 @@ use Rattle.mo_syntax.specs.declared.rules.TheConstants.{INSTANCE_TOO_DEEP}
 use Rattle.mo_typing.specs.Dims.{Dims}
 use Rattle.mo_typing.specs.Indices.{Index, indices}
 use Rattle.mo_eval.specs.Values.{most_references, there_of, component_dims}
-use Rattle.mo_instance.specs.Checks.{frame_checked}
+use Rattle.mo_instance.specs.Checks.{frame_checked, type_checked}
 use Rattle.mo_instance.specs.Prefixes.{prefix_in_profile}
 use Rattle.mo_instance.specs.Outer.{outer_checked}
 use Rattle.mo_instance.specs.Elements.{Around, around_parts, class_place, leaf_of, instance_of, room_for_one}
@@ -55,7 +55,7 @@ abbrev pub element_entered : Table → Parts → Around → Member → Dims → 
 element_entered table parts around member dims index so_far =
     and_then (room_for_one around.asked so_far) (λ _.
     and_then (child_of_member table member index) (λ child.
-    and_then (frame_checked table (class_place member child.redeclared) (component_frame member index child)) (λ walked.
+    and_then (type_checked table (class_place member child.redeclared) (component_frame member index child)) (λ walked.
     entered_by table parts around member dims (component_frame member index child) walked so_far)))
 
 -- ---- one component

@@ -10,13 +10,14 @@ ghost use Rattle.mo_scope.specs.Places.{Every};
 ghost use Rattle.mo_scope.specs.Redeclarations.{each_checked};
 ghost use Rattle.mo_scope.specs.Worlds.{Grows, IsFrame, frame_at, frames_of, table_in};
 ghost use Rattle.mo_names.specs.Sights.{IsBase, IsWalk, frames_through, walk_at};
-ghost use Rattle.mo_instance.specs.Checks.{base_passed as base_has_passed, frame_checked as frame_is_checked, frame_passed as frame_has_passed};
+ghost use Rattle.mo_instance.specs.Checks.{base_passed as base_has_passed, frame_checked as frame_is_checked, frame_passed as frame_has_passed, partial_base as base_if_partial, type_checked as type_is_checked};
 ghost use Rattle.mo_instance.specs.steps.Checks.{frame_passes, through_passed as through_has_passed};
 ghost use Rattle.mo_instance.specs.steps.FirstPass.{is_replaced_by};
 ghost use Rattle.mo_instance.specs.steps.Walks.{IsWalkOrNone, walk_or_none};
 
 use crate::first_pass::first_pass;
-use crate::profile::{in_profile, replaces_inherited, whole_class};
+use crate::profile::{in_profile, is_partial_short, replaces_inherited, whole_class};
+use mo_bases::first_base;
 use mo_mods::merge;
 use mo_names::{Walk, walk_of};
 use mo_redeclare::check_redeclared;
@@ -159,4 +160,36 @@ pub(crate) fn frame_checked<'t>(
     let walk = frame_passed(alloc, s, frame, None, 0)?;
     bases_passed(alloc, s, frame, walk.bases.as_slice())?;
     Ok(walk)
+}
+
+/// Asks for the base of a partial short class.
+fn partial_base(alloc: Global, s: &mut Scopes, frame: FrameId) -> Result<(), Stop>
+    requires { IsFrame s.old frame.0 }
+    ensures grows { Grows s.old s.new }
+    ensures value { Gives (λ _. tt) result (base_if_partial (table_in s.old) (frame_at s.old frame.0)) }
+{
+    if !is_partial_short(s, frame) {
+        return Ok(());
+    }
+    match first_base(alloc, s, frame) {
+        Ok(_) => Ok(()),
+        Err(stop) => Err(stop),
+    }
+}
+
+/// The elements of a frame of a component, all checks being made: of a partial short class the name of its base is asked first, since the
+/// dimensions of the type are looked for there. Rule 26 stands at the place.
+pub(crate) fn type_checked<'t>(
+    alloc: Global,
+    s: &mut Scopes<'t>,
+    place: Place,
+    frame: FrameId,
+) -> Result<Walk<'t>, Stop>
+    requires { IsFrame s.old frame.0 }
+    ensures grows { Grows s.old s.new }
+    ensures value { Gives (walk_at s.new) result (type_is_checked (table_in s.old) place (frame_at s.old frame.0)) }
+    ensures stand { IfOk result (IsWalk s.new) }
+{
+    partial_base(alloc, s, frame)?;
+    frame_checked(alloc, s, place, frame)
 }

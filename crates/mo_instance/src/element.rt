@@ -15,7 +15,7 @@ ghost use Rattle.mo_instance.specs.steps.Sights.{IsEntered, around_seen};
 ghost use Rattle.mo_instance.specs.steps.Instances.{element_frame as frame_of_element, element_in_frame as made_in_frame, element_made as made_of_element, instance_at as instance_made, room_among};
 ghost use Rattle.std.specs.Prelude.{IfSome};
 
-use crate::checks::frame_checked;
+use crate::checks::type_checked;
 use crate::leaf::leaf_of;
 use crate::paths::path_of;
 use crate::prefixes::Around;
@@ -146,7 +146,7 @@ fn element_in_frame<'t>(
     ensures value { Gives (λ made. (instance_in (frames_of s.new) made.0, walk_at s.new made.1)) result (made_in_frame (table_in s.old) (around_seen around.now) (member_at s.old member.now) dims.now place (frame_at s.old frame.0)) }
     ensures stand { IfOk result (λ made. IsEntered s.new made.0 × IsWalk s.new made.1) }
 {
-    let walk = frame_checked(alloc, s, place, frame)?;
+    let walk = type_checked(alloc, s, place, frame)?;
     let instance = instance_at(alloc, s, around, member, dims, frame, &walk)?;
     Ok((instance, walk))
 }

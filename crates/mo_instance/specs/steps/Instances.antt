@@ -17,7 +17,7 @@ use Rattle.mo_syntax.specs.declared.rules.TheConstants.{FLAT_MODEL_TOO_LARGE}
 use Rattle.mo_typing.specs.Dims.{Dims}
 use Rattle.mo_typing.specs.Indices.{Index, indices, numbers_to}
 use Rattle.mo_eval.specs.Values.{most_references, there_of, component_dims}
-use Rattle.mo_instance.specs.Checks.{frame_checked}
+use Rattle.mo_instance.specs.Checks.{frame_checked, type_checked}
 use Rattle.mo_instance.specs.Prefixes.{prefix_in_profile}
 use Rattle.mo_instance.specs.Outer.{outer_checked}
 use Rattle.mo_instance.specs.Elements.{Around, around_parts, class_place, leaf_of, instance_of, most_instances}
@@ -71,7 +71,7 @@ instance_at table around member dims frame walked =
 
 abbrev pub element_in_frame : Table → Around → Member → Dims → Place → Frame → Outcome (Instance × Walked)
 element_in_frame table around member dims place frame =
-    and_then (frame_checked table place frame) (λ walked.
+    and_then (type_checked table place frame) (λ walked.
     and_then (instance_at table around member dims frame walked) (λ instance. Ok (instance, walked)))
 
 -- an element with what its frame has, where so many instances stand before it

@@ -17,7 +17,7 @@ use Rattle.mo_syntax.specs.declared.rules.TheConstants.{FLAT_MODEL_TOO_LARGE}
 use Rattle.mo_typing.specs.Dims.{Dims}
 use Rattle.mo_typing.specs.Indices.{Index, indices, numbers_to}
 use Rattle.mo_eval.specs.Values.{component_dims, most_references, there_of}
-use Rattle.mo_instance.specs.Checks.{frame_checked}
+use Rattle.mo_instance.specs.Checks.{type_checked}
 use Rattle.mo_instance.specs.Elements.{Around, around_parts, class_place, instance_of, leaf_of, most_instances, room_for_one}
 use Rattle.mo_instance.specs.Instances.{Adding, Deeper, Parts, adding_each, component_entered, deeper, element_entered, member_entered, parts_entered}
 use Rattle.mo_instance.specs.Outer.{outer_checked}
@@ -86,7 +86,7 @@ pub element_grows : (table : Table) (parts : Parts) → PartsGrow parts → (aro
 element_grows table parts grow around member dims index so_far more made =
     let room = then_inverse (room_for_one around.asked so_far) _ more made in
     let child = then_inverse (child_of_member table member index) _ more room.2 in
-    let checked = then_inverse (frame_checked table (class_place member child.0.redeclared) (component_frame member index child.0)) _ more child.2 in
+    let checked = then_inverse (type_checked table (class_place member child.0.redeclared) (component_frame member index child.0)) _ more child.2 in
     let leaf = then_inverse (leaf_of table around member (component_frame member index child.0) checked.0) _ more checked.2 in
     let one : Instance = instance_of member dims (component_frame member index child.0) leaf.0 in
     let behind : IsFront (so_far ++ one ∷ []) more = grow.law around checked.0 (so_far ++ one ∷ []) more leaf.2 in (

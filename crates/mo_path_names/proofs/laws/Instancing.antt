@@ -18,13 +18,13 @@ use Rattle.mo_scope.proofs.laws.Standing.{every_append, every_weaker}
 use Rattle.mo_typing.specs.Dims.{Dims}
 use Rattle.mo_typing.specs.Indices.{Index, indices}
 use Rattle.mo_eval.specs.Values.{component_dims, most_references, there_of}
-use Rattle.mo_instance.specs.Checks.{frame_checked}
+use Rattle.mo_instance.specs.Checks.{frame_checked, type_checked}
 use Rattle.mo_instance.specs.Elements.{Around, around_parts, class_place, instance_of, leaf_of, most_instances, or_root, room_for_one}
 use Rattle.mo_instance.specs.Instances.{Adding, Deeper, Parts, adding_each, around_root, component_entered, deeper, element_entered, instances_by, instances_in, instances_of, member_entered, most_names, parts_entered, root_frame, root_instance}
 use Rattle.mo_instance.specs.Outer.{outer_checked}
 use Rattle.mo_instance.specs.Prefixes.{prefix_in_profile}
 use Rattle.mo_instance.proofs.Members.{IsWalkedOf, RowNamed, walk_has}
-use Rattle.mo_instance.proofs.Trees.{checked_walk}
+use Rattle.mo_instance.proofs.Trees.{checked_walk, type_walk}
 use Rattle.mo_path_names.specs.Laws.{InstancesNamed}
 use Rattle.mo_path_names.specs.Named.{IsNamed}
 use Rattle.mo_path_names.proofs.laws.Growing.{DeeperGrows, Grows, NoGreater, PartsGrow, deeper_grows, element_grows, elements_fit, every_if_some, indices_fit, longer_by_one, member_grows, no_greater, no_longer, parts_grow, same_value, then_inverse}
@@ -82,13 +82,13 @@ module _ (naming : Naming) where
         let room = then_inverse (room_for_one around.asked so_far) _ more made in
         let child = then_inverse (child_of_member table member index) _ more room.2 in
         let frame : Frame = component_frame member index child.0 in
-        let checked = then_inverse (frame_checked table (class_place member child.0.redeclared) frame) _ more child.2 in
+        let checked = then_inverse (type_checked table (class_place member child.0.redeclared) frame) _ more child.2 in
         let leaf = then_inverse (leaf_of table around member frame checked.0) _ more checked.2 in
         let one : Instance = instance_of member dims frame leaf.0 in
         let here : Indexed = p ++ (member.name, index) ∷ [] in
         let at : at_of frame ≡ Some here = ap (option_map (λ names. names ++ (member.name, index) ∷ [])) home in
         let longer : PathNamed here = path_longer p member.name index path name fits in
-        keep.law around frame checked.0 here (checked_walk table (class_place member child.0.redeclared) frame checked.0 checked.1) at longer (so_far ++ one ∷ []) more
+        keep.law around frame checked.0 here (type_walk table (class_place member child.0.redeclared) frame checked.0 checked.1) at longer (so_far ++ one ∷ []) more
         (omega (arith, longer_by_one so_far one))
         (every_append InstanceNamed so_far (one ∷ []) h (subst PathNamed (sym (ap or_root at)) longer, tt)) leaf.2
 

@@ -20,7 +20,7 @@ use Rattle.mo_typing.specs.Dims.{Dims}
 use Rattle.mo_typing.specs.Indices.{Index, indices}
 use Rattle.mo_eval.specs.Values.{component_dims, most_references, there_of}
 use Rattle.mo_instance.specs.Attributes.{attribute_as, attributes_of, chosen_attribute, chosen_attributes, kind_of_leaf}
-use Rattle.mo_instance.specs.Checks.{frame_checked}
+use Rattle.mo_instance.specs.Checks.{frame_checked, type_checked}
 use Rattle.mo_instance.specs.Prefixes.{prefix_in_profile, is_discrete}
 use Rattle.mo_instance.specs.Outer.{outer_checked}
 use Rattle.mo_instance.specs.Elements.{Around, around_parts, class_place, instance_of, is_free, is_real, leaf_in, leaf_made, leaf_of, most_instances, no_leaf, place_of_type, room_for_one, type_place}
@@ -33,7 +33,7 @@ use Rattle.mo_places.proofs.laws.Standing.{every_append, every_flat_map, every_o
 use Rattle.mo_places.proofs.laws.Sources.{picked_stands, row_stands, sources_stand}
 use Rattle.mo_places.proofs.laws.Finding.{last_place_stands, members_in_stand}
 use Rattle.mo_places.proofs.laws.Naming.{child_of_member_stands, component_frame_stands, component_stands}
-use Rattle.mo_places.proofs.laws.Checking.{frame_checked_answers}
+use Rattle.mo_places.proofs.laws.Checking.{frame_checked_answers, type_checked_answers}
 use Rattle.mo_places.proofs.laws.Outer.{outer_checked_answers}
 
 module _ (P : Written → Type 0) (descends : Descends P) (table : Table) (stands : TableStands P table)
@@ -128,8 +128,8 @@ module _ (P : Written → Type 0) (descends : Descends P) (table : Table) (stand
   element_stands parts around member sizes index hp ha hm so_far hs =
       then_answers P (Anything {A = Unit {0}}) AllStand (room_for_one around.asked so_far) _ (room_answers around.asked so_far ha) (λ u v.
       then_answers P (ChildStands P) AllStand (child_of_member table member index) _ (child_of_member_stands P table stands member index hm) (λ child hc.
-      then_answers P (WalkedStands P) AllStand (frame_checked table (class_place member child.redeclared) (component_frame member index child)) _
-      (frame_checked_answers P table stands (class_place member child.redeclared) (component_frame member index child) (class_place_stands member child.redeclared hm hc.redeclared)
+      then_answers P (WalkedStands P) AllStand (type_checked table (class_place member child.redeclared) (component_frame member index child)) _
+      (type_checked_answers P table stands (class_place member child.redeclared) (component_frame member index child) (class_place_stands member child.redeclared hm hc.redeclared)
       (component_frame_stands P table stands member index child hm hc)) (λ walked hw.
       entered_stands parts around member sizes (component_frame member index child) walked hp ha hm (component_frame_stands P table stands member index child hm hc) hw so_far hs)))
 

@@ -20,7 +20,7 @@ pub returns-in_err-instance-clause-value : goal.returns-in_err-instance-clause-v
 returns-in_err-instance-clause-value c =
     let p = err_from_is_err_and c.from_residual-in_err-instance.result c.from_residual-in_err-instance.ensures.1 in
     let u = c.args.s.now in
-    let v = c.frame_checked.new.s in
+    let v = c.type_checked.new.s in
     let T = table_in u in
     let A = around_seen c.args.around.now in
     let m = member_of (frames_of u) c.args.member.now in
@@ -36,7 +36,7 @@ returns-in_err-instance-clause-value c =
 pub returns-clause-value : goal.returns-clause-value
 returns-clause-value c =
     let u = c.args.s.now in
-    let v = c.frame_checked.new.s in
+    let v = c.type_checked.new.s in
     let T = table_in u in
     let A = around_seen c.args.around.now in
     let m = member_of (frames_of u) c.args.member.now in

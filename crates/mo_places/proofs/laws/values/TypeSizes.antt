@@ -18,7 +18,7 @@ clauses_in_stand P (Element_of declares ∷ parts) h = clauses_in_stand P parts 
 clauses_in_stand P (Base_of clause ∷ parts) h = (h.0, clauses_in_stand P parts h.1)
 
 module _ (P : Written → Type 0) (table : Table) (stands : TableStands P table) where
-  clauses_of_stand : (frame : Frame) → Every (ClauseStands P) (clauses_of table frame)
+  pub clauses_of_stand : (frame : Frame) → Every (ClauseStands P) (clauses_of table frame)
   clauses_of_stand frame = by (row_at table (class_of frame)) refl (row_stands P table stands (class_of frame))
     where
       by : (row : Option Row) → row_at table (class_of frame) ≡ row → IfAny (RowStands P) row → Every (ClauseStands P) (clauses_of table frame)
