@@ -5,7 +5,7 @@ use Rattle.mo_scope.specs.Outcome.{Gives}
 use Rattle.mo_scope.specs.Rows.{Table}
 use Rattle.mo_scope.specs.Trees.{instances_in}
 use Rattle.mo_scope.specs.Worlds.{frame_at, table_in}
-use Rattle.mo_names.proofs.Later.{table_later}
+use Rattle.mo_names.proofs.Later.{grows_refl, grows_trans, table_later}
 use Rattle.mo_instance.specs.steps.Instances.{instances_made}
 use Rattle.mo_instance.proofs.Rooting.{made_of_row, none_made, row_found}
 use Rattle.mo_instance.proofs.asked_class.instances_of.Goals as goal
@@ -24,3 +24,9 @@ returns-in_ok-frame-in-Some-clause-value c =
 pub returns-in-None-clause-value : goal.returns-in-None-clause-value
 returns-in-None-clause-value c =
     none_made (table_in c.args.s.now) c.args.class.0 c.in-None.ensures ∙ ap (λ (xs : List InstanceAt). Ok (instances_in c.args.s.now xs)) (sym c.new.ensures)
+
+pub returns-in_ok-frame-in-Some-clause-grows : goal.returns-in_ok-frame-in-Some-clause-grows
+returns-in_ok-frame-in-Some-clause-grows c = grows_trans _ _ _ c.in_ok-frame-in-Some.ensures.grows c.instances_from.ensures.grows
+
+pub returns-in-None-clause-grows : goal.returns-in-None-clause-grows
+returns-in-None-clause-grows c = grows_refl _

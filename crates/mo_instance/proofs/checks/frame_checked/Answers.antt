@@ -8,7 +8,7 @@ use Rattle.mo_scope.specs.Lookup.{Walked}
 use Rattle.mo_scope.specs.Redeclarations.{Checked, each_checked}
 use Rattle.mo_scope.specs.Worlds.{frame_at, frames_of, table_in}
 use Rattle.mo_names.specs.Sights.{frames_through, walk_seen}
-use Rattle.mo_names.proofs.Later.{is_walk_later, walk_later}
+use Rattle.mo_names.proofs.Later.{grows_refl, grows_trans, is_walk_later, walk_later}
 use Rattle.mo_instance.specs.Checks.{frame_passed}
 use Rattle.mo_instance.specs.steps.Checks.{through_passed}
 use Rattle.mo_instance.proofs.Checking.{bases_before, bases_checked, bases_left, whole_passed}
@@ -55,3 +55,12 @@ returns-clause-value c =
 
 pub returns-clause-stand : goal.returns-clause-stand
 returns-clause-stand c = is_walk_later c.frame_passed.new.s c.bases_passed.new.s c.in_ok-walk.walk c.in_ok-bases_passed.ensures.grows c.in_ok-walk.ensures.stand
+
+pub returns-in_err-whole_class-clause-grows : goal.returns-in_err-whole_class-clause-grows
+returns-in_err-whole_class-clause-grows c = grows_refl _
+
+pub returns-in_err-bases_passed-clause-grows : goal.returns-in_err-bases_passed-clause-grows
+returns-in_err-bases_passed-clause-grows c = grows_trans _ _ _ c.in_ok-walk.ensures.grows c.in_err-bases_passed.ensures.grows
+
+pub returns-clause-grows : goal.returns-clause-grows
+returns-clause-grows c = grows_trans _ _ _ c.in_ok-walk.ensures.grows c.in_ok-bases_passed.ensures.grows

@@ -10,6 +10,7 @@ use Rattle.mo_instance.specs.Outer.{outer_checked}
 use Rattle.mo_instance.proofs.Asking.{entered_class, entered_outer, entered_there, gives_value}
 use Rattle.mo_instance.proofs.Lists.{broken_on}
 use Rattle.mo_syntax.specs.Outcome.{and_then}
+use Rattle.mo_names.proofs.Later.{grows_refl}
 use Rattle.mo_instance.proofs.component.is_entered.Goals as goal
 
 pub returns-then-is_class-clause-value : goal.returns-then-is_class-clause-value
@@ -37,3 +38,6 @@ returns-clause-value c =
     subst (Gives {T = Bool} {A = Bool} (λ is. is) c.is_there.result)
     (entered_there T m (sym c.is_class.ensures ∙ c.if-is_class.false) c.if-outer.false)
     (gives_value c.is_there.result (there_of T most_references m) c.is_there.ensures.exact)
+
+pub returns-then-is_class-clause-grows : goal.returns-then-is_class-clause-grows
+returns-then-is_class-clause-grows c = grows_refl _

@@ -13,6 +13,7 @@ use Rattle.mo_instance.specs.steps.Sights.{around_seen}
 use Rattle.mo_instance.specs.steps.Instances.{element_frame}
 use Rattle.mo_instance.proofs.Framing.{frame_made, in_its_frame, with_room}
 use Rattle.mo_instance.proofs.Lists.{broken_on}
+use Rattle.mo_names.proofs.Later.{grows_refl, grows_trans}
 use Rattle.mo_instance.proofs.element.element_made.Goals as goal
 
 pub returns-in_err-at-clause-value : goal.returns-in_err-at-clause-value
@@ -33,3 +34,9 @@ returns-clause-value c =
     (frame_made c.args.s.now v (around_seen c.args.around.now) c.args.member.now c.args.dims.now c.args.index.now c.args.count c.in_ok-at.at.0 c.in_ok-at.at.1.0
     c.in_ok-at.ensures.grows c.requires c.in_ok-room_for_one.ensures c.in_ok-at.ensures.value)
     c.element_in_frame.ensures.value
+
+pub returns-in_err-room_for_one-clause-grows : goal.returns-in_err-room_for_one-clause-grows
+returns-in_err-room_for_one-clause-grows c = grows_refl _
+
+pub returns-clause-grows : goal.returns-clause-grows
+returns-clause-grows c = grows_trans _ _ _ c.in_ok-at.ensures.grows c.element_in_frame.ensures.grows

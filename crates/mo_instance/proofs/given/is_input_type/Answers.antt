@@ -2,7 +2,7 @@
 use Rattle.std.proofs.Common.{◌≡◌, ap, subst, sym, ◌∙◌, arith}
 use Rattle.mo_scope.specs.Rows.{Table}
 use Rattle.mo_scope.specs.Worlds.{frame_at, frames_of, table_in}
-use Rattle.mo_names.proofs.Later.{grows_trans, table_later}
+use Rattle.mo_names.proofs.Later.{grows_refl, grows_trans, table_later}
 use Rattle.mo_instance.specs.steps.Ways.{IsStep, Is_input, Is_none, On_base, input_way, step_seen}
 use Rattle.mo_instance.proofs.Inputs.{input_ends, input_is, input_none, input_on}
 use Rattle.mo_instance.proofs.given.is_input_type.Goals as goal
@@ -45,3 +45,6 @@ returns-clause-value c =
     let v = c.loop-left.s in
     let none : c.loop-left.left ≡ 0 = omega arith in
     sym (input_none (table_in u) c.loop-left.left (frame_at v c.loop-left.frame.0) none) ∙ c.loop-left.invariant.left
+
+pub returns-in_err-left-clause-grows : goal.returns-in_err-left-clause-grows
+returns-in_err-left-clause-grows c = grows_refl _

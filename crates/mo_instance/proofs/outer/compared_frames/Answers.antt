@@ -36,3 +36,6 @@ pub returns-clause-grows : goal.returns-clause-grows
 returns-clause-grows c =
     grows_trans c.args.s.now c.enter_child.new.s c.compatible-compared.new.s c.in_ok-wanted.ensures.grows
     (grows_trans c.enter_child.new.s c.enter_child-2.new.s c.compatible-compared.new.s c.in_ok-new.ensures.grows c.compatible-compared.ensures.grows)
+
+pub returns-in_err-new-clause-grows : goal.returns-in_err-new-clause-grows
+returns-in_err-new-clause-grows c = grows_trans _ _ _ c.in_ok-wanted.ensures.grows c.in_err-new.ensures.grows

@@ -4,7 +4,7 @@ use Rattle.mo_scope.specs.Outcome.{Gives}
 use Rattle.mo_scope.specs.Worlds.{frames_of, table_in}
 use Rattle.mo_names.specs.Children.{child_seen}
 use Rattle.mo_names.specs.Sights.{member_of}
-use Rattle.mo_names.proofs.Later.{is_member_later}
+use Rattle.mo_names.proofs.Later.{grows_trans, is_member_later}
 use Rattle.mo_instance.proofs.Later.{is_child_later}
 use Rattle.mo_instance.proofs.Outers.{alike_is, compared_before, unlike_is}
 use Rattle.mo_instance.proofs.outer.is_matched_by.Goals as goal
@@ -31,3 +31,6 @@ compared_frames-requires-clause-outer c =
 pub compared_frames-requires-clause-inner : goal.compared_frames-requires-clause-inner
 compared_frames-requires-clause-inner c =
     (is_member_later c.args.s.now c.is_alike.new.s c.args.inner.0.now c.in_ok-alike.ensures.grows c.requires.inner.0, is_child_later c.args.s.now c.is_alike.new.s c.args.inner.1 c.in_ok-alike.ensures.grows c.requires.inner.1)
+
+pub returns-then-alike-clause-grows : goal.returns-then-alike-clause-grows
+returns-then-alike-clause-grows c = grows_trans _ _ _ c.in_ok-alike.ensures.grows c.compared_frames.ensures.grows

@@ -8,6 +8,7 @@ use Rattle.mo_names.specs.Sights.{member_of}
 use Rattle.mo_instance.specs.steps.Outer.{inner_asked}
 use Rattle.mo_instance.proofs.Lists.{broken_on}
 use Rattle.mo_instance.proofs.Outers.{inner_is, rightly_is, wrongly_is}
+use Rattle.mo_names.proofs.Later.{grows_refl, grows_trans}
 use Rattle.mo_instance.proofs.outer.outer_checked.Goals as goal
 
 pub returns-then-wrongly-clause-value : goal.returns-then-wrongly-clause-value
@@ -27,3 +28,12 @@ returns-in-Ok-clause-value c =
     (inner_is c.args.s.now c.inner_of.new.s c.args.member.now c.in-Ok.found.1 (frame_at c.inner_of.new.s c.in-Ok.found.0.0) c.in_ok-wrongly.wrongly
     c.in-Ok.ensures.grows c.requires c.in_ok-wrongly.ensures c.if-wrongly.false c.in-Ok.ensures.value)
     c.inner_checked.ensures.value
+
+pub returns-in_err-wrongly-clause-grows : goal.returns-in_err-wrongly-clause-grows
+returns-in_err-wrongly-clause-grows c = grows_refl _
+
+pub returns-then-wrongly-clause-grows : goal.returns-then-wrongly-clause-grows
+returns-then-wrongly-clause-grows c = grows_refl _
+
+pub returns-in-Ok-clause-grows : goal.returns-in-Ok-clause-grows
+returns-in-Ok-clause-grows c = grows_trans _ _ _ c.in-Ok.ensures.grows c.inner_checked.ensures.grows

@@ -9,6 +9,7 @@ use Rattle.mo_scope.specs.Sights.{source_seen}
 use Rattle.mo_scope.specs.Worlds.{frame_or_top, frames_of, sources_in, table_in}
 use Rattle.mo_instance.specs.steps.Roots.{names_seen}
 use Rattle.mo_instance.proofs.Rooting.{root_made, rooted}
+use Rattle.mo_names.proofs.Later.{grows_refl, grows_trans}
 use Rattle.mo_instance.proofs.root.root_frame.Goals as goal
 
 pub returns-clause-is : goal.returns-clause-is
@@ -23,3 +24,9 @@ returns-clause-is c =
     ∙ ap (λ (path : Indexed). In c.args.class.0 (gathered []) outer (Some path) Top) c.new.ensures
     ∙ root_made T c.args.class.0 row outer (names_seen c.as_slice.result.now) at c.in_ok-outer.ensures.is (ap names_seen c.as_slice.ensures ∙ c.in_ok-path.ensures row at))
     c.enter.ensures.is
+
+pub returns-in_err-path-clause-grows : goal.returns-in_err-path-clause-grows
+returns-in_err-path-clause-grows c = grows_refl _
+
+pub returns-clause-grows : goal.returns-clause-grows
+returns-clause-grows c = grows_trans _ _ _ c.in_ok-outer.ensures.grows c.enter.ensures.grows

@@ -255,3 +255,12 @@ element_entered-returns-clause-value t c =
     c.args.dims.now c.args.index.now c.args.work.now.instances c.push.new.self c.in_ok-made.made.0 c.in_ok-made.made.1 c.len-count.result
     c.in_ok-made.ensures.grows c.requires.are c.len-count.ensures c.in_ok-push.ensures.ok c.in_ok-made.ensures.value)
     c.members_entered.ensures.value
+
+pub component_entered-returns-clause-grows : goal.component_entered-returns-clause-grows
+component_entered-returns-clause-grows t c = grows_trans _ _ _ c.in_ok-asked.ensures.grows c.elements_under.ensures.grows
+
+pub element_entered-returns-clause-grows : goal.element_entered-returns-clause-grows
+element_entered-returns-clause-grows t c = grows_trans _ _ _ c.in_ok-made.ensures.grows c.members_entered.ensures.grows
+
+pub member_entered-returns-then-enters-clause-grows : goal.member_entered-returns-then-enters-clause-grows
+member_entered-returns-then-enters-clause-grows t c = grows_trans _ _ _ c.in_ok-enters.ensures.grows c.component_entered.ensures.grows

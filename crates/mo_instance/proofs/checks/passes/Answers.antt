@@ -1,0 +1,12 @@
+-- The frames grow by the calls on the way.
+use Rattle.mo_names.proofs.Later.{grows_refl}
+use Rattle.mo_instance.proofs.checks.passes.Goals as goal
+
+pub returns-in_err-in_profile-clause-grows : goal.returns-in_err-in_profile-clause-grows
+returns-in_err-in_profile-clause-grows c = grows_refl _
+
+pub returns-in_err-first_pass-clause-grows : goal.returns-in_err-first_pass-clause-grows
+returns-in_err-first_pass-clause-grows c = grows_refl _
+
+pub returns-in_err-second_pass-clause-grows : goal.returns-in_err-second_pass-clause-grows
+returns-in_err-second_pass-clause-grows c = grows_refl _
