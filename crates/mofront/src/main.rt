@@ -15,13 +15,21 @@ fn words_of<R: Env + AllocGlobal>(rt: &R) -> io::Result<Vec<String>> {
     Ok(env::args(rt)?.skip(1).collect(rt.alloc())?)
 }
 
+/// The status of a run whose words could not be taken up: one that is not UTF-8 is no word of any form.
+fn without_words(error: &io::Error) -> Status {
+    match error.kind() {
+        io::ErrorKind::InvalidData => Status::Usage,
+        _ => Status::NoMemory,
+    }
+}
+
 fn main(rt: HostRuntime) -> ExitCode {
-    let Ok(words) = words_of(&rt) else {
-        return ExitCode::from(Status::NoMemory.number());
-    };
     let mut shelf = FileShelf::new(&rt);
     let mut out = StdSink::new(io::writer(&rt));
-    let status = run(rt.alloc(), words.as_slice(), &mut shelf, &mut out);
+    let status = match words_of(&rt) {
+        Ok(words) => run(rt.alloc(), words.as_slice(), &mut shelf, &mut out),
+        Err(error) => without_words(&error),
+    };
     if status == Status::Usage {
         let _ = eprintln!(rt;
             "usage: mofront --class NAME [--emit flat|reduced|report|all|json|states|alias | --verify REPORT] FILE... | --make N"
