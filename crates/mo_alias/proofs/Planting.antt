@@ -1,5 +1,5 @@
 -- Unknowns each alone.
-use Rattle.std.proofs.Common.{◌≡◌, ℕ, ◌+◌, ◌<◌, inl, inr, get_or, length, List, ◌∙◌, ap, arith, replicate, sym}
+use Rattle.std.proofs.Common.{◌≡◌, ℕ, inl, inr, get_or, length, List, ◌∙◌, ap, arith, replicate}
 use Rattle.std.proofs.lemmas.Bool.{cases_lt}
 use Rattle.std.proofs.lemmas.List.{get_or-replicate, get_or_past, length-replicate}
 use Rattle.mo_alias.specs.declared.trees.Trees.{Trees}

@@ -10,10 +10,10 @@ use Rattle.mo_alias.specs.declared.alias.Alias.{Alias}
 use Rattle.mo_alias.specs.declared.chain.Stretch.{Stretch}
 use Rattle.mo_alias.specs.declared.trees.Latest.{Latest}
 use Rattle.mo_alias.specs.declared.trees.Trees.{Trees}
-use Rattle.mo_alias.specs.Chains.{Chain, IsJoined, IsLinkBelow, IsLink, Says, forth, back}
+use Rattle.mo_alias.specs.Chains.{Chain, IsLinkBelow, IsLink, Says, forth, back}
 use Rattle.mo_alias.specs.Chains as chains
 use Rattle.mo_alias.specs.steps.Forests.{AreRooted, AreWithin, ends_in, first, HaveRoot, IsForest, IsLatest, minus_in, parent_in, Reaches, second, since_in}
-use Rattle.mo_alias.specs.steps.Stretches.{AreLeft, AreOpen, AreSame, AreStretches, IsListed, IsOpen, IsStretch, weight, weight_of}
+use Rattle.mo_alias.specs.steps.Stretches.{AreLeft, AreOpen, AreSame, AreStretches, IsListed, IsOpen, IsStretch, weight}
 use Rattle.mo_alias.specs.steps.Stretches as stretches
 use Rattle.mo_alias.proofs.Chaining.{says_back}
 use Rattle.mo_alias.proofs.Climbing.{climbs_one}

@@ -1,20 +1,20 @@
 -- Sound elements of calls, function by function.
-use Rattle.std.proofs.Common.{◌≡◌, ◌≤◌, ℕ, pos, Bool, true, false, ◌&&◌, ◌||◌, List, [], ◌∷◌, map, Option, Some, None, refl, ap, sym, ◌∙◌, subst, if◌then◌else◌, nat_eq, eqb-true}
-use Rattle.std.specs.Prelude.{Ok, Err}
-use Rattle.std.specs.List.{list_all, list_any}
-use Rattle.mo_syntax.specs.Outcome.{Outcome, and_then}
+use Rattle.std.proofs.Common.{◌≡◌, ℕ, pos, Bool, true, false, ◌&&◌, ◌||◌, List, [], ◌∷◌, map, Option, refl, ap, sym, ◌∙◌, subst, if◌then◌else◌, nat_eq, eqb-true}
+use Rattle.std.specs.Prelude.{Ok}
+use Rattle.std.specs.List.{list_any}
+use Rattle.mo_syntax.specs.Outcome.{Outcome}
 use Rattle.mo_syntax.specs.declared.place.Place.{Place}
 use Rattle.mo_syntax.specs.declared.meaning.Kind.{Kind}
-use Rattle.mo_syntax.specs.declared.meaning.Kind.TheVariants.{Real, Whole as Integer, Truth as Boolean}
+use Rattle.mo_syntax.specs.declared.meaning.Kind.TheVariants.{Real, Whole as Integer}
 use Rattle.mo_tables.specs.declared.functions.TheConstants.{ABS, ATAN2, CROSS, MAX, MIN, NDIMS, NO_EVENT, PRODUCT, SUM, TRANSPOSE}
 use Rattle.mo_flat.specs.declared.array.ArrayExpr.{ArrayExpr}
 use Rattle.mo_flat.specs.declared.expr.FlatExpr.{FlatExpr}
-use Rattle.mo_flat.specs.declared.expr.FlatExpr.TheVariants.{Call, Sum, Product}
+use Rattle.mo_flat.specs.declared.expr.FlatExpr.TheVariants.{Call, Product}
 use Rattle.mo_flat.specs.declared.model.FlatVar.{FlatVar}
 use Rattle.mo_flat.specs.Sound.{FlatKind, real, is_among, is_numeric, kind_of as flat_kind_of, call_kind, takes, where_holds, number_kind, common_kind, kept_kind, one_argument, two_arguments}
 use Rattle.mo_flat.specs.SoundArray.{fits_kind, is_called}
-use Rattle.mo_flat.proofs.Good.{Each, IsGood, IsFine, IsNumber, Widens, number_widens, number_fits, common_fits, kept_number, kept_truth, widened, good_Whole, good_Sum, good_Product, good_Call}
-use Rattle.mo_typing.specs.Kinds.{call, call_of_one, call_of_two, real_of, kept, numeric, both_numeric}
+use Rattle.mo_flat.proofs.Good.{Each, IsGood, IsNumber, Widens, number_widens, number_fits, common_fits, kept_number, kept_truth, widened, good_Whole, good_Sum, good_Product, good_Call}
+use Rattle.mo_typing.specs.Kinds.{call_of_one, call_of_two, real_of, numeric, both_numeric}
 use Rattle.mo_typing.specs.Dims.{Dims, scalars, call_of_one as one_dims, call_of_two as two_dims}
 use Rattle.mo_typing.specs.Shape.{shape_of}
 use Rattle.mo_typing.specs.Indices.{Index, is_index, indices, first_number}
@@ -24,7 +24,7 @@ use Rattle.mo_arrays.specs.steps.Parts.{part_of}
 use Rattle.mo_arrays.proofs.SoundKinds.{real_kind, numeric_kind, kept_kind_of, IsKept, both_kinds}
 use Rattle.mo_arrays.proofs.SoundDims.{Suits, index_suits, swapped_index, indices_are, scalars_none, crossed_dims}
 use Rattle.mo_arrays.proofs.SoundParts.{Gives, the_kind}
-use Rattle.mo_arrays.proofs.SoundChains.{AreFactors, good_sum_of, good_product_of}
+use Rattle.mo_arrays.proofs.SoundChains.{good_sum_of, good_product_of}
 
 -- what holds for each of some codes holds for one among them
 pub among : (P : ℕ → Type 0) (codes : List ℕ) → Each P codes → (code : ℕ) → is_among codes code ≡ true → P code

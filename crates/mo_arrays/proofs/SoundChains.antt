@@ -1,23 +1,21 @@
 -- Sound sums and products, and the chain of a product factor by factor.
-use Rattle.std.proofs.Common.{◌≡◌, ◌≤◌, ◌-◌, ℕ, ℤ, pos, Bool, true, false, ◌&&◌, ◌||◌, List, [], ◌∷◌, ◌++◌, map, length, take, drop, Option, Some, None, refl, ap, sym, ◌∙◌, subst, if◌then◌else◌}
-use Rattle.std.specs.Prelude.{fold, Ok, Err, not}
-use Rattle.std.specs.List.{list_all, list_any}
+use Rattle.std.proofs.Common.{◌≡◌, ◌-◌, ℕ, pos, Bool, true, false, List, [], ◌∷◌, ◌++◌, map, length, take, drop, Some, refl, ap, sym, ◌∙◌, subst, if◌then◌else◌}
+use Rattle.std.specs.Prelude.{fold, Ok, Err}
+use Rattle.std.specs.List.{list_any}
 use Rattle.mo_syntax.specs.Outcome.{Outcome, and_then}
 use Rattle.mo_syntax.specs.declared.place.Place.{Place}
-use Rattle.mo_syntax.specs.declared.place.Broken.{Broken}
 use Rattle.mo_syntax.specs.declared.meaning.Kind.{Kind}
 use Rattle.mo_syntax.specs.declared.meaning.Kind.TheVariants.{Whole as Integer}
 use Rattle.mo_flat.specs.declared.array.ArrayExpr.{ArrayExpr}
 use Rattle.mo_flat.specs.declared.expr.FlatExpr.{FlatExpr}
-use Rattle.mo_flat.specs.declared.expr.FlatExpr.TheVariants.{Sum, Product}
 use Rattle.mo_flat.specs.declared.model.FlatVar.{FlatVar}
 use Rattle.mo_flat.specs.Sound.{begins_multiplied}
 use Rattle.mo_flat.proofs.Good.{Each, IsGood, IsNumber, Widens, good_Whole, good_Sum, good_Product, widened}
-use Rattle.mo_typing.specs.Dims.{Dims, Operand, is_scalar, spread, times, matrix_product, multiplied as asked, with_operand, or_scalar as asked_scalar}
+use Rattle.mo_typing.specs.Dims.{Dims, times, matrix_product, multiplied as asked, with_operand, or_scalar as asked_scalar}
 use Rattle.mo_typing.specs.Shape.{shape_of, is_matrix_factor, multiplied, or_scalar}
-use Rattle.mo_typing.specs.Indices.{Index, is_index, own, numbers_to, first_number}
+use Rattle.mo_typing.specs.Indices.{Index, own, numbers_to, first_number}
 use Rattle.mo_typing.proofs.Agreeing.{ok_same, not_broken, times_agrees}
-use Rattle.mo_arrays.specs.Elements.{Chain, Factor, Part, element_of, at, plain, sum_of, product_of, inner_term, inner_product, extended_factors, extended, operand_of}
+use Rattle.mo_arrays.specs.Elements.{Chain, Factor, element_of, at, plain, sum_of, product_of, inner_term, inner_product, extended_factors, extended}
 use Rattle.mo_arrays.specs.steps.Parts.{part_of}
 use Rattle.mo_arrays.proofs.SoundDims.{Suits, Beside, suits_beside, index_suits, spread_beside, broken_settles, IsUpTo, numbers_up_to, row_and_column}
 use Rattle.mo_arrays.proofs.SoundParts.{Whole, Gives, the_kind, at_given}

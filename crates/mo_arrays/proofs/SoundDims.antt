@@ -1,21 +1,21 @@
 -- Indices of operands by those of their operation.
-use Rattle.std.proofs.Common.{◌≡◌, ◌≤◌, ◌<◌, ◌+◌, ◌-◌, ◌*◌, ℕ, suc, zero, ℤ, pos, negsuc, Bool, true, false, ◌&&◌, List, [], ◌∷◌, ◌++◌, map, flat_map, length, take, drop, Option, Some, None, refl, ap, sym, ◌∙◌, subst, arith, if◌then◌else◌, nat_eq, eqb-true}
+use Rattle.std.proofs.Common.{◌≡◌, ◌≤◌, ◌<◌, ◌+◌, ◌-◌, ◌*◌, ℕ, suc, zero, ℤ, pos, negsuc, Bool, true, false, ◌&&◌, List, [], ◌∷◌, ◌++◌, map, flat_map, length, take, drop, Option, Some, refl, ap, sym, ◌∙◌, subst, arith, nat_eq, eqb-true}
 use Rattle.std.specs.Prelude.{fold, Ok, Err, nat_le, slice_get}
 use Rattle.std.specs.List.{list_all}
 use Rattle.std.proofs.lemmas.Bool.{leb-true, le-leb}
 use Rattle.std.proofs.Math.Nat.{mul-le-mul_right, mul_assoc}
-use Rattle.mo_syntax.specs.Outcome.{Outcome, and_then, breaks}
+use Rattle.mo_syntax.specs.Outcome.{Outcome, and_then}
 use Rattle.mo_syntax.specs.declared.place.Place.{Place}
 use Rattle.mo_syntax.specs.declared.place.Broken.{Broken}
 use Rattle.mo_flat.specs.declared.array.Subscript.{Subscript}
 use Rattle.mo_flat.specs.declared.array.Subscript.TheVariants.{All, One, Many}
 use Rattle.mo_flat.specs.SoundArray.{element_count, are_for_each}
-use Rattle.mo_flat.proofs.Good.{Each, both_true}
-use Rattle.mo_typing.specs.Dims.{Dims, Operand, is_scalar, matched, spread, added, with_operand, or_scalar, chain, with_alike, alike, scalar, with_scalar, scalars, matrix_product, inner_matched, transposed, crossed, kept, behind, subscripted}
+use Rattle.mo_flat.proofs.Good.{Each}
+use Rattle.mo_typing.specs.Dims.{Dims, Operand, matched, spread, added, with_operand, or_scalar, chain, with_alike, alike, scalar, with_scalar, scalars, matrix_product, inner_matched, transposed, crossed, subscripted}
 use Rattle.mo_typing.specs.Shape.{size_of, swapped}
-use Rattle.mo_typing.specs.Subscripts.{Checked, fine, both, within, is_within, subscript, subscripts}
+use Rattle.mo_typing.specs.Subscripts.{Checked, fine, both, within, is_within, subscripts}
 use Rattle.mo_typing.specs.Indices.{Index, is_index, numbers_to, indices, own, or_else, first_number, number_at, located, offset}
-use Rattle.mo_typing.proofs.Agreeing.{ok_same, not_broken, after, under, matched_agrees, spread_agrees, scalar_agrees}
+use Rattle.mo_typing.proofs.Agreeing.{ok_same, not_broken, under, matched_agrees, scalar_agrees}
 
 pub and_three : (a b c : Bool) → (a && b && c) ≡ true → (a ≡ true) × (b ≡ true) × (c ≡ true)
 and_three true true true e = (refl, refl, refl)

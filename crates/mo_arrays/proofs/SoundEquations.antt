@@ -1,5 +1,5 @@
 -- The equations of sound sides are sound.
-use Rattle.std.proofs.Common.{◌≡◌, ◌<◌, ◌+◌, ℕ, zero, suc, Bool, true, false, ◌&&◌, List, [], ◌∷◌, map, length, get_or, Option, Some, None, refl, ap, sym, ◌∙◌, subst, arith, if◌then◌else◌}
+use Rattle.std.proofs.Common.{◌≡◌, ◌<◌, ◌+◌, ℕ, zero, suc, true, false, ◌&&◌, List, [], ◌∷◌, map, Option, Some, None, refl, ap, ◌∙◌, subst, arith, if◌then◌else◌}
 use Rattle.std.specs.Prelude.{Ok, IsSome, IsTrue, All}
 use Rattle.mo_syntax.specs.Outcome.{and_then}
 use Rattle.mo_syntax.specs.declared.place.Place.{Place}
@@ -9,11 +9,11 @@ use Rattle.mo_flat.specs.declared.expr.FlatExpr.{FlatExpr}
 use Rattle.mo_flat.specs.declared.model.FlatVar.{FlatVar}
 use Rattle.mo_flat.specs.declared.model.FlatEquation.{FlatEquation}
 use Rattle.mo_flat.specs.Sound.{FlatKind, is_numeric, kind_of as flat_kind_of, IsSoundNumber, IsSoundEquation}
-use Rattle.mo_flat.specs.SoundArray.{IsSoundArrayIn, nesting_of, has_kind, is_sound_array}
+use Rattle.mo_flat.specs.SoundArray.{IsSoundArrayIn, nesting_of}
 use Rattle.mo_flat.proofs.Good.{Each, IsGood, IsNumber, number_widens}
 use Rattle.mo_typing.specs.Kinds.{kind_of, is_number}
 use Rattle.mo_typing.specs.Dims.{Dims, dims_of, matched}
-use Rattle.mo_typing.specs.Subscripts.{Checked, fine, both, subscripts_of}
+use Rattle.mo_typing.specs.Subscripts.{fine, both, subscripts_of}
 use Rattle.mo_typing.specs.Indices.{Index, is_index, indices}
 use Rattle.mo_typing.proofs.Agreeing.{ok_same, after, under, past, matched_agrees}
 use Rattle.mo_arrays.specs.Elements.{element_of}

@@ -1,17 +1,15 @@
 -- What the kind of an operation accepts of the kinds of its operands.
-use Rattle.std.proofs.Common.{◌≡◌, ℕ, Bool, true, false, List, [], ◌∷◌, ◌++◌, map, Option, Some, None, refl, ap, sym, ◌∙◌, subst, if◌then◌else◌}
+use Rattle.std.proofs.Common.{◌≡◌, Bool, true, false, List, [], ◌∷◌, Option, Some, None, refl, ap, sym, ◌∙◌, subst, if◌then◌else◌}
 use Rattle.std.specs.Prelude.{fold, Ok, Err, nat_eq}
-use Rattle.mo_syntax.specs.Outcome.{Outcome, and_then, breaks}
+use Rattle.mo_syntax.specs.Outcome.{Outcome, and_then}
 use Rattle.mo_syntax.specs.declared.place.Place.{Place}
 use Rattle.mo_syntax.specs.declared.place.Broken.{Broken}
 use Rattle.mo_syntax.specs.declared.meaning.Kind.{Kind}
 use Rattle.mo_syntax.specs.declared.meaning.Kind.TheVariants.{Real, Whole as Integer, Truth as Boolean, Str as String, Enumeration}
-use Rattle.mo_flat.specs.Sound.{FlatKind}
 use Rattle.mo_flat.specs.SoundArray.{fits_kind}
 use Rattle.mo_flat.proofs.Good.{Each, IsNumber, Widens, number_widens}
 use Rattle.mo_syntax.specs.declared.rules.TheConstants.{WRONG_ENUMERATION, WRONG_TYPE}
-use Rattle.mo_typing.specs.declared.agree.Shared.{Shared}
-use Rattle.mo_typing.specs.declared.agree.Shared.TheVariants.{Unseen, Alike, Different}
+use Rattle.mo_typing.specs.declared.agree.Shared.TheVariants.{Alike, Different}
 use Rattle.mo_typing.specs.Kinds.{common, number, wider, with_number, arithmetic, truth, is_truth, with_truth, logical, joined, joined_by, settled, alike, relation, or_breaks, are_enumerations, numeric, is_number, real_of, kept, both_numeric}
 use Rattle.mo_typing.proofs.Agreeing.{ok_same, not_broken, after, under}
 

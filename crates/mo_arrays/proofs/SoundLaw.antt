@@ -1,9 +1,7 @@
 -- Each element of a sound array expression that breaks no rule is sound, and of the kind of the expression.
-use Rattle.std.proofs.Common.{◌≡◌, ◌≤◌, ◌<◌, ◌+◌, ◌-◌, ℕ, suc, zero, ℤ, pos, max, Bool, true, false, ◌&&◌, ◌||◌, List, [], ◌∷◌, ◌++◌, map, length, Option, Some, None, refl, ap, sym, ◌∙◌, subst, arith, if◌then◌else◌, nat_eq}
-use Rattle.std.specs.Prelude.{Ok, Err, nat_le, slice_get}
-use Rattle.std.specs.List.{list_all}
-use Rattle.std.proofs.lemmas.Bool.{leb-true}
-use Rattle.mo_syntax.specs.Outcome.{Outcome, and_then, breaks}
+use Rattle.std.proofs.Common.{◌≡◌, ◌≤◌, ◌<◌, ◌+◌, ◌-◌, ℕ, suc, zero, ℤ, pos, max, Bool, true, false, ◌&&◌, List, [], ◌∷◌, ◌++◌, map, length, Option, Some, None, refl, ap, sym, ◌∙◌, subst, arith, if◌then◌else◌, nat_eq}
+use Rattle.std.specs.Prelude.{Ok, nat_le, slice_get}
+use Rattle.mo_syntax.specs.Outcome.{and_then, breaks}
 use Rattle.mo_syntax.specs.declared.place.Place.{Place}
 use Rattle.mo_syntax.specs.declared.meaning.ClassId.{ClassId}
 use Rattle.mo_syntax.specs.declared.meaning.Kind.{Kind}
@@ -13,27 +11,27 @@ use Rattle.mo_tables.specs.declared.functions.TheConstants.{IDENTITY, ONES}
 use Rattle.mo_flat.specs.declared.array.ArrayExpr.{ArrayExpr, ArrayExpr-F, roll-ArrayExpr, map-ArrayExpr, fold-roll-ArrayExpr, para-roll-ArrayExpr, ind-ArrayExpr}
 use Rattle.mo_flat.specs.declared.array.ArrayNode.{ArrayNode, ArrayNode-F, roll-ArrayNode, map-ArrayNode}
 use Rattle.mo_flat.specs.declared.expr.FlatExpr.{FlatExpr}
-use Rattle.mo_flat.specs.declared.expr.FlatExpr.TheVariants.{Whole as number, Literal, Time, Str as text_of, Truth as truth_of, Decimal}
+use Rattle.mo_flat.specs.declared.expr.FlatExpr.TheVariants.{Whole as number, Literal, Time, Decimal}
 use Rattle.mo_flat.specs.declared.model.FlatVar.{FlatVar}
 use Rattle.mo_flat.specs.Sound.{is_nonempty}
-use Rattle.mo_flat.specs.SoundArray.{has_kind, is_sound_array, is_sound_array_node, array_node, array_part, nesting_of, nesting_of_node, nesting_node, nesting_part, greatest_by}
-use Rattle.mo_flat.proofs.Good.{Each, IsGood, IsNumber, Widens, widened, number_widens, good_Whole, good_Decimal, good_Str, good_Truth, good_Literal, good_Time, good_Der, good_If}
-use Rattle.mo_typing.specs.Kinds.{kind_of, kind_of_node, kind_node, kind_part, real_of, truth, alike, call, takes_sizes, kinds_of, kinds_of_branches, branch_kind, condition}
+use Rattle.mo_flat.specs.SoundArray.{has_kind, is_sound_array, array_node, array_part, nesting_of, nesting_node, nesting_part}
+use Rattle.mo_flat.proofs.Good.{Each, IsGood, Widens, widened, number_widens, good_Whole, good_Decimal, good_Str, good_Truth, good_Literal, good_Time, good_Der, good_If}
+use Rattle.mo_typing.specs.Kinds.{kind_of, kind_node, kind_part, real_of, truth, alike, call, takes_sizes, kinds_of_branches, branch_kind, condition}
 use Rattle.mo_typing.specs.Kinds.{part_of as kind_part_of, Part as KindPart}
-use Rattle.mo_typing.specs.Dims.{Dims, dims_of, dims_of_node, dims_node, dims_part, scalar, dims_of_branches, branch_dims, dims_of_all, size_dims, sizes_of, filled, shaped}
+use Rattle.mo_typing.specs.Dims.{Dims, dims_of, dims_node, dims_part, scalar, dims_of_branches, branch_dims, dims_of_all, sizes_of, filled, shaped}
 use Rattle.mo_typing.specs.Dims.{part_of as dims_part_of, Part as DimsPart, alike as alike_dims, call as call_dims, condition as condition_dims}
 use Rattle.mo_typing.specs.Shape.{shape_of}
-use Rattle.mo_typing.specs.Subscripts.{Checked, fine, both, every, size_number, subscripts_of, subscripts_of_node, subscripts_node, subscripts_part}
+use Rattle.mo_typing.specs.Subscripts.{Checked, fine, both, subscripts_of, subscripts_node, subscripts_part}
 use Rattle.mo_typing.specs.Indices.{Index, is_index, is_diagonal}
 use Rattle.mo_typing.proofs.Agreeing.{ok_same, not_broken, after, under, scalar_agrees}
 use Rattle.mo_typing.proofs.ShapeLaw.{dims_agree}
-use Rattle.mo_arrays.specs.Elements.{Part, element_of, element_of_node, element_node, element_part, at, element_in, element_among, constant}
+use Rattle.mo_arrays.specs.Elements.{Part, element_of, element_node, element_part, at, element_in, element_among, constant}
 use Rattle.mo_arrays.specs.steps.Parts.{part_of}
 use Rattle.mo_arrays.proofs.SoundKinds.{truth_kind, real_kind, alike_widen}
 use Rattle.mo_arrays.proofs.SoundDims.{Suits, Beside, index_suits, suits_beside, alike_same, and_two, and_three, before}
-use Rattle.mo_arrays.proofs.SoundParts.{of_kind, of_nesting, Law, Whole, Gives, Holds, the_kind, kind_is, kind_told, dims_told, part_gives, part_at, values_by, subs_each, sound_each, deep_both, deep_each, at_given}
+use Rattle.mo_arrays.proofs.SoundParts.{of_kind, of_nesting, Law, Whole, Gives, the_kind, kind_is, part_gives, part_at, values_by, subs_each, sound_each, deep_both, deep_each}
 use Rattle.mo_arrays.proofs.SoundCalls.{OneGood, TwoGood, one_good, two_good}
-use Rattle.mo_arrays.proofs.SoundNodes.{NodeLaw, Node, KindAsked, DimsAsked, Element, LayerLaw, LawOf, rolled, AreParts, parts_hold, checked_both, each_imply, law_Vars, law_Sum, law_Product, law_Power, law_Relation, law_Not, law_All, law_Any}
+use Rattle.mo_arrays.proofs.SoundNodes.{NodeLaw, Node, KindAsked, DimsAsked, Element, LawOf, rolled, parts_hold, checked_both, law_Vars, law_Sum, law_Product, law_Power, law_Relation, law_Not, law_All, law_Any}
 
 -- ---- if-expressions
 

@@ -1,38 +1,36 @@
 -- The elements of a node by its parts: variables, sums, products, powers, relations and truth values.
-use Rattle.std.proofs.Common.{◌≡◌, ◌≤◌, ◌+◌, ◌-◌, ℕ, suc, zero, ℤ, pos, max, Bool, true, false, ◌&&◌, ◌||◌, List, [], ◌∷◌, ◌++◌, map, length, Option, Some, None, refl, ap, sym, ◌∙◌, subst, arith, if◌then◌else◌, nat_eq}
-use Rattle.std.specs.Prelude.{fold, Ok, Err, nat_le, slice_get, not}
+use Rattle.std.proofs.Common.{◌≡◌, ◌≤◌, ◌-◌, ℕ, Bool, true, false, ◌||◌, List, [], ◌∷◌, map, refl, ap, sym, ◌∙◌, subst, if◌then◌else◌}
+use Rattle.std.specs.Prelude.{Ok, Err, not}
 use Rattle.std.specs.List.{list_all, list_any}
-use Rattle.mo_syntax.specs.Outcome.{Outcome, and_then, breaks}
+use Rattle.mo_syntax.specs.Outcome.{Outcome, and_then}
 use Rattle.mo_syntax.specs.declared.place.Place.{Place}
 use Rattle.mo_syntax.specs.declared.meaning.Kind.{Kind}
-use Rattle.mo_syntax.specs.declared.meaning.Kind.TheVariants.{Real, Whole as Integer, Truth as Boolean, Str as String, Enumeration}
+use Rattle.mo_syntax.specs.declared.meaning.Kind.TheVariants.{Real, Whole as Integer, Truth as Boolean}
 use Rattle.mo_syntax.specs.declared.expr.RelOp.{RelOp}
-use Rattle.mo_tables.specs.declared.functions.TheConstants.{IDENTITY, ONES}
 use Rattle.mo_flat.specs.declared.array.Subscript.{Subscript}
-use Rattle.mo_flat.specs.declared.array.ArrayExpr.{ArrayExpr, ArrayExpr-F, roll-ArrayExpr, map-ArrayExpr, fold-roll-ArrayExpr, para-roll-ArrayExpr, ind-ArrayExpr}
+use Rattle.mo_flat.specs.declared.array.ArrayExpr.{ArrayExpr}
 use Rattle.mo_flat.specs.declared.array.ArrayNode.{ArrayNode, ArrayNode-F, roll-ArrayNode, map-ArrayNode, fold-roll-ArrayNode, para-roll-ArrayNode}
 use Rattle.mo_flat.specs.declared.expr.FlatExpr.{FlatExpr}
 use Rattle.mo_flat.specs.declared.expr.FlatExpr.TheVariants.{Relation, Not, All, Any, Power}
 use Rattle.mo_flat.specs.declared.model.FlatVar.{FlatVar}
 use Rattle.mo_flat.specs.Sound.{is_nonempty}
-use Rattle.mo_flat.specs.SoundArray.{has_kind, is_sound_array, is_sound_array_node, array_node, array_part, nesting_of, nesting_of_node, nesting_node, nesting_part, greatest_by, is_multiplied_first, is_called, fills, all_of_option, nesting_of_option}
-use Rattle.mo_flat.proofs.Good.{Each, IsGood, IsNumber, Widens, widened, good_Whole, good_Decimal, good_Str, good_Truth, good_Literal, good_Time, good_Var, good_Der, good_Sum, good_Power, good_Relation, good_Not, good_All, good_Any, good_If, number_widens}
-use Rattle.mo_typing.specs.Kinds.{kind_of, kind_of_node, kind_node, kind_part, arithmetic, raised, relation, truth, logical, real_of, alike, call, divided, takes_sizes, kinds_of, kinds_of_branches, branch_kind, condition, filling}
+use Rattle.mo_flat.specs.SoundArray.{has_kind, is_sound_array, is_sound_array_node, array_node, array_part, nesting_of, nesting_of_node, nesting_node, nesting_part, greatest_by}
+use Rattle.mo_flat.proofs.Good.{Each, IsGood, IsNumber, Widens, widened, good_Var, good_Power, good_Relation, good_Not, good_All, good_Any, number_widens}
+use Rattle.mo_typing.specs.Kinds.{kind_of, kind_of_node, kind_node, kind_part, arithmetic, raised, relation, truth, logical, divided, kinds_of}
 use Rattle.mo_typing.specs.Kinds.{part_of as kind_part_of, Part as KindPart}
-use Rattle.mo_typing.specs.Dims.{Dims, Operand, dims_of, dims_of_node, dims_node, dims_part, added, multiplied, chain, operand, operands_of, scalar, scalars, spread, related, dims_of_branches, branch_dims, dims_of_all, subscripted, size_dims, sizes_of, filled, shaped, range, or_scalar, with_operand}
-use Rattle.mo_typing.specs.Dims.{part_of as dims_part_of, Part as DimsPart, alike as alike_dims, call as call_dims, raised as raised_dims, condition as condition_dims, filling as filling_dims}
+use Rattle.mo_typing.specs.Dims.{Dims, Operand, dims_of, dims_of_node, dims_node, dims_part, added, multiplied, chain, operand, operands_of, scalar, scalars, related, dims_of_all, subscripted}
+use Rattle.mo_typing.specs.Dims.{part_of as dims_part_of, Part as DimsPart, raised as raised_dims}
 use Rattle.mo_typing.specs.Shape.{shape_of}
-use Rattle.mo_typing.specs.Subscripts.{Checked, fine, both, every, subscripts, size_number, subscripts_of, subscripts_of_node, subscripts_node, subscripts_part}
-use Rattle.mo_typing.specs.Indices.{Index, is_index, located, is_diagonal}
-use Rattle.mo_typing.proofs.Agreeing.{ok_same, not_broken, after, under, scalar_agrees}
+use Rattle.mo_typing.specs.Subscripts.{Checked, fine, both, every, subscripts_of, subscripts_of_node, subscripts_node, subscripts_part}
+use Rattle.mo_typing.specs.Indices.{Index, is_index, located}
+use Rattle.mo_typing.proofs.Agreeing.{ok_same, not_broken, after, scalar_agrees}
 use Rattle.mo_typing.proofs.ShapeLaw.{dims_agree}
-use Rattle.mo_arrays.specs.Elements.{Part, Factor, Chain, element_of, element_of_node, element_node, element_part, at, sum_of, product_of, chain_of, extended, unbegun, element_in, constant}
+use Rattle.mo_arrays.specs.Elements.{Part, element_of, element_of_node, element_node, element_part, at, extended, unbegun}
 use Rattle.mo_arrays.specs.steps.Parts.{part_of}
-use Rattle.mo_arrays.proofs.SoundKinds.{AreNumbers, numbers_agree, through, related_kinds, truth_kind, truths_agree, real_kind, alike_widen}
-use Rattle.mo_arrays.proofs.SoundDims.{Suits, Beside, index_suits, suits_beside, spread_beside, sum_beside, scalars_none, alike_same, and_two, and_three, located_index, element_holds, before, IsUpTo}
-use Rattle.mo_arrays.proofs.SoundParts.{of_kind, of_nesting, Law, Whole, Gives, Holds, the_kind, kind_is, kind_told, dims_told, given, part_gives, part_at, values_by, each_through, subs_each, sound_each, deep_both, deep_each, give_each, at_given}
-use Rattle.mo_arrays.proofs.SoundChains.{AreFactors, IsChain, good_sum_of, good_product_of, one_factor, chain_rest}
-use Rattle.mo_arrays.proofs.SoundCalls.{one_good, two_good}
+use Rattle.mo_arrays.proofs.SoundKinds.{numbers_agree, through, related_kinds, truth_kind, truths_agree}
+use Rattle.mo_arrays.proofs.SoundDims.{Suits, Beside, index_suits, suits_beside, spread_beside, sum_beside, scalars_none, and_two, and_three, located_index, element_holds}
+use Rattle.mo_arrays.proofs.SoundParts.{of_kind, Whole, Gives, the_kind, kind_is, dims_told, part_at, values_by, each_through, subs_each, sound_each, deep_both, deep_each, give_each, at_given}
+use Rattle.mo_arrays.proofs.SoundChains.{IsChain, good_sum_of, good_product_of, chain_rest}
 
 unfoldable pub NodeLaw : List FlatVar → ArrayNode → Type 0
 NodeLaw vars node = (place : Place) (k : Kind) (d : Dims) (n : ℕ) → kind_of_node node place ≡ Ok k → dims_of_node node place ≡ Ok d → subscripts_of_node node ≡ fine → is_sound_array_node (has_kind vars) node ≡ true → nesting_of_node node ≤ n →

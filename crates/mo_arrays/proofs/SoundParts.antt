@@ -1,9 +1,8 @@
 -- What is known of the operands of a node, where it is known of the node.
-use Rattle.std.proofs.Common.{◌≡◌, ◌≤◌, ℕ, max, Bool, true, false, ◌&&◌, List, [], ◌∷◌, ◌++◌, map, Option, Some, None, refl, ap, sym, ◌∙◌, subst, arith}
+use Rattle.std.proofs.Common.{◌≡◌, ◌≤◌, ℕ, max, Bool, true, List, [], ◌∷◌, map, refl, ap, sym, ◌∙◌, subst, arith}
 use Rattle.std.specs.Prelude.{Ok, Err}
-use Rattle.std.specs.List.{list_all, list_any}
+use Rattle.std.specs.List.{list_all}
 use Rattle.mo_syntax.specs.Outcome.{Outcome, and_then}
-use Rattle.mo_syntax.specs.declared.place.Place.{Place}
 use Rattle.mo_syntax.specs.declared.meaning.Kind.{Kind}
 use Rattle.mo_syntax.specs.declared.meaning.Kind.TheVariants.{Real}
 use Rattle.mo_flat.specs.declared.array.ArrayExpr.{ArrayExpr}
@@ -17,7 +16,7 @@ use Rattle.mo_typing.specs.Dims.{Dims, dims_of}
 use Rattle.mo_typing.specs.Shape.{shape_of}
 use Rattle.mo_typing.specs.Subscripts.{Checked, fine, every, subscripts_of}
 use Rattle.mo_typing.specs.Indices.{Index, is_index}
-use Rattle.mo_typing.proofs.Agreeing.{ok_same, not_broken, after}
+use Rattle.mo_typing.proofs.Agreeing.{ok_same, after}
 use Rattle.mo_typing.proofs.ShapeLaw.{dims_agree}
 use Rattle.mo_arrays.specs.Elements.{element_of, at}
 use Rattle.mo_arrays.specs.steps.Parts.{part_of}

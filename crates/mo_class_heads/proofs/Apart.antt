@@ -1,5 +1,5 @@
 -- What holds no class is read in a class as outside of all.
-use Rattle.std.proofs.Common.{◌≡◌, ℕ, Bool, true, List, [], subst, Result}
+use Rattle.std.proofs.Common.{◌≡◌, ℕ, true, List, [], subst, Result}
 use Rattle.mo_grammar.specs.declared.reading.Halt.{Halt}
 use Rattle.mo_grammar.specs.Lexeme.{Lexeme}
 use Rattle.mo_grammar.specs.Grammar.{at_most, EndName, this_name}

@@ -7,7 +7,6 @@ use Rattle.mo_grammar.specs.Grammar.{Limits, token, has}
 use Rattle.mo_grammar.specs.Forms.{behind}
 use Rattle.mo_grammar.specs.ClassTrees.{Imported, imported}
 use Rattle.mo_grammar.specs.Symbols.{ImportNames}
-use Rattle.mo_grammar.specs.Classes.{import_names}
 use Rattle.mo_grammar.specs.Reading.{Outcome, read, stuck, unfinished, ◌>>=◌, next_in, next_two, reads_token}
 use Rattle.mo_grammar.specs.Language.{reads, reads_form}
 use Rattle.mo_grammar.proofs.Codes.{both, told, never}

@@ -1,7 +1,7 @@
 -- The variables of a tree of instances, one after another.
-use Rattle.std.proofs.Common.{◌≡◌, ℕ, suc, zero, ◌+◌, ◌<◌, ◌≤◌, List, [], ◌∷◌, ◌++◌, drop, get_or, length, length-append, map, take, Option, Some, None, Result, Ok, Err, refl, ap, sym, ◌∙◌, subst, arith}
+use Rattle.std.proofs.Common.{◌≡◌, ℕ, suc, zero, ◌+◌, ◌<◌, ◌≤◌, List, [], ◌∷◌, ◌++◌, drop, get_or, length, length-append, map, take, Option, Some, None, Ok, Err, refl, ap, sym, ◌∙◌, arith}
 use Rattle.std.specs.Prelude.{option_map}
-use Rattle.std.proofs.lemmas.List.{append-nil, drop_more, map-append, take_all, take_more}
+use Rattle.std.proofs.lemmas.List.{append-nil, map-append, take_all, take_more}
 use Rattle.mo_syntax.specs.Outcome.{Outcome, and_then, IfBroken}
 use Rattle.mo_syntax.specs.declared.place.Broken.{Broken}
 use Rattle.mo_syntax.specs.declared.place.Stop.{Stop}
@@ -18,7 +18,7 @@ use Rattle.mo_typing.specs.Outcome.{Gives, each}
 use Rattle.mo_equations.specs.declared.desk.Desk.{Desk}
 use Rattle.mo_equations.specs.declared.flat.Flat.{Flat}
 use Rattle.mo_equations.specs.declared.variables.Variable.{Variable as VariableAt}
-use Rattle.mo_equations.specs.Leaves.{Tree, Variable, variables_from, variables_of, with_leaf}
+use Rattle.mo_equations.specs.Leaves.{Tree, Variable, variables_from, with_leaf}
 use Rattle.mo_equations.specs.Variables.{declared, declared_with, flat_attribute, flat_binding, flat_option}
 use Rattle.mo_equations.specs.steps.Declaring.{IsBound, IsOneOf, binding_in, variable_in}
 use Rattle.mo_equations.specs.steps.Desks.{Goes, IsDesk, tree_in}

@@ -1,5 +1,5 @@
 -- What replaces a constant does not depend on where the reference to it stands.
-use Rattle.std.proofs.Common.{◌≡◌, ℕ, zero, suc, ◌+◌, Bool, true, false, List, [], ◌∷◌, ◌++◌, Option, Some, None, Ok, Err, refl, ap, sym, ◌∙◌, subst, arith}
+use Rattle.std.proofs.Common.{◌≡◌, ℕ, zero, suc, ◌+◌, Bool, true, false, Option, Some, None, Ok, Err, refl, ap, sym, ◌∙◌, arith}
 use Rattle.mo_syntax.specs.Outcome.{Outcome, breaks}
 use Rattle.mo_syntax.specs.declared.meaning.Kind.{Kind}
 use Rattle.mo_syntax.specs.declared.place.Place.{Place}
@@ -11,11 +11,9 @@ use Rattle.mo_syntax.specs.declared.rules.TheConstants.{NO_VALUE, REFERENCE_CHAI
 use Rattle.mo_typing.specs.Indices.{Index}
 use Rattle.mo_eval.specs.Components.{binding_of}
 use Rattle.mo_values.specs.Scalars.{Known, has_values}
-use Rattle.mo_eval.specs.Values.{value_of_element}
-use Rattle.mo_values.specs.declared.value.Scalar.{Scalar}
 use Rattle.mo_eval.specs.Virtuals.{Element}
 use Rattle.mo_eval.proofs.Remembered.{element_with, value_anywhere}
-use Rattle.mo_equations.specs.Replacing.{Replacing, constant, constant_by, flat_value, standing, value_or}
+use Rattle.mo_equations.specs.Replacing.{Replacing, constant, constant_by, standing, value_or}
 use Rattle.mo_equations.specs.steps.Standing.{constant_expression, constant_known}
 use Rattle.mo_equations.proofs.Replacings.{constant_is, constant_none, constant_some, value_none, value_some}
 

@@ -9,7 +9,7 @@ use Rattle.mo_scope.specs.declared.instance.Instance.{Instance as InstanceAt}
 use Rattle.mo_scope.specs.Frames.{Indexed, indexed_eq, numbers_eq}
 use Rattle.mo_equations.specs.Leaves.{behind, path_text}
 use Rattle.mo_equations.specs.steps.LeafTables.{ends_with, has_text, is_leaf, leaves_in, numbers_from, numbers_or_none, prefixes, with_number, with_variable}
-use Rattle.mo_equations.specs.steps.Tables.{first_place, place_among}
+use Rattle.mo_equations.specs.steps.Tables.{place_among}
 
 -- ---- any of any
 

@@ -1,23 +1,21 @@
 -- In a branch of an if-equation that no value decides there are no asserts (Modelica Language Specification 3.5, sections 8.3.4 and 8.3.7).
-use Rattle.std.proofs.Common.{◌≡◌, ℕ, ℤ, ◌+◌, Bool, true, false, ◌&&◌, not, List, [], ◌∷◌, ◌++◌, map, Option, Some, None, Ok, Err, if◌then◌else◌, nat_lt, refl, ap, sym, ◌∙◌, subst}
+use Rattle.std.proofs.Common.{◌≡◌, ℕ, ℤ, ◌+◌, Bool, true, false, List, [], ◌∷◌, map, Some, None, Ok, Err, nat_lt, refl, ap, sym, ◌∙◌, subst}
 use Rattle.mo_syntax.specs.Outcome.{Outcome, and_then, breach}
-use Rattle.mo_syntax.specs.declared.equation.EquationKind.{EquationKind, EquationKind-F, fold-roll-EquationKind, ind-EquationKind, map-EquationKind, roll-EquationKind}
+use Rattle.mo_syntax.specs.declared.equation.EquationKind.{EquationKind, EquationKind-F, fold-roll-EquationKind, ind-EquationKind, map-EquationKind}
 use Rattle.mo_syntax.specs.declared.equation.EquationOf.{EquationOf}
 use Rattle.mo_syntax.specs.declared.expr.Expr.{Expr}
 use Rattle.mo_syntax.specs.declared.expr.IndexOf.{IndexOf}
-use Rattle.mo_syntax.specs.declared.expr.ReferenceOf.{ReferenceOf}
 use Rattle.mo_syntax.specs.declared.place.Broken.{Broken}
 use Rattle.mo_syntax.specs.declared.place.Place.{Place}
 use Rattle.mo_flat.specs.declared.expr.FlatExpr.{FlatExpr}
 use Rattle.mo_scope.specs.Places.{Every}
 use Rattle.mo_syntax.specs.declared.rules.TheConstants.{FLAT_MODEL_TOO_LARGE, BRANCH_COUNTS_DIFFER, OUTSIDE_PROFILE, CONNECT_UNDER_OPEN_CONDITION}
-use Rattle.mo_values.specs.declared.value.Scalar.{Scalar}
 use Rattle.mo_values.specs.declared.value.Scalar.TheVariants.{Whole, Truth, Literal}
 use Rattle.mo_values.specs.Scalars.{Known}
 use Rattle.mo_equations.specs.Asserts.{is_assert}
 use Rattle.mo_equations.specs.Equations.{Former, Site, all_made, condition_known, flat_condition, in_branch, made_choice, made_form, made_kind, made_loop, numbers_of_index, undecided_branch, with_iteration}
 use Rattle.mo_equations.specs.Equalities.{equalities}
-use Rattle.mo_equations.specs.Gathering.{Made, Turning, all_beside, beside, gathered, made_equations, one_turn, turn_each, turn_none, turn_then}
+use Rattle.mo_equations.specs.Gathering.{Made, Turning, all_beside, gathered, made_equations, one_turn, turn_each, turn_none, turn_then}
 use Rattle.mo_equations.specs.Joining.{Choice, have_equal_counts, joined_branches, joined_equation, made_if}
 use Rattle.mo_equations.specs.Leaves.{Tree, place_of_root}
 use Rattle.mo_equations.specs.steps.Choices.{IsBare}

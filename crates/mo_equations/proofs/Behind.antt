@@ -1,5 +1,5 @@
 -- What stands behind a path, name by name.
-use Rattle.std.proofs.Common.{◌≡◌, Bool, true, false, List, [], ◌∷◌, Option, Some, None, if◌then◌else◌, ℕ, ap, sym, ◌∙◌}
+use Rattle.std.proofs.Common.{◌≡◌, Bool, true, false, List, [], ◌∷◌, Some, None, if◌then◌else◌, ℕ, ap, sym, ◌∙◌}
 use Rattle.mo_scope.specs.Frames.{Indexed}
 use Rattle.mo_equations.specs.Leaves.{behind}
 use Rattle.mo_equations.specs.steps.Tables.{step_eq}

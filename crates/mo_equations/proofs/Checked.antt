@@ -1,8 +1,7 @@
 -- What the checks of an expansion say.
-use Rattle.std.proofs.Common.{◌≡◌, ℕ, ◌+◌, ◌<◌, ◌≤◌, true, List, length, take, get_or, All, subst, sym}
+use Rattle.std.proofs.Common.{◌≡◌, ℕ, ◌+◌, ◌<◌, ◌≤◌, List, length, take, get_or, All, subst}
 use Rattle.std.proofs.lemmas.List.{take_all}
 use Rattle.std.proofs.lemmas.List.Elements.{All-more}
-use Rattle.mo_flat.specs.declared.connect.Connect.{Connect}
 use Rattle.mo_flat.specs.declared.connect.Connects.{Connects}
 use Rattle.mo_flat.specs.declared.connect.End.{End}
 use Rattle.mo_flat.specs.declared.connect.EndLeaf.{EndLeaf}

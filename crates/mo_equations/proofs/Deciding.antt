@@ -1,5 +1,5 @@
 -- The branches of an if-equation, one after another.
-use Rattle.std.proofs.Common.{◌≡◌, ℕ, ◌+◌, ◌<◌, Bool, true, false, List, [], ◌∷◌, ◌++◌, map, drop, length, get_or, Option, Some, None, Result, Ok, Err, refl, ap, sym, subst, ◌∙◌, append_assoc}
+use Rattle.std.proofs.Common.{◌≡◌, ℕ, ◌+◌, ◌<◌, true, false, List, [], ◌∷◌, ◌++◌, drop, length, get_or, Some, None, Ok, Err, refl, ap, sym, subst, ◌∙◌, append_assoc}
 use Rattle.std.proofs.lemmas.List.{append-nil, drop_more}
 use Rattle.mo_syntax.specs.Outcome.{Outcome, and_then}
 use Rattle.mo_syntax.specs.declared.equation.EquationKind.{EquationKind}
@@ -11,17 +11,15 @@ use Rattle.mo_syntax.specs.declared.place.Stop.TheVariants.{Broken as broken_by,
 use Rattle.mo_flat.specs.declared.expr.FlatExpr.{FlatExpr}
 use Rattle.mo_typing.specs.Outcome as told
 use Rattle.mo_values.specs.Scalars.{Known}
-use Rattle.mo_values.specs.declared.value.Scalar.{Scalar}
 use Rattle.mo_values.specs.declared.value.Scalar.TheVariants.{Whole, Truth, Literal}
 use Rattle.mo_equations.specs.declared.desk.Desk.{Desk}
 use Rattle.mo_equations.specs.declared.flat.Flat.{Flat}
-use Rattle.mo_equations.specs.declared.joining.Choice.{Choice as ChoiceAt}
 use Rattle.mo_equations.specs.declared.made.Made.{Made as MadeAt}
-use Rattle.mo_equations.specs.Equations.{Site, all_made, condition_known, in_branch, made_choice}
+use Rattle.mo_equations.specs.Equations.{Site, condition_known, in_branch}
 use Rattle.mo_equations.specs.Gathering.{Made, Turning, turn_none, turn_then}
 use Rattle.mo_equations.specs.Joining.{Choice}
 use Rattle.mo_equations.specs.Leaves.{Tree}
-use Rattle.mo_equations.specs.steps.Choices.{AreBranches, IsChoice}
+use Rattle.mo_equations.specs.steps.Choices.{AreBranches}
 use Rattle.mo_equations.specs.steps.Flats.{IsFlat}
 use Rattle.mo_equations.specs.steps.Makings.{IsMade}
 use Rattle.mo_equations.specs.steps.Turns.{GivesBranch, GivesChoice, GivesMade, all_made_at, choice_at, undecided_at}

@@ -1,40 +1,33 @@
 -- The variables of the flat model, one after another.
-use Rattle.std.proofs.Common.{◌≡◌, ℕ, suc, zero, ◌+◌, ◌-◌, ◌<◌, ◌≤◌, ◌^◌, Bool, true, false, ◌&&◌, List, [], ◌∷◌, ◌++◌, drop, flat_map, length, map, min, take, Option, Some, None, Result, Ok, Err, if◌then◌else◌, refl, ap, sym, ◌∙◌, subst, arith}
-use Rattle.std.specs.Prelude.{sum_by, option_map, IfSome}
-use Rattle.std.proofs.lemmas.Bool.{false≢true}
+use Rattle.std.proofs.Common.{◌≡◌, ℕ, suc, zero, ◌+◌, ◌-◌, ◌<◌, ◌≤◌, Bool, true, false, ◌&&◌, List, [], ◌∷◌, ◌++◌, drop, flat_map, length, map, take, Option, Some, None, Ok, Err, if◌then◌else◌, refl, ap, sym, ◌∙◌, subst, arith}
+use Rattle.std.specs.Prelude.{option_map}
 use Rattle.std.proofs.lemmas.List.{append-nil, append_assoc, map-append, take_all}
 use Rattle.std.proofs.lemmas.List.Sums.{sum_by-append, sum_by-cons}
 use Rattle.mo_syntax.specs.Outcome.{Outcome, and_then}
 use Rattle.mo_syntax.specs.declared.meaning.Kind.{Kind}
 use Rattle.mo_syntax.specs.declared.meaning.Role.{Role}
 use Rattle.mo_syntax.specs.declared.meaning.Role.TheVariants.{Unknown, Given, Parameter, Constant}
-use Rattle.mo_syntax.specs.declared.place.Broken.{Broken}
 use Rattle.mo_syntax.specs.declared.place.Place.{Place}
-use Rattle.mo_syntax.specs.declared.place.Stop.{Stop}
 use Rattle.mo_syntax.specs.declared.expr.Expr.{Expr}
 use Rattle.mo_flat.specs.declared.expr.FlatExpr.{FlatExpr}
-use Rattle.mo_flat.specs.declared.model.FlatEquation.{FlatEquation}
 use Rattle.mo_flat.specs.declared.model.FlatVar.{FlatVar}
 use Rattle.mo_flat.specs.Nodes.{node_count}
 use Rattle.mo_flat.specs.Roles.{is_unknown_role, unknown_numbers, unknowns_from}
 use Rattle.mo_scope.specs.declared.instance.Chosen.{Chosen as ChosenAt}
 use Rattle.mo_scope.specs.declared.instance.Instance.{Instance as InstanceAt}
-use Rattle.mo_scope.specs.declared.instance.Leaf.{Leaf as LeafAt}
 use Rattle.mo_scope.specs.declared.source.ScopeAt.{ScopeAt}
-use Rattle.mo_scope.specs.Rows.{Table}
-use Rattle.mo_scope.specs.Frames.{Frame, Scope}
+use Rattle.mo_scope.specs.Frames.{Frame}
 use Rattle.mo_scope.specs.Instances.{Chosen, Leaf}
-use Rattle.mo_scope.specs.Trees.{IsChosen, IsInstance, IsLeaf, chosen_in, instance_in, leaf_in}
+use Rattle.mo_scope.specs.Trees.{IsChosen, IsInstance, chosen_in, instance_in, leaf_in}
 use Rattle.mo_scope.specs.Worlds.{World, Grows, frames_of, scope_in, table_in}
 use Rattle.mo_typing.specs.Dims.{Dims}
 use Rattle.mo_typing.specs.Kinds.{accepts}
 use Rattle.mo_typing.specs.Subscripts.{Checked}
-use Rattle.mo_names.proofs.Later.{is_frame_later, table_later}
+use Rattle.mo_names.proofs.Later.{is_frame_later}
 use Rattle.mo_values.specs.Asked.{layered}
 use Rattle.mo_eval.specs.Components.{place_of}
 use Rattle.mo_values.specs.Scalars.{Known, has_values, if_it_has}
 use Rattle.mo_eval.specs.Values.{known_of, most_references, resolved_for_value}
-use Rattle.mo_eval.specs.Virtuals.{Resolved}
 use Rattle.mo_equations.specs.declared.desk.Desk.{Desk}
 use Rattle.mo_equations.specs.declared.flat.Flat.{Flat}
 use Rattle.mo_equations.specs.declared.layers.Want.TheVariants.{Accepted}
@@ -45,9 +38,9 @@ use Rattle.mo_equations.specs.declared.variables.Attributes.{Attributes}
 use Rattle.mo_equations.specs.declared.variables.Declared.{Declared as DeclaredAt}
 use Rattle.mo_equations.specs.declared.variables.Variable.{Variable as VariableAt}
 use Rattle.mo_equations.specs.Gathering.{Made, beside, made_equations, nothing}
-use Rattle.mo_equations.specs.Leaves.{Tree, Variable, number_of}
-use Rattle.mo_equations.specs.Replacing.{flat_at, flat_variable, value_or}
-use Rattle.mo_equations.specs.Size.{most_nodes, nodes_of_binding, nodes_of_option, nodes_of_variable}
+use Rattle.mo_equations.specs.Leaves.{Tree, Variable}
+use Rattle.mo_equations.specs.Replacing.{flat_at, value_or}
+use Rattle.mo_equations.specs.Size.{most_nodes, nodes_of_option, nodes_of_variable}
 use Rattle.mo_equations.specs.Variables.{Declared, binding_equation, declared_with, fits_leaf, flat_binding, flat_of_leaf, is_parameter, known_of_leaf, pending_sizes, variable_with}
 use Rattle.mo_equations.specs.steps.Declaring.{AreAttributes, AreDeclared, HasOneMore, IsAskedSo, IsBound, IsOneOf, built_held, equation_of, equation_part, equation_with, fits_these, known_of_binding, known_of_leaf_at, nodes_held, nodes_of_attributes, nodes_of_declared, place_of_option, printed_part, unknowns_with, variable_in}
 use Rattle.mo_equations.specs.steps.Desks.{Goes, IsDesk, replacing_in, tree_in}

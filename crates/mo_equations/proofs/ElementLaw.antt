@@ -1,6 +1,6 @@
 -- The value of a resolved expression at an index is that of its element, wherever both are numbers and its dimensions break no rule.
-use Rattle.std.proofs.Common.{◌≡◌, ℕ, ℤ, pos, ◌+ℤ◌, ◌-ℤ◌, ◌*ℤ◌, neg_ℤ, ◌-◌, Bool, true, false, ◌&&◌, ◌||◌, List, [], ◌∷◌, ◌++◌, map, take, drop, length, Option, Some, None, Ok, Err, refl, ap, sym, ◌∙◌, subst, arith, if◌then◌else◌, nat_eq, not, zero, suc}
-use Rattle.std.specs.Prelude.{fold, int_lt, slice_get}
+use Rattle.std.proofs.Common.{◌≡◌, ℕ, ℤ, pos, ◌+ℤ◌, ◌-ℤ◌, ◌*ℤ◌, ◌-◌, Bool, true, false, ◌&&◌, ◌||◌, List, [], ◌∷◌, ◌++◌, map, take, drop, length, Option, Some, None, Ok, Err, refl, ap, sym, ◌∙◌, subst, arith, if◌then◌else◌, nat_eq, not, zero, suc}
+use Rattle.std.specs.Prelude.{fold, slice_get}
 use Rattle.std.proofs.lemmas.Int.{ints}
 use Rattle.mo_syntax.specs.Outcome.{Outcome, and_then, breaks}
 use Rattle.mo_syntax.specs.declared.meaning.ClassId.{ClassId}
@@ -24,11 +24,10 @@ use Rattle.mo_arrays.specs.Elements as element
 use Rattle.mo_arrays.specs.Elements.{element_node, element_of, element_of_node, element_part, plain}
 use Rattle.mo_values.specs.declared.value.Reckoned.{Reckoned}
 use Rattle.mo_values.specs.declared.value.Reckoned.TheVariants.{Unknown, Outside, Is}
-use Rattle.mo_values.specs.declared.value.Scalar.{Scalar}
 use Rattle.mo_values.specs.declared.value.Scalar.TheVariants.{Whole, Truth, Literal}
 use Rattle.mo_values.specs.Numbers.{absolute, added, fits, fitting, greater, lesser, multiplied}
 use Rattle.mo_values.specs.Scalars.{Known, absolute_of, greater_of, has_values, known_from, lesser_of, no_result, of_known, of_number, on_numbers, product_with, read_all, settled, sum_with}
-use Rattle.mo_eval.specs.Virtuals.{Resolved, Element as VirtualElement, known_of_virtuals, numbered}
+use Rattle.mo_eval.specs.Virtuals.{known_of_virtuals, numbered}
 use Rattle.mo_values.specs.Walk as walk
 use Rattle.mo_values.specs.Walk.{both, kind_or_real, known_by, known_part, number, read_as, result_node, result_of_node}
 use Rattle.mo_equations.specs.ElementValues.{ElementsHaveTheirValues, Number, called, known_number, magnitude, number_by, number_node, on_both, on_one, with_factor, with_term}

@@ -1,8 +1,7 @@
 -- What instances give, by their variables, the frames of their classes, and what comes of the sections of these.
-use Rattle.std.proofs.Common.{◌≡◌, ℕ, List, [], ◌∷◌, ◌++◌, flat_map, map, Result, Ok, Err, refl, ap, subst, sym, ◌∙◌, append_assoc}
+use Rattle.std.proofs.Common.{◌≡◌, ℕ, List, [], ◌∷◌, ◌++◌, flat_map, map, Result, Ok, Err, refl, ap, subst, sym, ◌∙◌}
 use Rattle.std.specs.Prelude.{IfErr, IfOk}
 use Rattle.mo_syntax.specs.Outcome.{IfBroken, Outcome, and_then}
-use Rattle.mo_syntax.specs.declared.place.Broken.{Broken}
 use Rattle.mo_syntax.specs.declared.place.NoMemory.{NoMemory}
 use Rattle.mo_syntax.specs.declared.place.Stop.{Stop}
 use Rattle.mo_syntax.specs.declared.place.Stop.TheVariants.{Broken as broken_by, NoMemory as no_memory}
@@ -28,7 +27,7 @@ use Rattle.mo_equations.specs.Variables.{Declared, all_declared}
 use Rattle.mo_equations.specs.steps.Declaring.{AreDeclared, expanded_from}
 use Rattle.mo_equations.specs.steps.Desks.{tree_in}
 use Rattle.mo_equations.specs.steps.Flats.{Answers}
-use Rattle.mo_equations.specs.steps.Placing.{AreParts, GivesParts, frames_of_instances, parts_of_tree}
+use Rattle.mo_equations.specs.steps.Placing.{GivesParts, frames_of_instances, parts_of_tree}
 use Rattle.mo_equations.proofs.Lists.{flat_mapped}
 
 -- ---- all sections

@@ -1,5 +1,5 @@
 -- Expressions with their variables replaced, by their parts.
-use Rattle.std.proofs.Common.{◌≡◌, ℕ, ℤ, Bool, List, map, Ok, refl, ap, ◌∙◌}
+use Rattle.std.proofs.Common.{◌≡◌, ℕ, ℤ, Bool, List, Ok, ap, ◌∙◌}
 use Rattle.mo_syntax.specs.Outcome.{Outcome, and_then}
 use Rattle.mo_syntax.specs.declared.expr.RelOp.{RelOp}
 use Rattle.mo_flat.specs.declared.expr.FlatExpr.{FlatExpr, FlatExpr-F, fold_out-FlatExpr, map-FlatExpr, out-FlatExpr}

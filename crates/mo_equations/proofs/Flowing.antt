@@ -1,5 +1,5 @@
 -- The flows among the variables, one after another.
-use Rattle.std.proofs.Common.{◌≡◌, ℕ, zero, suc, ◌+◌, ◌<◌, ◌≤◌, Bool, true, false, cond, List, [], ◌∷◌, ◌++◌, filter, flat_map, map, take, length, Option, Some, None, option_map, is_some, refl, ap, sym, subst, ◌∙◌, arith}
+use Rattle.std.proofs.Common.{◌≡◌, ℕ, zero, suc, ◌+◌, ◌≤◌, Bool, cond, List, [], ◌∷◌, ◌++◌, flat_map, map, take, length, Option, Some, None, option_map, is_some, refl, ap, sym, subst, ◌∙◌, arith}
 use Rattle.std.specs.Prelude.{slice_get}
 use Rattle.std.proofs.lemmas.List.{append-nil, take_all}
 use Rattle.mo_syntax.specs.declared.place.Place.{Place}
@@ -8,7 +8,7 @@ use Rattle.mo_scope.specs.declared.instance.Leaf.{Leaf as LeafAt}
 use Rattle.mo_scope.specs.Frames.{Frame}
 use Rattle.mo_scope.specs.Instances.{Instance, Leaf}
 use Rattle.mo_scope.specs.Trees.{instance_in, leaf_in as leaf_seen}
-use Rattle.mo_equations.specs.Connectors.{is_connector, is_declared_flow, is_flow}
+use Rattle.mo_equations.specs.Connectors.{is_connector, is_declared_flow}
 use Rattle.mo_equations.specs.declared.leaves.Leaves.{Leaves}
 use Rattle.mo_equations.specs.Leaves.{Tree, Variable, variables_from, variables_of, with_leaf}
 use Rattle.mo_scope.specs.Worlds.{World, frames_of}

@@ -1,10 +1,9 @@
 -- The equations of a section, form by form and one after another.
-use Rattle.std.proofs.Common.{◌≡◌, ℕ, ℤ, ◌+◌, ◌<◌, ◌≤◌, Bool, true, false, cond, List, [], ◌∷◌, ◌++◌, map, take, drop, length, get_or, Option, Some, None, Result, Ok, Err, nat_lt, ltb-true, ltb-false, refl, ap, sym, subst, ◌∙◌, append_assoc, arith}
-use Rattle.std.proofs.lemmas.List.{append-nil, drop_all, drop_more, take_all, take_more}
+use Rattle.std.proofs.Common.{◌≡◌, ℕ, ℤ, ◌+◌, ◌<◌, ◌≤◌, Bool, true, false, List, [], ◌∷◌, ◌++◌, map, take, length, get_or, Result, Ok, Err, nat_lt, ltb-true, ltb-false, refl, ap, sym, subst, ◌∙◌, arith}
+use Rattle.std.proofs.lemmas.List.{take_more}
 use Rattle.mo_syntax.specs.Outcome.{IfBroken, Outcome, and_then, breach, breaks}
 use Rattle.mo_syntax.specs.declared.equation.EquationKind.{EquationKind}
 use Rattle.mo_syntax.specs.declared.equation.EquationOf.{EquationOf}
-use Rattle.mo_syntax.specs.declared.expr.Args.{Args}
 use Rattle.mo_syntax.specs.declared.expr.Expr.{Expr}
 use Rattle.mo_syntax.specs.declared.expr.IndexOf.{IndexOf}
 use Rattle.mo_syntax.specs.declared.expr.ReferenceOf.{ReferenceOf}
@@ -13,36 +12,29 @@ use Rattle.mo_syntax.specs.declared.place.Place.{Place}
 use Rattle.mo_syntax.specs.declared.place.Stop.{Stop}
 use Rattle.mo_syntax.specs.declared.place.Stop.TheVariants.{Broken as broken_by, NoMemory as no_memory}
 use Rattle.mo_flat.specs.declared.expr.FlatExpr.{FlatExpr}
-use Rattle.mo_scope.specs.Frames.{Frame, Scope}
+use Rattle.mo_scope.specs.Frames.{Frame}
 use Rattle.mo_flat.specs.declared.connect.Connect.{Connect}
 use Rattle.mo_scope.specs.Outcome as seen
 use Rattle.mo_scope.specs.declared.source.ScopeAt.{ScopeAt}
-use Rattle.mo_scope.specs.Worlds.{World, Grows, IsFrame, frame_in, frames_of, scope_in}
+use Rattle.mo_scope.specs.Worlds.{World, Grows, IsFrame, frames_of, scope_in}
 use Rattle.mo_names.proofs.Later.{frame_later}
 use Rattle.mo_typing.specs.Outcome as told
 use Rattle.mo_syntax.specs.declared.rules.TheConstants.{FLAT_MODEL_TOO_LARGE}
-use Rattle.mo_values.specs.Scalars.{Known}
-use Rattle.mo_values.specs.declared.value.Scalar.{Scalar}
-use Rattle.mo_values.specs.declared.value.Scalar.TheVariants.{Whole, Truth, Literal}
 use Rattle.mo_equations.specs.declared.desk.Desk.{Desk}
 use Rattle.mo_equations.specs.declared.flat.Flat.{Flat}
 use Rattle.mo_equations.specs.declared.forms.Site.{Site as SiteAt}
-use Rattle.mo_equations.specs.declared.joining.Choice.{Choice as ChoiceAt}
 use Rattle.mo_equations.specs.declared.made.Made.{Made as MadeAt}
 use Rattle.mo_equations.specs.Ends.{connect_of}
-use Rattle.mo_equations.specs.Equalities.{equalities}
-use Rattle.mo_equations.specs.Equations.{Former, Site, all_made, condition_known, flat_condition, in_branch, made_call, made_choice, made_connect, made_form, made_kind, made_loop, numbers_of_index, undecided_branch, with_iteration}
-use Rattle.mo_equations.specs.Gathering.{Made, Turning, all_beside, beside, gathered, made_connects, made_equations, most_turns, nothing, one_turn, turn_each, turn_none, turn_then}
+use Rattle.mo_equations.specs.Equations.{Site, flat_condition, in_branch, made_connect, made_loop, numbers_of_index, with_iteration}
+use Rattle.mo_equations.specs.Gathering.{Made, Turning, gathered, made_connects, most_turns, one_turn, turn_each, turn_none, turn_then}
 use Rattle.mo_equations.specs.Joining.{Choice, made_if}
 use Rattle.mo_equations.specs.Leaves.{Tree, place_of_root}
-use Rattle.mo_equations.specs.steps.Choices.{AreBranches, IsChoice}
-use Rattle.mo_equations.specs.steps.Equalities.{GivesEquations}
 use Rattle.mo_equations.specs.steps.Flats.{Answers, IsFlat}
 use Rattle.mo_equations.specs.steps.Makings.{IsMade}
-use Rattle.mo_equations.specs.steps.Turns.{GivesBranch, GivesChoice, GivesMade, all_made_at, branch_at, choice_at, formed_at, made_turns, site_in, undecided_at}
+use Rattle.mo_equations.specs.steps.Turns.{GivesBranch, GivesChoice, GivesMade, all_made_at, site_in, undecided_at}
 use Rattle.mo_equations.specs.steps.Desks.{Goes, IsDesk, tree_in}
 use Rattle.mo_equations.proofs.Staying.{same_tree}
-use Rattle.mo_equations.proofs.Turning.{Gathers, gathers, gathers_more, turn_append, turn_halts}
+use Rattle.mo_equations.proofs.Turning.{Gathers, turn_halts}
 
 -- ---- later worlds
 

@@ -1,5 +1,5 @@
 -- An end of a connect has as many elements as its dimensions say.
-use Rattle.std.proofs.Common.{◌≡◌, ◌≢◌, ℕ, zero, suc, ◌+◌, ◌*◌, Bool, true, false, cond, List, [], ◌∷◌, ◌++◌, flat_map, map, length, Option, Some, None, Ok, Err, refl, sym, ap, ◌∙◌, subst, arith, if◌then◌else◌, nat_eq}
+use Rattle.std.proofs.Common.{◌≡◌, ℕ, suc, ◌+◌, ◌*◌, Bool, true, false, List, [], ◌∷◌, ◌++◌, flat_map, map, length, Option, Some, None, Ok, Err, refl, sym, ap, ◌∙◌, subst, arith, if◌then◌else◌, nat_eq}
 use Rattle.std.specs.Prelude.{is_ok}
 use Rattle.std.proofs.Math.Nat.{mul_assoc, suc-mul}
 use Rattle.std.proofs.lemmas.List.{append-nil, length-append, length-map}
@@ -7,12 +7,10 @@ use Rattle.mo_syntax.specs.Outcome.{Outcome, and_then}
 use Rattle.mo_syntax.specs.declared.expr.Expr.{Expr}
 use Rattle.mo_syntax.specs.declared.expr.PartOf.{PartOf}
 use Rattle.mo_syntax.specs.declared.expr.ReferenceOf.{ReferenceOf}
-use Rattle.mo_syntax.specs.declared.place.Broken.{Broken}
 use Rattle.mo_syntax.specs.declared.place.Place.{Place}
 use Rattle.mo_flat.specs.declared.array.Subscript.{Subscript}
 use Rattle.mo_flat.specs.declared.array.Subscript.TheVariants.{All, One, Many}
 use Rattle.mo_flat.specs.declared.connect.End.{End}
-use Rattle.mo_flat.specs.declared.connect.EndLeaf.{EndLeaf}
 use Rattle.mo_flat.specs.declared.connect.Side.{Side}
 use Rattle.mo_flat.specs.declared.connect.Side.TheVariants.{Inside, Outside, Neither}
 use Rattle.mo_flat.specs.SoundArray.{element_count}
@@ -20,7 +18,7 @@ use Rattle.mo_scope.specs.Frames.{Member, Scope}
 use Rattle.mo_scope.specs.Places.{Every}
 use Rattle.mo_scope.specs.Rows.{Table}
 use Rattle.mo_typing.specs.Dims.{Dims, kept, subscripted}
-use Rattle.mo_typing.specs.Indices.{Index, numbers_to}
+use Rattle.mo_typing.specs.Indices.{Index}
 use Rattle.mo_typing.specs.Outcome.{each}
 use Rattle.mo_typing.specs.Shape.{size_of}
 use Rattle.mo_typing.specs.Subscripts.{Checked, both, fine, subscript, subscripts}

@@ -1,5 +1,5 @@
 -- What is known of expressions, one number after another.
-use Rattle.std.proofs.Common.{◌≡◌, ℕ, ℤ, suc, ◌+◌, ◌<◌, ◌≤◌, List, [], ◌∷◌, ◌++◌, get_or, length, map, Option, Some, None, Result, Ok, Err, refl, ap, sym, ◌∙◌, subst, arith}
+use Rattle.std.proofs.Common.{◌≡◌, ℕ, ℤ, ◌+◌, ◌<◌, ◌≤◌, List, [], ◌∷◌, get_or, length, map, Result, Ok, Err, refl, ap, sym, ◌∙◌, subst}
 use Rattle.std.proofs.lemmas.Option.{get_or_from_slice_get}
 use Rattle.mo_syntax.specs.Outcome.{Outcome, and_then, breach}
 use Rattle.mo_syntax.specs.declared.expr.Expr.{Expr}
@@ -33,12 +33,12 @@ use Rattle.mo_eval.specs.Components.{place_of, reader}
 use Rattle.mo_values.specs.Scalars.{Known, settled}
 use Rattle.mo_values.specs.Walk.{kind_or_real, known_by, known_part, result_node, result_of_node}
 use Rattle.mo_eval.specs.Virtuals.{known_of_virtuals, numbered, Resolved, Virtual}
-use Rattle.mo_eval.specs.Seen.{AreThere, resolved_seen, virtuals_seen}
+use Rattle.mo_eval.specs.Seen.{AreThere, resolved_seen}
 use Rattle.mo_eval.specs.Values.{known_of, most_references, reading, resolved_for_value}
 use Rattle.mo_eval.proofs.Grown.{same_virtuals}
 use Rattle.mo_equations.specs.Equations.{range_numbers, vector_size}
 use Rattle.mo_equations.specs.Leaves.{Tree}
-use Rattle.mo_equations.specs.steps.Ranges.{GivesNumbers, known_so, numbers_seen}
+use Rattle.mo_equations.specs.steps.Ranges.{known_so}
 use Rattle.mo_equations.proofs.Eaching.{Left, left_halts}
 use Rattle.mo_equations.proofs.Ranged.{length_numbers, number_at}
 

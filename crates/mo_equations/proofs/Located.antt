@@ -1,5 +1,5 @@
 -- The leaves below a path, by the numbers that are kept under its text; and the flows among them.
-use Rattle.std.proofs.Common.{◌≡◌, ℕ, zero, suc, ◌+◌, ◌-◌, ◌<◌, ◌≤◌, Bool, true, false, cond, ◌&&◌, ◌||◌, List, [], ◌∷◌, ◌++◌, find, filter, flat_map, map, length, Option, Some, None, option_map, is_some, if◌then◌else◌, nat_eq, refl, ap, sym, ◌∙◌, subst, append_assoc, eq-eqb, eqb-true, arith}
+use Rattle.std.proofs.Common.{◌≡◌, ℕ, zero, suc, ◌+◌, ◌-◌, ◌<◌, ◌≤◌, Bool, true, false, cond, ◌&&◌, List, [], ◌∷◌, ◌++◌, find, flat_map, map, Option, Some, None, option_map, is_some, if◌then◌else◌, nat_eq, refl, ap, sym, ◌∙◌, subst, append_assoc, eq-eqb, eqb-true, arith}
 use Rattle.std.specs.List.{list_any}
 use Rattle.std.specs.Prelude.{slice_get}
 use Rattle.std.specs.Str.{bytes_eq}
@@ -8,14 +8,14 @@ use Rattle.std.proofs.lemmas.Slice.Eq.{bytes_eq-Decides}
 use Rattle.mo_flat.specs.declared.connect.EndLeaf.{EndLeaf}
 use Rattle.mo_scope.specs.declared.instance.Instance.{Instance as InstanceAt}
 use Rattle.mo_scope.specs.declared.instance.Leaf.{Leaf as LeafAt}
-use Rattle.mo_scope.specs.Frames.{Frame, Indexed, indexed_eq, numbers_eq}
+use Rattle.mo_scope.specs.Frames.{Frame, Indexed, indexed_eq}
 use Rattle.mo_scope.specs.Instances.{Instance, Leaf}
 use Rattle.mo_scope.specs.Places.{Every}
 use Rattle.mo_scope.specs.Trees.{instance_in, leaf_in as leaf_seen}
 use Rattle.mo_scope.specs.Rows.{Table}
 use Rattle.mo_equations.specs.Connectors.{is_around, is_connector, is_declared_flow, is_flow, is_joined_role, leaves_below}
-use Rattle.mo_equations.specs.Leaves.{Tree, Variable, behind, is_at_or_around, path_text, variables_from, variables_of, with_leaf}
-use Rattle.mo_equations.specs.steps.LeafTables.{ends_with, has_text, is_flow_by, is_joined_option, is_leaf, leaf_at_number, leaves_in, numbers_at, numbers_from, paths_that, prefixes, with_number, with_variable}
+use Rattle.mo_equations.specs.Leaves.{Tree, Variable, behind, path_text, variables_from, variables_of, with_leaf}
+use Rattle.mo_equations.specs.steps.LeafTables.{ends_with, has_text, is_flow_by, is_joined_option, leaf_at_number, leaves_in, numbers_at, numbers_from, paths_that, prefixes}
 use Rattle.mo_equations.proofs.Around.{any_that, leads}
 use Rattle.mo_equations.proofs.Lists.{every_mapped, flat_mapped}
 use Rattle.mo_equations.proofs.Places.{same_paths}

@@ -1,10 +1,8 @@
 -- Counted equations with more behind them.
-use Rattle.std.proofs.Common.{◌≡◌, ℕ, ◌+◌, ◌-◌, ◌<◌, ◌≤◌, ◌^◌, List, [], ◌∷◌, ◌++◌, length, min, Option, Some, None, Result, Ok, Err, refl, ap, sym, ◌∙◌, arith, length-append}
-use Rattle.std.specs.Prelude.{sum_by, IfOk, OnOk}
+use Rattle.std.proofs.Common.{◌≡◌, ℕ, ◌+◌, ◌-◌, ◌<◌, ◌≤◌, List, [], ◌∷◌, ◌++◌, length, Option, Some, None, Result, Ok, Err, refl, ap, sym, ◌∙◌, arith, length-append}
+use Rattle.std.specs.Prelude.{IfOk, OnOk}
 use Rattle.std.proofs.lemmas.List.Sums.{sum_by-append, sum_by-cons}
-use Rattle.mo_flat.specs.declared.connect.Connect.{Connect}
 use Rattle.mo_flat.specs.declared.model.FlatAssert.{FlatAssert}
-use Rattle.mo_flat.specs.declared.model.FlatEquation.{FlatEquation}
 use Rattle.mo_flat.specs.declared.expr.FlatExpr.{FlatExpr}
 use Rattle.mo_flat.specs.Nodes.{node_count}
 use Rattle.mo_equations.specs.declared.flat.Flat.{Flat}

@@ -1,5 +1,5 @@
 -- The number of the variable at a path, by the paths of all variables.
-use Rattle.std.proofs.Common.{◌≡◌, ℕ, zero, suc, ◌+◌, Bool, true, false, List, [], ◌∷◌, find, filter, map, Option, Some, None, option_map, is_some, refl, ap, sym, ◌∙◌, arith}
+use Rattle.std.proofs.Common.{◌≡◌, ℕ, ◌+◌, Bool, true, false, List, [], ◌∷◌, find, filter, map, Option, Some, None, option_map, is_some, refl, ap, ◌∙◌, arith}
 use Rattle.mo_scope.specs.declared.instance.Instance.{Instance as InstanceAt}
 use Rattle.mo_scope.specs.declared.instance.Leaf.{Leaf as LeafAt}
 use Rattle.mo_scope.specs.Frames.{Frame, Indexed, indexed_eq}
@@ -10,7 +10,7 @@ use Rattle.mo_equations.specs.declared.leaves.Leaves.{Leaves}
 use Rattle.mo_equations.specs.Leaves.{Variable, number_of, variables_from}
 use Rattle.mo_equations.specs.steps.Desks.{tree_in}
 use Rattle.mo_equations.specs.steps.LeafTables.{AreLeaves, is_leaf, number_by}
-use Rattle.mo_equations.specs.steps.Tables.{first_place, paths_seen, place_among}
+use Rattle.mo_equations.specs.steps.Tables.{paths_seen, place_among}
 
 -- ---- variables by their paths
 

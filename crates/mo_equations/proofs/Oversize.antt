@@ -1,5 +1,5 @@
 -- When a flat model will be too large, by what was counted of its parts.
-use Rattle.std.proofs.Common.{◌≡◌, ℕ, ◌+◌, ◌-◌, ◌^◌, ◌<◌, ◌≤◌, min, Bool, true, false, ◌||◌, List, [], ◌∷◌, ◌++◌, flat_map, map, length, sum_by, nat_lt, ltb-true, ltb-false, refl, ap, sym, ◌∙◌, arith}
+use Rattle.std.proofs.Common.{◌≡◌, ℕ, ◌+◌, ◌-◌, ◌^◌, ◌<◌, ◌≤◌, Bool, true, false, ◌||◌, List, [], ◌∷◌, ◌++◌, flat_map, map, length, sum_by, nat_lt, ltb-true, ltb-false, refl, ap, sym, ◌∙◌, arith}
 use Rattle.std.proofs.lemmas.List.{length-append}
 use Rattle.std.proofs.lemmas.List.Sums.{sum_by-append, sum_by-cons}
 use Rattle.mo_syntax.specs.declared.place.Place.{Place}
@@ -15,11 +15,11 @@ use Rattle.mo_equations.specs.declared.variables.Declared.{Declared as DeclaredA
 use Rattle.mo_equations.specs.Expansion.{Parts, expanded_with, name_of_root}
 use Rattle.mo_equations.specs.Gathering.{Made, all_beside, made_equations}
 use Rattle.mo_equations.specs.Leaves.{Tree, place_of_root}
-use Rattle.mo_equations.specs.Size.{is_past, model_before, most_equations, most_nodes, most_unknowns, nodes_of, nodes_of_assert, nodes_of_equation, nodes_of_variable}
+use Rattle.mo_equations.specs.Size.{is_past, model_before, most_equations, most_nodes, most_unknowns, nodes_of, nodes_of_equation, nodes_of_variable}
 use Rattle.mo_equations.specs.Variables.{Declared}
 use Rattle.mo_equations.specs.steps.Declaring.{AreDeclared, IsExpandedWith, nodes_of_declared}
 use Rattle.mo_equations.specs.steps.Flats.{are_over, capped}
-use Rattle.mo_equations.specs.steps.Makings.{IsMade, nodes_of_made}
+use Rattle.mo_equations.specs.steps.Makings.{nodes_of_made}
 use Rattle.mo_equations.specs.steps.Placing.{AreParts}
 
 over_capped : (k n : ℕ) → k < 2 ^ 64 - 1 → nat_lt k (capped n) ≡ nat_lt k n

@@ -1,11 +1,11 @@
 -- The sections of the classes of instances, one after another.
-use Rattle.std.proofs.Common.{◌≡◌, ℕ, ◌+◌, ◌<◌, ◌≤◌, Bool, true, false, List, [], ◌∷◌, ◌++◌, length, map, flat_map, reverse, take, drop, get_or, Option, Some, None, Result, Ok, Err, refl, ap, sym, subst, ◌∙◌, append_assoc, arith}
+use Rattle.std.proofs.Common.{◌≡◌, ℕ, ◌+◌, ◌<◌, Bool, true, false, List, [], ◌∷◌, ◌++◌, length, map, flat_map, reverse, take, drop, get_or, Option, Some, None, Result, Ok, Err, refl, ap, sym, subst, ◌∙◌, append_assoc, arith}
 use Rattle.std.specs.Prelude.{option_map, slice_get}
 use Rattle.mo_syntax.specs.Outcome.{IfBroken, Outcome, and_then, breaks}
 use Rattle.mo_syntax.specs.declared.class.ClassDefOf.{ClassDefOf}
 use Rattle.std.proofs.lemmas.List.{append-nil, reverse-append}
-use Rattle.mo_syntax.specs.declared.class.Body.{Body, Body-F, out-Body}
-use Rattle.mo_syntax.specs.declared.class.Item.{Item, Item-F, out-Item}
+use Rattle.mo_syntax.specs.declared.class.Body.{Body, out-Body}
+use Rattle.mo_syntax.specs.declared.class.Item.{Item}
 use Rattle.mo_syntax.specs.declared.equation.EquationKind.{EquationKind}
 use Rattle.mo_syntax.specs.declared.equation.EquationOf.{EquationOf}
 use Rattle.mo_syntax.specs.declared.meaning.FrameId.{FrameId}
@@ -14,7 +14,7 @@ use Rattle.mo_syntax.specs.declared.place.Place.{Place}
 use Rattle.mo_syntax.specs.declared.place.Stop.{Stop}
 use Rattle.mo_syntax.specs.declared.place.Stop.TheVariants.{Broken as broken_by, NoMemory as no_memory}
 use Rattle.mo_flat.specs.declared.connect.Connect.{Connect}
-use Rattle.mo_scope.specs.Frames.{Frame, Scope, Top, class_of}
+use Rattle.mo_scope.specs.Frames.{Frame, Scope, class_of}
 use Rattle.mo_scope.specs.Instances.{Instance}
 use Rattle.mo_scope.specs.Lookup.{Walked, final_frame}
 use Rattle.mo_scope.specs.Names.{walk_of}
@@ -31,9 +31,9 @@ use Rattle.mo_equations.specs.declared.desk.Desk.{Desk}
 use Rattle.mo_equations.specs.declared.made.Made.{Made as MadeAt}
 use Rattle.mo_equations.specs.declared.sections.Parts.{Parts as PartsAt}
 use Rattle.mo_equations.specs.declared.sections.Placed.{Placed as PlacedAt}
-use Rattle.mo_equations.specs.Equations.{Site, all_made, made_kind, made_section}
+use Rattle.mo_equations.specs.Equations.{made_section}
 use Rattle.mo_equations.specs.Expansion.{Parts, Placed, made_placed, parts_of, sections_at}
-use Rattle.mo_equations.specs.Gathering.{Made, Turning, all_beside, beside, gathered, nothing, turn_each, turn_none, turn_then}
+use Rattle.mo_equations.specs.Gathering.{Made, Turning, all_beside, beside, turn_each}
 use Rattle.mo_equations.specs.Leaves.{Tree}
 use Rattle.mo_equations.specs.Sections.{Section, Equations, Left_out, frames_of as frames_with_sections, section_in, sections_in}
 use Rattle.mo_equations.specs.steps.Makings.{IsMade}
@@ -42,7 +42,7 @@ use Rattle.mo_equations.specs.steps.Turns.{GivesMade, all_made_at, formed_at}
 use Rattle.mo_equations.proofs.Eaching.{each_append}
 use Rattle.mo_equations.proofs.Lists.{every_at, flat_of_map, flat_split_or, flat_taken_or, mapped_both, mapped_flat, same_default}
 use Rattle.mo_equations.proofs.Making.{made_beside}
-use Rattle.mo_equations.proofs.Turning.{all_one_more, beside_nothing, then_more, turn_append, turn_halts, turn_more}
+use Rattle.mo_equations.proofs.Turning.{all_one_more, beside_nothing, turn_append, turn_halts, turn_more}
 
 -- ---- frames
 

@@ -1,10 +1,9 @@
 -- What becomes of an expression whose variables were all asked: it is replaced, its weight is the number of its nodes, and what is filled in
 -- is that.
-use Rattle.std.proofs.Common.{◌≡◌, ℕ, ◌+◌, ◌-◌, ◌<◌, ◌^◌, Bool, true, ltb-true, List, [], ◌∷◌, ◌++◌, flat_map, map, min, Option, Some, None, Ok, Err, refl, ap, ◌∙◌, sym, subst, arith}
+use Rattle.std.proofs.Common.{◌≡◌, ℕ, ◌+◌, ◌-◌, ◌<◌, Bool, true, ltb-true, List, [], ◌∷◌, ◌++◌, flat_map, map, Option, Some, None, Ok, Err, refl, ap, ◌∙◌, sym, subst, arith}
 use Rattle.std.specs.Prelude.{sum_by, slice_get}
 use Rattle.std.proofs.lemmas.List.Sums.{sum_by-cons}
 use Rattle.mo_syntax.specs.Outcome.{Outcome, and_then}
-use Rattle.mo_syntax.specs.declared.place.Broken.{Broken}
 use Rattle.mo_flat.specs.declared.expr.FlatExpr.{FlatExpr, FlatExpr-F, fold_out-FlatExpr, ind-FlatExpr, map-FlatExpr, out-FlatExpr, roll-FlatExpr}
 use Rattle.mo_flat.specs.declared.expr.FlatExpr as flat
 use Rattle.mo_flat.specs.declared.expr.FlatExpr.TheVariants as is

@@ -1,12 +1,11 @@
 -- What stands for the elements that an expression names, step by step.
-use Rattle.std.proofs.Common.{◌≡◌, ℕ, zero, suc, ◌+◌, ◌-◌, ◌<◌, ◌≤◌, Bool, true, false, List, [], ◌∷◌, length, map, take, get_or, Option, Some, None, Result, Ok, Err, refl, ap, sym, ◌∙◌, subst, arith}
+use Rattle.std.proofs.Common.{◌≡◌, ℕ, zero, suc, ◌+◌, ◌-◌, ◌<◌, List, [], ◌∷◌, length, map, take, get_or, Option, Some, None, Result, Ok, Err, refl, ap, sym, ◌∙◌, subst, arith}
 use Rattle.std.specs.Prelude.{IfErr, IfOk, option_map, slice_get}
 use Rattle.mo_syntax.specs.Outcome.{IfBroken, Outcome, and_then, breaks}
 use Rattle.mo_syntax.specs.declared.expr.Expr.{Expr}
 use Rattle.mo_syntax.specs.declared.meaning.Kind.{Kind}
 use Rattle.mo_syntax.specs.declared.place.Broken.{Broken}
 use Rattle.mo_syntax.specs.declared.place.NoMemory.{NoMemory}
-use Rattle.mo_syntax.specs.declared.place.Place.{Place}
 use Rattle.mo_syntax.specs.declared.place.Stop.{Stop}
 use Rattle.mo_syntax.specs.declared.place.Stop.TheVariants.{Broken as broken_by, NoMemory as no_memory}
 use Rattle.mo_flat.specs.declared.expr.FlatExpr.{FlatExpr}
@@ -35,7 +34,7 @@ use Rattle.mo_eval.specs.Components.{binding_of, place_of}
 use Rattle.mo_values.specs.Scalars.{Known}
 use Rattle.mo_eval.specs.Seen.{AreThere, element_seen, virtual_seen, virtuals_seen}
 use Rattle.mo_eval.specs.Values.{resolved}
-use Rattle.mo_eval.specs.Virtuals.{Element, Virtual, Component_element, Division, Resolved}
+use Rattle.mo_eval.specs.Virtuals.{Element, Virtual, Component_element, Resolved}
 use Rattle.mo_eval.proofs.Grown.{same_element}
 use Rattle.mo_equations.specs.declared.desk.Desk.{Desk}
 use Rattle.mo_equations.specs.declared.flat.Flat.{Flat}

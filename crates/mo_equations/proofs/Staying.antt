@@ -1,6 +1,6 @@
 -- What is seen of instances stays the same in later worlds, and so do the tree of instances and what stands for elements.
 use Rattle.std.proofs.Common.{◌≡◌, ℕ, List, [], ◌∷◌, map, Option, Some, None, refl, ap, sym, ◌∙◌, subst}
-use Rattle.std.specs.Prelude.{option_map, IfSome, slice_get}
+use Rattle.std.specs.Prelude.{option_map, IfSome}
 use Rattle.mo_scope.specs.declared.instance.Chosen.{Chosen as ChosenAt}
 use Rattle.mo_scope.specs.declared.instance.Instance.{Instance as InstanceAt}
 use Rattle.mo_scope.specs.declared.instance.Leaf.{Leaf as LeafAt}
@@ -10,7 +10,7 @@ use Rattle.mo_scope.specs.Rows.{Table}
 use Rattle.mo_scope.specs.Instances.{Chosen, Leaf, Instance}
 use Rattle.mo_scope.specs.Places.{Every}
 use Rattle.mo_scope.specs.Trees.{IsChosen, IsInstance, IsLeaf, attribute_in, chosen_in, instance_in, instances_in, leaf_in}
-use Rattle.mo_scope.specs.Worlds.{World, Grows, IsFrame, frame_in, frames_of, table_in}
+use Rattle.mo_scope.specs.Worlds.{World, Grows, frame_in, frames_of, table_in}
 use Rattle.mo_names.proofs.Later.{grows_refl, grows_trans, table_later, frame_later, is_frame_later, member_later, is_member_later}
 use Rattle.mo_names.specs.Sights.{IsMember}
 use Rattle.mo_eval.specs.declared.reader.Reader.{Reader}

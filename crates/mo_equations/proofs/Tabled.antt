@@ -4,12 +4,10 @@ use Rattle.std.specs.Option.{IfSome, option_copied}
 use Rattle.std.proofs.lemmas.Bool.{ltb-false, ltb-true}
 use Rattle.std.specs.Prelude.{slice_get}
 use Rattle.std.proofs.lemmas.Option.{slice_get_past, slice_get_read}
-use Rattle.std.proofs.Common.{◌≡◌, ℕ, drop, suc, zero, ◌+◌, ◌<◌, ◌≤◌, Bool, true, false, ◌||◌, List, [], ◌∷◌, ◌++◌, length, filter, flat_map, map, take, get_or, Option, Some, None, is_some, if◌then◌else◌, nat_lt, refl, ap, sym, ◌∙◌, arith}
-use Rattle.std.specs.List.{list_any}
-use Rattle.std.proofs.lemmas.Grind.{flat_map-append}
+use Rattle.std.proofs.Common.{◌≡◌, ℕ, drop, suc, zero, ◌+◌, ◌<◌, ◌≤◌, Bool, true, false, List, [], ◌∷◌, ◌++◌, length, filter, map, take, get_or, Option, Some, None, is_some, if◌then◌else◌, nat_lt, refl, ap, sym, ◌∙◌, arith}
 use Rattle.std.proofs.lemmas.List.{append-nil, map-append, take_more, take_all}
 use Rattle.mo_scope.specs.declared.instance.Instance.{Instance as InstanceAt}
-use Rattle.mo_scope.specs.Frames.{Frame, Indexed, indexed_eq}
+use Rattle.mo_scope.specs.Frames.{Frame, Indexed}
 use Rattle.mo_scope.specs.Instances.{Instance}
 use Rattle.mo_scope.specs.Places.{Every}
 use Rattle.mo_scope.specs.Trees.{instance_in}

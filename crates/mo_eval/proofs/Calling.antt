@@ -1,5 +1,5 @@
 -- Calls by their names and their arguments.
-use Rattle.std.proofs.Common.{◌≡◌, ℕ, zero, suc, ◌+◌, ◌-◌, ◌<◌, Bool, true, false, List, [], ◌∷◌, ◌++◌, map, take, drop, length, get_or, Option, Some, None, Result, Ok, Err, refl, ap, sym, subst, append_assoc, ◌∙◌, arith}
+use Rattle.std.proofs.Common.{◌≡◌, ℕ, zero, suc, ◌+◌, ◌-◌, ◌<◌, Bool, true, false, List, [], ◌∷◌, ◌++◌, map, take, drop, length, get_or, Option, Some, None, Ok, Err, refl, ap, sym, subst, append_assoc, ◌∙◌, arith}
 use Rattle.std.specs.Prelude.{◌&&◌, ◌↔◌, IsTrue, not, is_some, if◌then◌else◌}
 use Rattle.std.specs.List.{list_all}
 use Rattle.mo_syntax.specs.Outcome.{Outcome, and_then}
@@ -26,8 +26,8 @@ use Rattle.mo_eval.specs.steps.Sites.{IsMade}
 use Rattle.mo_eval.specs.Contexts.{Part}
 use Rattle.mo_eval.specs.References.{identifier}
 use Rattle.mo_eval.specs.Calls.{has_subscripts, last_identifier}
-use Rattle.mo_eval.specs.Resolving.{all_arguments, with_argument, is_empty}
-use Rattle.mo_eval.specs.steps.Parts.{as_part, as_identifier, as_reference, made_argument, made_arguments}
+use Rattle.mo_eval.specs.Resolving.{with_argument, is_empty}
+use Rattle.mo_eval.specs.steps.Parts.{as_part, as_identifier, made_argument, made_arguments}
 use Rattle.mo_eval.specs.steps.Calling.{IsFirst, plain}
 use Rattle.mo_eval.proofs.Forms.{at_Args, at_Value, at_Partial}
 

@@ -1,5 +1,5 @@
 -- What the identifiers of a reference select, one after another.
-use Rattle.std.proofs.Common.{◌≡◌, ℕ, zero, suc, ◌+◌, ◌<◌, Bool, true, false, List, [], ◌∷◌, ◌++◌, length, drop, get_or, map, Option, Some, None, Result, Ok, Err, refl, ap, sym, subst, ◌∙◌, append_assoc, arith}
+use Rattle.std.proofs.Common.{◌≡◌, ℕ, ◌+◌, ◌<◌, Bool, List, [], ◌∷◌, ◌++◌, length, drop, get_or, Option, Some, None, Ok, Err, refl, ap, sym, ◌∙◌, append_assoc, arith}
 use Rattle.std.specs.Prelude.{if◌then◌else◌, slice_get}
 use Rattle.std.proofs.lemmas.List.{append-nil}
 use Rattle.mo_syntax.specs.Outcome.{Outcome as Seen, and_then as then_seen, Outcome, and_then, breaks}
@@ -7,8 +7,8 @@ use Rattle.mo_syntax.specs.declared.expr.PartOf.{PartOf}
 use Rattle.mo_syntax.specs.declared.place.Place.{Place}
 use Rattle.mo_syntax.specs.declared.place.Stop.{Stop}
 use Rattle.mo_syntax.specs.declared.place.Stop.TheVariants.{Broken as broken_by, NoMemory as no_memory}
-use Rattle.mo_scope.specs.Frames.{Frame, Member}
-use Rattle.mo_scope.specs.Lookup.{Found, Component, Class, Literal, Iteration, Function, Time, Reached, Element, Other, Absent, asking_of, reached}
+use Rattle.mo_scope.specs.Frames.{Member}
+use Rattle.mo_scope.specs.Lookup.{Found, Component, Class, Literal, Iteration, Function, Time, Element, Other, Absent, asking_of, reached}
 use Rattle.mo_scope.specs.Names.{Child, child_of_member, component_frame, stands_for}
 use Rattle.mo_scope.specs.Outcome.{Gives as GivesSeen}
 use Rattle.mo_scope.specs.Rows.{Table}
@@ -23,7 +23,7 @@ use Rattle.mo_eval.specs.Virtuals.{Element as Element_of, Reading}
 use Rattle.mo_eval.specs.Contexts.{Part}
 use Rattle.mo_eval.specs.References.{Selection, agrees, component_behind, elements_below, joined, next_member, selection_at, selections, there}
 use Rattle.mo_values.specs.Selected.{selected}
-use Rattle.mo_eval.specs.steps.Selecting.{component_found, component_in, component_reached, component_standing, dims_there, each_below, elements_more, member_behind, next_among, next_if, next_selected}
+use Rattle.mo_eval.specs.steps.Selecting.{component_found, component_in, dims_there, each_below, elements_more, member_behind, next_among, next_if}
 use Rattle.mo_eval.proofs.Calling.{then_then}
 use Rattle.mo_eval.proofs.Subscripting.{then_alike}
 

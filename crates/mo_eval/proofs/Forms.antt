@@ -3,19 +3,18 @@ use Rattle.std.proofs.Common.{◌≡◌, ℕ, ℤ, Bool, ◌&&◌, List, [], ◌
 use Rattle.std.specs.Prelude.{if◌then◌else◌}
 use Rattle.std.specs.Option.{option_map}
 use Rattle.mo_syntax.specs.Outcome.{breaks}
-use Rattle.mo_syntax.specs.declared.expr.Arg.{Arg, Arg-F, para-Arg, para-roll-Arg}
+use Rattle.mo_syntax.specs.declared.expr.Arg.{Arg, Arg-F, para-roll-Arg}
 use Rattle.mo_syntax.specs.declared.expr.Arg.TheVariants.{Value, Partial, rolls-Value, rolls-Partial}
-use Rattle.mo_syntax.specs.declared.expr.Args.{Args, out-Args, roll-out-Args, para-Args, para-roll-Args}
+use Rattle.mo_syntax.specs.declared.expr.Args.{Args, out-Args, roll-out-Args, para-roll-Args}
 use Rattle.mo_syntax.specs.declared.expr.BranchOf.{BranchOf}
 use Rattle.mo_syntax.specs.declared.expr.CalleeOf.{CalleeOf}
 use Rattle.mo_syntax.specs.declared.expr.CalleeOf.TheVariants.{Named, Der, Initial, Pure}
 use Rattle.mo_syntax.specs.declared.expr.Expr.{Expr, out-Expr, roll-Expr, roll-out-Expr, para-roll-Expr}
 use Rattle.mo_syntax.specs.declared.expr.FactorOf.{FactorOf}
 use Rattle.mo_syntax.specs.declared.expr.IndexOf.{IndexOf}
-use Rattle.mo_syntax.specs.declared.expr.Node.{Node, Node-F, para-Node, para-roll-Node}
+use Rattle.mo_syntax.specs.declared.expr.Node.{Node, Node-F, para-roll-Node}
 use Rattle.mo_syntax.specs.declared.expr.Node.TheVariants.{Whole, Decimal, Str, Truth, Ref, Sum, Product, Power, Relation, Not, All, Any, Range, If, Call, Tuple, Array, ArrayFor, Matrix, EndMark}
 use Rattle.mo_syntax.specs.declared.expr.Node.TheVariants.{rolls-Whole, rolls-Decimal, rolls-Str, rolls-Truth, rolls-Ref, rolls-Sum, rolls-Product, rolls-Power, rolls-Relation, rolls-Not, rolls-All, rolls-Any, rolls-Range, rolls-If, rolls-Call, rolls-Tuple, rolls-Array, rolls-ArrayFor, rolls-Matrix, rolls-EndMark}
-use Rattle.mo_syntax.specs.declared.expr.PartOf.{PartOf}
 use Rattle.mo_syntax.specs.declared.expr.ReferenceOf.{ReferenceOf}
 use Rattle.mo_syntax.specs.declared.expr.RelOp.{RelOp}
 use Rattle.mo_syntax.specs.declared.expr.TermOf.{TermOf}
@@ -27,7 +26,7 @@ use Rattle.mo_eval.specs.Virtuals.{Ask, Making, make_from}
 use Rattle.mo_syntax.specs.declared.rules.TheConstants.{OUTSIDE_PROFILE}
 use Rattle.mo_values.specs.declared.context.Context.{Context}
 use Rattle.mo_eval.specs.Contexts.{Part}
-use Rattle.mo_eval.specs.steps.Parts.{Former, made_below, made_arguments, made_argument, as_part, as_term, as_factor, as_branch, as_identifier, as_reference, as_callee}
+use Rattle.mo_eval.specs.steps.Parts.{Former, made_below, made_arguments, made_argument, as_part, as_term, as_factor, as_branch, as_reference, as_callee}
 use Rattle.mo_eval.specs.Resolving.{made, made_node, made_expr, argument_of, arguments_of, is_empty, all_arguments}
 
 maps_alike : {A B : Type 0} (f g : A → B) → ((x : A) → f x ≡ g x) → (xs : List A) → map f xs ≡ map g xs

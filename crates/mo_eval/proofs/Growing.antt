@@ -2,7 +2,6 @@
 use Rattle.std.proofs.Common.{◌≡◌, ℕ, List, [], ◌∷◌, ◌++◌, map, Result, Ok, Err, subst, refl, ap, sym, ◌∙◌, append_assoc}
 use Rattle.mo_syntax.specs.Outcome.{Outcome, and_then}
 use Rattle.mo_syntax.specs.declared.expr.Expr.{Expr}
-use Rattle.mo_syntax.specs.declared.place.Broken.{Broken}
 use Rattle.mo_syntax.specs.declared.place.Stop.{Stop}
 use Rattle.mo_syntax.specs.declared.place.Stop.TheVariants.{Broken as broken_by, NoMemory as no_memory}
 use Rattle.mo_flat.specs.declared.array.ArrayExpr.{ArrayExpr}
@@ -14,14 +13,14 @@ use Rattle.mo_typing.specs.Outcome.{Gives}
 use Rattle.mo_values.specs.declared.context.Context.{Context}
 use Rattle.mo_eval.specs.declared.resolve.Site.{Site}
 use Rattle.mo_eval.specs.declared.virtuals.Virtual.{Virtual as VirtualAt}
-use Rattle.mo_eval.specs.Virtuals.{Element, Virtual, Making, make_then, make_each, numbered, known_of_virtuals}
+use Rattle.mo_eval.specs.Virtuals.{Element, Virtual, Making, make_then, make_each, known_of_virtuals}
 use Rattle.mo_eval.specs.Contexts.{Part}
 use Rattle.mo_eval.specs.Resolving.{made, make_part, make_parts}
 use Rattle.mo_eval.specs.Components.{reader}
 use Rattle.mo_values.specs.Scalars.{Known}
 use Rattle.mo_eval.specs.Values.{reading}
 use Rattle.mo_eval.specs.Seen.{AreThere, virtuals_seen}
-use Rattle.mo_eval.specs.steps.Sites.{scope_of, ask_of, part_in, elements_in, variables_in, IsMade}
+use Rattle.mo_eval.specs.steps.Sites.{scope_of, part_in, elements_in, IsMade}
 use Rattle.mo_eval.specs.steps.Parts.{made_two}
 use Rattle.mo_eval.proofs.Grown.{same_virtuals}
 

@@ -19,7 +19,7 @@ use Rattle.mo_eval.specs.declared.virtuals.Virtual.TheVariants.{Component}
 use Rattle.mo_eval.specs.References.{Selection, every, handed_in, kept_dims}
 use Rattle.mo_values.specs.Selected.{emptied}
 use Rattle.mo_eval.specs.Seen.{AreThere, virtual_seen, virtuals_seen}
-use Rattle.mo_eval.specs.Virtuals.{Virtual, numbers_behind}
+use Rattle.mo_eval.specs.Virtuals.{numbers_behind}
 use Rattle.mo_eval.specs.steps.Selecting.{elements_as, selection_seen, selections_seen}
 use Rattle.mo_eval.proofs.Handing.{handed_inside, handed_outside}
 

@@ -1,7 +1,7 @@
 -- What a reference makes, step by step.
-use Rattle.std.proofs.Common.{◌≡◌, ℕ, zero, suc, ◌+◌, ◌-◌, ◌<◌, Bool, List, [], ◌∷◌, ◌++◌, length, get_or, drop, map, Option, Some, Ok, Err, refl, ap, sym, ◌∙◌, rules, arith}
+use Rattle.std.proofs.Common.{◌≡◌, ℕ, zero, suc, ◌+◌, ◌-◌, Bool, List, [], ◌∷◌, ◌++◌, length, get_or, drop, map, Some, Ok, Err, refl, ap, sym, ◌∙◌, arith}
 use Rattle.std.specs.List.{list_any}
-use Rattle.mo_syntax.specs.Outcome.{Outcome, and_then, breaks}
+use Rattle.mo_syntax.specs.Outcome.{Outcome, breaks}
 use Rattle.mo_syntax.specs.declared.expr.PartOf.{PartOf}
 use Rattle.mo_syntax.specs.declared.meaning.Kind.{Kind}
 use Rattle.mo_syntax.specs.declared.place.Place.{Place}
@@ -9,8 +9,7 @@ use Rattle.mo_syntax.specs.declared.place.Stop.{Stop}
 use Rattle.mo_syntax.specs.declared.place.Stop.TheVariants.{Broken as broken_by, NoMemory as no_memory}
 use Rattle.mo_flat.specs.declared.array.ArrayNode.{ArrayNode}
 use Rattle.mo_flat.specs.declared.array.ArrayNode.TheVariants.{Vars}
-use Rattle.mo_scope.specs.Frames.{Frame, Member}
-use Rattle.mo_scope.specs.Outcome.{Gives as GivesSeen}
+use Rattle.mo_scope.specs.Frames.{Member}
 use Rattle.mo_scope.specs.Rows.{Table, is_constant}
 use Rattle.mo_scope.specs.Worlds.{World}
 use Rattle.mo_syntax.specs.declared.rules.TheConstants.{REFERENCE_CHAIN_TOO_LONG}

@@ -1,5 +1,5 @@
 -- What the components that identifiers find make, in the worlds of the code.
-use Rattle.std.proofs.Common.{◌≡◌, ℕ, zero, suc, ◌+◌, ◌-◌, ◌<◌, Bool, List, [], ◌∷◌, ◌++◌, length, get_or, drop, map, Option, Result, Some, Ok, Err, refl, ap, sym, subst, ◌∙◌, arith}
+use Rattle.std.proofs.Common.{◌≡◌, ℕ, suc, ◌+◌, ◌-◌, ◌<◌, Bool, List, [], ◌∷◌, ◌++◌, length, get_or, drop, Result, Some, Ok, Err, refl, ap, sym, subst, ◌∙◌, arith}
 use Rattle.std.specs.List.{list_any}
 use Rattle.std.proofs.lemmas.List.{length-map}
 use Rattle.mo_syntax.specs.Outcome.{Outcome, and_then, breaks}
@@ -12,7 +12,7 @@ use Rattle.mo_syntax.specs.declared.place.Stop.{Stop}
 use Rattle.mo_flat.specs.declared.array.ArrayNode.{ArrayNode}
 use Rattle.mo_flat.specs.declared.array.ArrayNode.TheVariants.{Vars}
 use Rattle.mo_flat.specs.declared.array.Subscript.{Subscript}
-use Rattle.mo_scope.specs.Frames.{Frame, Member}
+use Rattle.mo_scope.specs.Frames.{Member}
 use Rattle.mo_scope.specs.Rows.{is_constant}
 use Rattle.mo_scope.specs.Worlds.{World, Grows, IsFrame, frames_of, table_in}
 use Rattle.mo_scope.specs.declared.row.Member.{Member as MemberAt}

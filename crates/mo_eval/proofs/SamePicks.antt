@@ -15,9 +15,9 @@ use Rattle.mo_syntax.specs.declared.class.Item.{Item}
 use Rattle.mo_syntax.specs.declared.class.What.{What}
 use Rattle.mo_scope.specs.Frames.{Frame, Scope, Given, Listed, Argued, Replacing, Origin, Source, Member, sources_of}
 use Rattle.mo_scope.specs.Lookup.{Classed, asking_of, class_named, entered}
-use Rattle.mo_scope.specs.Names.{Child, child_by, child_of_member, typed_by}
+use Rattle.mo_scope.specs.Names.{Child, child_of_member, typed_by}
 use Rattle.mo_scope.specs.Parts.{Saying, Modifies, Redeclares, Redeclaration, Picked, begins_with, behind_name, brought, component_sources, declared_in, declared_sources, element_sources, first_of, held, is_nothing, names_left, parts, pending_behind, picked_here, redeclarations, redeclarations_in, redeclared, said, said_behind, said_by_all, said_by_argument, said_by_element, said_further, sources_said, through_component, with_list, written}
-use Rattle.mo_scope.specs.Rows.{Table, Constraint, Declares, Modifiers, component_of, is_class}
+use Rattle.mo_scope.specs.Rows.{Table, Constraint, Modifiers, component_of, is_class}
 use Rattle.mo_eval.specs.Components.{binding_of}
 
 -- ---- what is left without the pending indices

@@ -1,13 +1,13 @@
 -- `size` by the array and what stands behind it.
-use Rattle.std.proofs.Common.{◌≡◌, ℤ, List, [], ◌∷◌, Option, Some, None, Ok, Err, refl, ap, ◌∙◌}
-use Rattle.mo_syntax.specs.Outcome.{Outcome, and_then, breaks}
+use Rattle.std.proofs.Common.{◌≡◌, ℤ, List, [], ◌∷◌, Option, Some, Ok, Err, refl, ap, ◌∙◌}
+use Rattle.mo_syntax.specs.Outcome.{Outcome, and_then}
 use Rattle.mo_syntax.specs.declared.place.Place.{Place}
 use Rattle.mo_flat.specs.declared.array.ArrayExpr.{ArrayExpr}
 use Rattle.mo_flat.specs.declared.array.ArrayNode.{ArrayNode}
 use Rattle.mo_flat.specs.declared.array.ArrayNode.TheVariants.{Size}
 use Rattle.mo_scope.specs.Rows.{Table, table_of}
 use Rattle.mo_scope.specs.Frames.{Scope}
-use Rattle.mo_scope.specs.Worlds.{World, Grows, IsFrame, frames_of, table_in}
+use Rattle.mo_scope.specs.Worlds.{World, Grows, IsFrame, table_in}
 use Rattle.mo_scope.proofs.Numbered.{frames_stay}
 use Rattle.mo_syntax.specs.declared.expr.Arg.{Arg}
 use Rattle.mo_syntax.specs.declared.rules.TheConstants.{WRONG_TYPE}

@@ -1,5 +1,5 @@
 -- Subscripts one after another.
-use Rattle.std.proofs.Common.{◌≡◌, ℕ, zero, suc, ◌+◌, ◌<◌, ◌≤◌, ℤ, List, [], ◌∷◌, ◌++◌, length, drop, get_or, map, Option, Some, None, Result, Ok, Err, refl, ap, sym, ◌∙◌, ⊎_elim, append_assoc, length-append, add-one, arith}
+use Rattle.std.proofs.Common.{◌≡◌, ℕ, zero, suc, ◌+◌, ◌<◌, ◌≤◌, ℤ, List, [], ◌∷◌, ◌++◌, length, drop, get_or, Option, Some, None, Ok, Err, refl, ap, sym, ◌∙◌, ⊎_elim, append_assoc, length-append, add-one, arith}
 use Rattle.std.specs.Prelude.{slice_get}
 use Rattle.std.proofs.lemmas.Bool.{cases_lt}
 use Rattle.std.proofs.lemmas.List.{append-nil, drop_all, drop_more}
@@ -12,7 +12,7 @@ use Rattle.mo_typing.specs.Dims.{Dims}
 use Rattle.mo_typing.specs.Indices.{Index, numbers_to}
 use Rattle.mo_typing.specs.Outcome.{each, Gives}
 use Rattle.mo_values.specs.Scalars.{Known}
-use Rattle.mo_eval.specs.Virtuals.{Element, Resolved, known_at}
+use Rattle.mo_eval.specs.Virtuals.{Element}
 use Rattle.mo_eval.specs.Contexts.{Part, alone, place_of}
 use Rattle.mo_values.specs.Asked.{layered, only_whole, scalar_or_vector, subscript_of}
 use Rattle.mo_eval.specs.References.{read_subscript, read_subscripts}

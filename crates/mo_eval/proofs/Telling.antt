@@ -5,7 +5,6 @@ use Rattle.mo_syntax.specs.Outcome.{Outcome}
 use Rattle.mo_syntax.specs.declared.place.Stop.{Stop}
 use Rattle.mo_syntax.specs.declared.place.Stop.TheVariants.{Broken as broken_by, NoMemory as no_memory}
 use Rattle.mo_typing.specs.Outcome.{Gives}
-use Rattle.mo_eval.specs.declared.reading.Step.{Step}
 use Rattle.mo_values.specs.Scalars.{Known}
 use Rattle.mo_eval.specs.Virtuals.{Element, Virtual}
 use Rattle.mo_values.specs.Told.{Reads}

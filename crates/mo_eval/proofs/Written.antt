@@ -1,22 +1,20 @@
 -- Dimensions as they are written, in later worlds and one after another.
-use Rattle.std.proofs.Common.{◌≡◌, ℕ, zero, suc, ◌+◌, ◌-◌, ◌<◌, ◌≤◌, Bool, false, List, [], ◌∷◌, ◌++◌, length, take, get_or, map, sum_by, Option, Some, None, Result, Ok, Err, refl, ap, sym, subst, ◌∙◌, append_assoc, arith}
-use Rattle.std.specs.Prelude.{IfSome, ◌↔◌, IsTrue, option_map}
+use Rattle.std.proofs.Common.{◌≡◌, ℕ, ◌+◌, ◌-◌, ◌<◌, Bool, false, List, [], ◌∷◌, ◌++◌, length, take, get_or, Option, Some, None, Err, refl, ap, sym, ◌∙◌, append_assoc, arith}
+use Rattle.std.specs.Prelude.{◌↔◌, IsTrue}
 use Rattle.std.proofs.lemmas.List.{append-nil, map-append, take_more}
 use Rattle.std.proofs.lemmas.List.Sums.{sum_by-append}
 use Rattle.mo_syntax.specs.Outcome.{Outcome, and_then}
 use Rattle.mo_syntax.specs.declared.expr.Expr.{Expr}
-use Rattle.mo_syntax.specs.declared.class.ComponentOf.{ComponentOf}
-use Rattle.mo_syntax.specs.declared.class.Give.{Give}
 use Rattle.mo_syntax.specs.declared.place.Stop.{Stop}
 use Rattle.mo_syntax.specs.declared.place.Stop.TheVariants.{Broken as broken_by, NoMemory as no_memory}
 use Rattle.mo_scope.specs.Frames.{Frame, Scope, Member}
-use Rattle.mo_scope.specs.Names.{Child, scope_of_home}
+use Rattle.mo_scope.specs.Names.{scope_of_home}
 use Rattle.mo_scope.specs.Outcome.{Gives}
 use Rattle.mo_scope.specs.Parts.{Redeclaration}
 use Rattle.mo_scope.specs.Places.{Every}
 use Rattle.mo_scope.specs.Rows.{component_of}
 use Rattle.mo_scope.specs.Sizes.{Sizes, count_sizes, declared_sizes, or_original, sizes_from, sizes_if, sizes_in}
-use Rattle.mo_scope.specs.Worlds.{World, Grows, IsFrame, frame_at, frame_in, frames_of, scope_in, table_in}
+use Rattle.mo_scope.specs.Worlds.{World, Grows, IsFrame, frame_at, frames_of, scope_in, table_in}
 use Rattle.mo_names.proofs.Later.{frame_later, is_frame_later, table_later}
 use Rattle.mo_eval.specs.declared.sizes.Sizes.{Sizes as SizesAt}
 use Rattle.mo_eval.specs.steps.Sizing.{AreSized, redeclared_sizes, size_seen, sizes_seen}

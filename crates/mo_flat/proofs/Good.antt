@@ -1,6 +1,6 @@
 -- Sound flat expressions, form by form: what each form asks of its parts.
-use Rattle.std.proofs.Common.{◌≡◌, ◌<◌, ◌≤◌, ◌+◌, ℕ, suc, Bool, true, false, ◌&&◌, length, List, [], ◌∷◌, map, Option, Some, None, ℤ, refl, ap, ◌∙◌, sym, arith, if◌then◌else◌}
-use Rattle.std.specs.Prelude.{nat_lt, nat_le, option_map, not}
+use Rattle.std.proofs.Common.{◌≡◌, ◌<◌, ◌≤◌, ◌+◌, ℕ, suc, Bool, true, false, ◌&&◌, length, List, [], ◌∷◌, map, Option, Some, None, ℤ, refl, ap, ◌∙◌, arith, if◌then◌else◌}
+use Rattle.std.specs.Prelude.{nat_lt, nat_le, option_map}
 use Rattle.std.specs.List.{list_all, list_any}
 use Rattle.mo_syntax.specs.declared.meaning.Kind.{Kind}
 use Rattle.mo_syntax.specs.declared.meaning.Kind.TheVariants.{Real, Whole as Integer, Truth as Boolean, Str as String, Enumeration}

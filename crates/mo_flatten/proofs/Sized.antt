@@ -1,21 +1,18 @@
 -- A flat model that is not too large is sound where its parts are.
-use Rattle.std.proofs.Common.{◌≡◌, ℕ, ◌+◌, ◌<◌, ◌≤◌, Bool, true, false, ◌||◌, List, [], ◌∷◌, ◌++◌, flat_map, length, All, Result, Ok, Err, nat_lt, ltb-false, refl, ap, sym, subst, ◌∙◌, if◌then◌else◌}
+use Rattle.std.proofs.Common.{◌≡◌, ℕ, ◌+◌, ◌≤◌, Bool, true, false, ◌||◌, List, ◌++◌, flat_map, length, All, Result, Ok, Err, nat_lt, ltb-false, refl, ap, sym, subst, ◌∙◌, if◌then◌else◌}
 use Rattle.std.specs.Prelude.{IfOk}
 use Rattle.mo_syntax.specs.Outcome.{Outcome, breaks}
 use Rattle.mo_syntax.specs.declared.place.Stop.{Stop}
-use Rattle.mo_flat.specs.declared.connect.Connects.{Connects}
-use Rattle.mo_flat.specs.declared.connect.EndLeaf.{EndLeaf}
 use Rattle.mo_flat.specs.declared.connect.Expanded.{Expanded}
 use Rattle.mo_flat.specs.declared.connect.FaceSet.{FaceSet}
 use Rattle.mo_flat.specs.declared.model.FlatEquation.{FlatEquation}
 use Rattle.mo_flat.specs.declared.model.FlatModel.{FlatModel}
 use Rattle.mo_flat.specs.Sound.{IsSoundAssert, IsSoundEquation, IsSoundModel, IsSoundVariable}
-use Rattle.mo_flat.specs.SoundConnects.{IsAt}
 use Rattle.mo_scope.specs.Outcome.{Gives}
 use Rattle.mo_connect.specs.Equations.{HasNumericMembers, IsNumericVariable, equations_of}
 use Rattle.mo_connect.specs.Sets.{HasLeaves, IsOfLeaf, leaf, flow}
 use Rattle.mo_flat.specs.Roles.{unknown_numbers}
-use Rattle.mo_equations.specs.Size.{has_too_many, is_too_large, most_bytes, most_equations, most_nodes, most_unknowns, nodes_of}
+use Rattle.mo_equations.specs.Size.{has_too_many, is_too_large, most_equations, most_nodes, most_unknowns, nodes_of}
 use Rattle.mo_equations.specs.Sound.{IsSoundExpansion}
 use Rattle.mo_flatten.specs.Flat.{model_of, within_size}
 use Rattle.mo_syntax.specs.declared.rules.TheConstants.{FLAT_MODEL_TOO_LARGE}

@@ -7,7 +7,6 @@ use Rattle.mo_syntax.specs.Classes.{ClassRow, Declaration, Declared, Component, 
 use Rattle.mo_syntax.specs.ClassTable.{broken_class, class_of_path, declarations, first_row, otherwise, path_eq, path_of}
 use Rattle.mo_syntax.specs.Outcome.{Outcome, and_then, breach}
 use Rattle.mo_syntax.specs.declared.class.FileTree.{FileTree}
-use Rattle.mo_syntax.specs.declared.place.Broken.{Broken}
 use Rattle.mo_syntax.specs.declared.place.Place.{Place}
 use Rattle.mo_syntax.specs.declared.place.Stop.{Stop}
 use Rattle.mo_syntax.specs.declared.place.Stop.TheVariants.{Broken as broken_by, NoMemory as no_memory}
@@ -16,7 +15,7 @@ use Rattle.mo_flat.specs.declared.connect.Connects.{Connects as Connects_at}
 use Rattle.mo_flat.specs.declared.connect.Expanded.{Expanded}
 use Rattle.mo_flat.specs.declared.connect.FaceSet.{FaceSet}
 use Rattle.mo_flat.specs.declared.model.FlatModel.{FlatModel}
-use Rattle.mo_flat.specs.SoundConnects.{AreDistinct, IsSoundConnects}
+use Rattle.mo_flat.specs.SoundConnects.{IsSoundConnects}
 use Rattle.mo_scope.specs.Instances.{Instance}
 use Rattle.mo_scope.specs.Outcome.{Gives}
 use Rattle.mo_instance.specs.Instances.{instances_of}
@@ -29,9 +28,9 @@ use Rattle.mo_connect.specs.Sets.{AreConnectionSets, IsFirstStop}
 use Rattle.mo_equations.specs.Counted.{GivesExpansion}
 use Rattle.mo_equations.specs.Expansion.{expansion_of}
 use Rattle.mo_equations.specs.Leaves.{Tree}
-use Rattle.mo_equations.specs.Size.{is_past, is_too_large}
+use Rattle.mo_equations.specs.Size.{is_past}
 use Rattle.mo_equations.specs.declared.whole.Expansion.{Expansion}
-use Rattle.mo_flatten.specs.Flat.{Flattens, Joins, no_class, not_expanded, not_connected, joined, expansion_in, model_of, within_size}
+use Rattle.mo_flatten.specs.Flat.{Flattens, not_expanded, not_connected, joined, expansion_in, model_of, within_size}
 use Rattle.mo_flatten.specs.Told.{Connects, GivesExpanded, HasRow, IfTold, TellsOf}
 use Rattle.mo_flatten.specs.Told.{refuses, joins, stops, goes_on}
 use Rattle.mo_flatten.proofs.Past.{past_stays_past}

@@ -1,5 +1,5 @@
 -- Files give one thing only: reading them, their tokens, their trees and their classes leaves no choice.
-use Rattle.std.proofs.Common.{◌≡◌, ℕ, ◌+◌, ◌-◌, ◌<◌, ◌≤◌, Bool, true, false, List, [], ◌∷◌, ◌++◌, length, Option, Some, None, min, refl, sym, ap, subst, ◌∙◌, arith}
+use Rattle.std.proofs.Common.{◌≡◌, ℕ, ◌+◌, ◌-◌, ◌≤◌, List, [], ◌∷◌, ◌++◌, length, Some, None, min, refl, sym, ap, subst, ◌∙◌, arith}
 use Rattle.std.specs.Prelude.{IsUtf8, Result, Ok, Err}
 use Rattle.std.specs.Str.Lossy.{utf8_valid_len}
 use Rattle.std.proofs.lemmas.List.{append_cancel_left, append_assoc}
@@ -12,7 +12,7 @@ use Rattle.mo_lexer.proofs.Refusals.{same_refusal, none_where_refused}
 use Rattle.mo_grammar.specs.declared.fault.Fault.{Fault}
 use Rattle.mo_grammar.specs.declared.fault.Fault.TheVariants.{Misplaced, Misnamed, TooDeep}
 use Rattle.mo_grammar.specs.Answers.{broken_at}
-use Rattle.mo_grammar.specs.Language.{whole_limits, HasFaultAfter, Spells}
+use Rattle.mo_grammar.specs.Language.{whole_limits, HasFaultAfter}
 use Rattle.mo_grammar.specs.Grammar.{BegunIn}
 use Rattle.mo_grammar.specs.Productions.{rule}
 use Rattle.mo_grammar.specs.Symbols.{Files}
@@ -21,11 +21,9 @@ use Rattle.mo_grammar.proofs.Checked.{known}
 use Rattle.mo_grammar.proofs.Fronts.{front_begins}
 use Rattle.mo_grammar.proofs.GrammarLaws.{one_value, one_impossible}
 use Rattle.mo_grammar.proofs.Tested.{passed}
-use Rattle.mo_parse_class.specs.WholeFiles.{IsAtImpossible}
 use Rattle.mo_ports.specs.Contents.{Contents}
 use Rattle.mo_front.specs.Files.{IsText, BreaksFile, too_long, not_utf8, breaks_at, Reads, none, broken, text, later, Each, given, HasTree, HasNoTree, Tokens, Trees}
 use Rattle.mo_front.specs.Limits.{file_limit, all_files_limit}
-use Rattle.mo_syntax.specs.ClassTable.{broken_tree}
 use Rattle.mo_flatten.proofs.Alone.{flattens_alone}
 use Rattle.mo_front.specs.Told.{Outcome, flat, broken, TreesGive, no_tree, not_flattened, flattened, TextsGive, no_tokens, no_trees, trees, FilesGive, unread, read}
 use Rattle.mo_syntax.specs.declared.rules.TheConstants.{NOT_UTF_8}

@@ -1,8 +1,7 @@
 -- The trees of files are sound, as the grammar makes every tree.
-use Rattle.std.proofs.Common.{◌≡◌, ℕ, ◌+◌, Bool, true, ◌&&◌, List, [], ◌∷◌, Result, Ok, Err, All, IsTrue, refl}
+use Rattle.std.proofs.Common.{ℕ, ◌+◌, Bool, ◌&&◌, List, [], ◌∷◌, Ok, IsTrue, refl}
 use Rattle.std.specs.List.{list_all}
 use Rattle.mo_syntax.specs.declared.class.FileTree.{FileTree}
-use Rattle.mo_syntax.specs.declared.place.Broken.{Broken}
 use Rattle.mo_syntax.specs.Lexeme.{Lexeme}
 use Rattle.mo_syntax.specs.SoundTree.{IsSoundTree, any_name, is_sound_file}
 use Rattle.mo_grammar.specs.Language.{whole_limits}

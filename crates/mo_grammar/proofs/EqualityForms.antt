@@ -10,7 +10,7 @@ use Rattle.mo_syntax.specs.declared.expr.Node.TheVariants.{Call, outs-Ref, outs-
 use Rattle.mo_syntax.specs.declared.equation.EquationKind.{EquationKind}
 use Rattle.mo_grammar.specs.Codes.{ident, dot, plus, minus, dot_plus, dot_minus, or_word, and_word, colon, power, dot_power, less, less_equal, greater, greater_equal, equal_equal, not_equal}
 use Rattle.mo_grammar.specs.Lexeme.{Lexeme, code_of}
-use Rattle.mo_grammar.specs.Grammar.{Limits, token, seq, made, placed, many, symbol, has, first_passes, SpelledBy, SpelledIn, SpelledOr}
+use Rattle.mo_grammar.specs.Grammar.{Limits, token, seq, made, placed, many, symbol, has, first_passes, SpelledBy, SpelledIn}
 use Rattle.mo_grammar.specs.Reading.{first_codes, apart}
 use Rattle.mo_grammar.specs.Forms.{optional, behind}
 use Rattle.mo_grammar.specs.Trees.{expr_at, reference_tree, power_tree, product_tree, sum_tree, relation_tree, all_tree, any_tree, range_tree}

@@ -1,5 +1,5 @@
 -- Directed graphs as lists of edges, and their edges threaded by an end.
-use Rattle.std.specs.Prelude.{◌≡◌, ◌≢◌, ℕ, ◌+◌, ◌-◌, ◌<◌, ◌≤◌, List, length}
+use Rattle.std.specs.Prelude.{◌≡◌, ◌≢◌, ℕ, ◌-◌, ◌<◌, ◌≤◌, List, length}
 use Rattle.std.proofs.Common.{get_or, suc}
 use Rattle.mo_graph.specs.declared.edges.Edges.{Edges}
 

@@ -5,7 +5,7 @@ use Rattle.std.proofs.lemmas.Bool.Decides.{eqb_tells}
 use Rattle.mo_incidence.specs.Signature.{Signature, equations}
 use Rattle.mo_incidence.specs.Assignment.{Assigns, CoversAll}
 use Rattle.mo_incidence.specs.Offsets.{IsTight}
-use Rattle.mo_incidence.specs.Transversal.{Precedes, IsLeastSequence}
+use Rattle.mo_incidence.specs.Transversal.{IsLeastSequence}
 
 module _ (g : Signature) (c d t u : ℕ → ℕ) (tight : Assigns (IsTight g c d) (equations g) t) (covers : CoversAll g t) (least : IsLeastSequence g c d t)
     (tight' : Assigns (IsTight g c d) (equations g) u) (covers' : CoversAll g u) (least' : IsLeastSequence g c d u) where

@@ -1,5 +1,5 @@
 -- The values of a table as chosen expressions, and leaves.
-use Rattle.std.proofs.Common.{◌≡◌, ℕ, Bool, true, false, List, [], ◌∷◌, length, map, Option, Some, None, Ok, refl, ap, sym, ◌∙◌}
+use Rattle.std.proofs.Common.{◌≡◌, ℕ, Bool, true, false, List, [], length, map, Option, Some, None, Ok, refl, ap, sym, ◌∙◌}
 use Rattle.std.specs.Prelude.{◌&&◌, not, option_map, IfSome, if◌then◌else◌}
 use Rattle.mo_syntax.specs.Outcome.{breaks}
 use Rattle.mo_syntax.specs.declared.meaning.Kind.{Kind}

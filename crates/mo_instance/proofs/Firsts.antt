@@ -1,14 +1,14 @@
 -- What stands first in the text of the parts of a class.
-use Rattle.std.proofs.Common.{◌≡◌, ℕ, Bool, true, false, List, [], ◌∷◌, ◌++◌, map, flat_map, Option, Some, None, refl, ap, sym, ◌∙◌}
+use Rattle.std.proofs.Common.{◌≡◌, Bool, true, false, List, [], ◌∷◌, ◌++◌, Option, Some, None, refl, ap, sym, ◌∙◌}
 use Rattle.std.specs.List.{list_any}
-use Rattle.std.specs.Prelude.{◌&&◌, filter, if◌then◌else◌, nat_lt, option_map}
+use Rattle.std.specs.Prelude.{filter, if◌then◌else◌, nat_lt, option_map}
 use Rattle.mo_syntax.specs.Outcome.{breaks}
 use Rattle.mo_syntax.specs.declared.class.Element.{Element}
 use Rattle.mo_syntax.specs.declared.place.Place.{Place}
 use Rattle.mo_scope.specs.Parts.{declared_in}
-use Rattle.mo_scope.specs.Redeclarations.{Checked, fine}
-use Rattle.mo_scope.specs.Rows.{Table, Row, Declares, Part, Element_of, Base_of, Clause, is_class, clauses_in, elements_in}
-use Rattle.mo_instance.specs.Checks.{earlier_of, first_in_text, is_inner_or_outer, unless_any, unless_bases, wrongly_inner}
+use Rattle.mo_scope.specs.Redeclarations.{fine}
+use Rattle.mo_scope.specs.Rows.{Table, Declares, Part, Element_of, Base_of, is_class, clauses_in, elements_in}
+use Rattle.mo_instance.specs.Checks.{earlier_of, first_in_text, is_inner_or_outer, unless_any, unless_bases}
 use Rattle.mo_instance.specs.steps.Firsts.{earlier_place, first_replaced, first_wrong, part_is_base, place_in_part, wrong_parts, wrong_place}
 use Rattle.mo_syntax.specs.declared.rules.TheConstants.{OUTSIDE_PROFILE, MODIFIED_ELEMENT_NOT_FOUND}
 

@@ -1,12 +1,12 @@
 -- Whether a type is declared `input`, class after class.
-use Rattle.std.proofs.Common.{◌≡◌, ℕ, zero, suc, ◌+◌, ◌-◌, ◌<◌, Bool, true, false, Option, Some, None, Result, Ok, Err, refl, ap, sym, ◌∙◌, arith}
+use Rattle.std.proofs.Common.{◌≡◌, ℕ, zero, suc, ◌-◌, ◌<◌, Bool, true, false, Option, Some, None, Ok, Err, refl, ap, sym, ◌∙◌, arith}
 use Rattle.std.specs.Prelude.{◌||◌, if◌then◌else◌}
 use Rattle.mo_scope.specs.Rows.{Table, Row, row_at, Form, Short_class, Long_class, Enumeration_class, Other_class}
 use Rattle.mo_scope.specs.Frames.{Frame, class_of}
 use Rattle.mo_scope.specs.Names.{clauses_of, walk_of}
 use Rattle.mo_scope.specs.Sizes.{first_base, is_leaf, leaf_base}
 use Rattle.mo_instance.specs.Prefixes.{input_by, input_from, input_of_base, input_of_form, input_of_short, is_input}
-use Rattle.mo_instance.specs.steps.Ways.{Step, Is_input, Is_none, On_base, input_by_step, input_way, long_way, short_way, step_on, step_to, way_of_form, way_of_row, way_taken}
+use Rattle.mo_instance.specs.steps.Ways.{Is_input, Is_none, On_base, input_by_step, input_way, step_on, step_to, way_of_form, way_of_row, way_taken}
 use Rattle.mo_syntax.specs.Outcome.{Outcome}
 
 module _ (table : Table) (next : Frame → Bool) (frame : Frame) where

@@ -7,7 +7,7 @@ use Rattle.mo_scope.specs.Rows.{Table, number_of_classes}
 use Rattle.mo_scope.specs.Instances.{Chosen, Leaf, Instance}
 use Rattle.mo_scope.specs.Lookup.{Walked}
 use Rattle.mo_scope.specs.Places.{Every}
-use Rattle.mo_scope.specs.Worlds.{World, Grows, IsFrame, frame_in, frames_of, sources_in, table_in}
+use Rattle.mo_scope.specs.Worlds.{World, Grows, frame_in, frames_of, sources_in, table_in}
 use Rattle.mo_names.proofs.Later.{grows_refl, grows_trans, table_later, frame_later, is_frame_later, member_later, is_member_later, is_walk_later, walk_later}
 use Rattle.mo_names.specs.declared.found.Child.{Child as ChildAt}
 use Rattle.mo_names.specs.declared.walk.Walk.{Walk}
@@ -15,8 +15,6 @@ use Rattle.mo_names.specs.Children.{IsChild, child_seen}
 use Rattle.mo_names.proofs.Children.{wins_later, wins_stand_later, sources_later}
 use Rattle.mo_scope.specs.Sights.{redeclaration_in, source_seen}
 use Rattle.mo_eval.proofs.Grown.{kept_still}
-use Rattle.mo_eval.specs.Keeping.{IsKept}
-use Rattle.mo_eval.specs.declared.reader.Reader.{Reader}
 use Rattle.mo_scope.specs.declared.instance.Chosen.{Chosen as ChosenAt}
 use Rattle.mo_scope.specs.declared.instance.Instance.{Instance as InstanceAt}
 use Rattle.mo_scope.specs.declared.instance.Leaf.{Leaf as LeafAt}

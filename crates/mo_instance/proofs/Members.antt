@@ -1,15 +1,15 @@
 -- What the elements of a frame have in common: the frames that declare them have its path, their names pass a test and differ.
-use Rattle.std.proofs.Common.{◌≡◌, ℕ, zero, suc, ◌+◌, Bool, true, false, List, [], ◌∷◌, ◌++◌, map, Option, Some, None, Result, Ok, Err, refl, ap, sym, subst, ◌∙◌}
+use Rattle.std.proofs.Common.{◌≡◌, ℕ, zero, suc, ◌+◌, Bool, true, false, List, [], ◌∷◌, ◌++◌, Option, Some, None, Ok, Err, refl, subst, ◌∙◌}
 use Rattle.std.specs.Prelude.{◌||◌, nat_eq, if◌then◌else◌, IsTrue}
 use Rattle.std.specs.List.{list_any}
 use Rattle.std.specs.Str.{bytes_eq}
-use Rattle.mo_syntax.specs.Outcome.{Outcome, and_then, breaks}
+use Rattle.mo_syntax.specs.Outcome.{Outcome, breaks}
 use Rattle.mo_syntax.specs.declared.place.Place.{Place}
 use Rattle.mo_syntax.specs.SoundTree.{Naming, any_name}
 use Rattle.mo_scope.specs.Places.{Every, IfAny, Answers, HoldsOf}
 use Rattle.mo_scope.specs.Rows.{Table, Row, row_at, number_of_classes, Part, Element_of, Base_of, Clause, is_left_out}
-use Rattle.mo_scope.specs.Frames.{Frame, Top, In, at_of, class_of}
-use Rattle.mo_scope.specs.Lookup.{Inherited, Walked, Asking, base_class, base_frame, base_of, contains, hidden_if, is_counted, last_place, leaf_checked, leaf_of, not_counted, nothing_walked, through_base, walked, walked_class, walked_parts, walked_row, with_base, with_busy, with_member, with_members}
+use Rattle.mo_scope.specs.Frames.{Frame, at_of, class_of}
+use Rattle.mo_scope.specs.Lookup.{Inherited, Walked, Asking, base_class, base_of, contains, hidden_if, last_place, leaf_checked, leaf_of, not_counted, nothing_walked, through_base, walked, walked_class, walked_parts, with_base, with_busy, with_member, with_members}
 use Rattle.mo_scope.specs.Names.{walk_of}
 use Rattle.mo_scope.proofs.laws.Standing.{any_find, every_append, every_map, every_weaker, if_answers, if_list, then_answers}
 use Rattle.mo_syntax.specs.declared.rules.TheConstants.{WRONG_KIND_OF_NAME, INHERITED_ELEMENTS_CLASH}

@@ -5,7 +5,7 @@ use Rattle.std.specs.List.{list_any}
 use Rattle.std.specs.Str.{bytes_eq}
 use Rattle.std.proofs.lemmas.List.{reverse-append}
 use Rattle.mo_syntax.specs.declared.meaning.FrameId.{FrameId}
-use Rattle.mo_scope.specs.Frames.{Frame, Member}
+use Rattle.mo_scope.specs.Frames.{Frame}
 use Rattle.mo_scope.specs.Lookup.{members_in, named}
 use Rattle.mo_scope.specs.Sights.{member_seen}
 use Rattle.mo_scope.specs.Sizes.{is_nothing}

@@ -1,5 +1,5 @@
 -- Outer components and their inner ones, in later worlds.
-use Rattle.std.proofs.Common.{◌≡◌, ℕ, Bool, true, false, List, [], ◌∷◌, Some, Result, Ok, Err, refl, ap, sym, ◌∙◌}
+use Rattle.std.proofs.Common.{◌≡◌, Bool, true, false, List, [], Ok, Err, ap, sym, ◌∙◌}
 use Rattle.std.specs.Prelude.{nat_eq, if◌then◌else◌}
 use Rattle.mo_syntax.specs.Outcome.{Outcome, and_then, breaks}
 use Rattle.mo_syntax.specs.declared.place.Broken.{Broken}
@@ -14,7 +14,7 @@ use Rattle.mo_names.specs.Children.{IsChild, child_seen}
 use Rattle.mo_names.specs.Sights.{IsMember, member_of}
 use Rattle.mo_names.specs.declared.found.Child.{Child as ChildAt}
 use Rattle.mo_names.proofs.Later.{grows_trans, member_later, table_later}
-use Rattle.mo_instance.specs.Outer.{as_differing, has_condition, is_alike, is_matched, is_wrongly_outer, outer_checked}
+use Rattle.mo_instance.specs.Outer.{as_differing, is_alike, is_matched, is_wrongly_outer, outer_checked}
 use Rattle.mo_instance.specs.steps.Outer.{compared_frames, inner_asked, matched_children}
 use Rattle.mo_instance.proofs.Later.{child_later}
 use Rattle.mo_syntax.specs.declared.rules.TheConstants.{INNER_DIFFERS, OUTSIDE_PROFILE, NOT_COMPATIBLE}

@@ -1,12 +1,9 @@
 -- The first pass over arguments, by the least rule of each.
 use Rattle.std.proofs.Common.{◌≡◌, ℕ, Bool, true, false, List, [], ◌∷◌, ◌++◌, map, flat_map, Option, Some, None, refl, ap, sym, ◌∙◌}
-use Rattle.std.specs.Prelude.{◌&&◌, ◌||◌, not, find, if◌then◌else◌, option_map}
-use Rattle.std.specs.List.{list_any}
-use Rattle.std.specs.Str.{bytes_eq}
+use Rattle.std.specs.Prelude.{◌&&◌, if◌then◌else◌, option_map}
 use Rattle.mo_syntax.specs.Outcome.{breach}
 use Rattle.mo_syntax.specs.declared.place.Broken.{Broken}
 use Rattle.mo_syntax.specs.declared.place.Place.{Place}
-use Rattle.mo_syntax.specs.ClassTable.{path_eq}
 use Rattle.mo_scope.specs.Rows.{Table}
 use Rattle.mo_scope.specs.Frames.{Frame, Member, Origin, Elsewhere, Own_of, Constraint_of, Source}
 use Rattle.mo_scope.specs.Arguments.{Claim, least, or_later}

@@ -1,13 +1,12 @@
 -- The instances of a class are a tree: each has a path of its own, below an instance before it, and the path of its frame.
-use Rattle.std.proofs.Common.{◌≡◌, ℕ, zero, suc, ◌+◌, ◌-◌, ◌<◌, ◌⊎◌, inl, inr, Bool, true, false, List, [], ◌∷◌, ◌++◌, length, map, flat_map, get_or, Option, Some, None, Result, Ok, Err, refl, ap, sym, subst, ◌∙◌, arith, append_assoc, append-nil}
-use Rattle.std.specs.Prelude.{◌≢◌, ◌&&◌, if◌then◌else◌, option_map, IsTrue, All, Any}
+use Rattle.std.proofs.Common.{◌≡◌, ℕ, zero, suc, ◌+◌, ◌-◌, ◌<◌, ◌⊎◌, inl, inr, Bool, true, false, List, [], ◌∷◌, ◌++◌, map, flat_map, Option, Some, None, Ok, Err, refl, ap, sym, subst, ◌∙◌, arith, append_assoc, append-nil}
+use Rattle.std.specs.Prelude.{◌≢◌, ◌&&◌, if◌then◌else◌, option_map, IsTrue, Any}
 use Rattle.std.specs.List.{list_all}
 use Rattle.std.specs.List.{AllByRecursion}
 use Rattle.std.proofs.lemmas.List.Elements.{All-from_recursion}
 use Rattle.std.specs.Str.{bytes_eq}
-use Rattle.mo_syntax.specs.Outcome.{Outcome, and_then, breaks}
+use Rattle.mo_syntax.specs.Outcome.{Outcome, and_then}
 use Rattle.mo_syntax.specs.SoundTree.{Naming, any_name}
-use Rattle.mo_syntax.specs.declared.place.Broken.{Broken}
 use Rattle.mo_syntax.specs.declared.place.Place.{Place}
 use Rattle.mo_scope.specs.Places.{Every}
 use Rattle.mo_scope.specs.Rows.{Table, Row, is_class, number_of_classes, row_at}
@@ -15,7 +14,7 @@ use Rattle.mo_scope.specs.Frames.{Frame, Indexed, Member, at_of, class_of, sourc
 use Rattle.mo_scope.specs.Arguments.{second_pass}
 use Rattle.mo_scope.specs.Lookup.{Inherited, Walked, final_frame, members_in}
 use Rattle.mo_scope.specs.Names.{Child, child_of_member, component_frame, walk_of}
-use Rattle.mo_scope.specs.Instances.{Instance, Leaf, IsAt, IsBelow, Follows, Follow, IsRoot, IsInstanceTree, tree}
+use Rattle.mo_scope.specs.Instances.{Instance, Leaf, IsAt, IsBelow, Follow, IsInstanceTree, tree}
 use Rattle.mo_scope.specs.Redeclarations.{Checked, each_checked, redeclarations_checked}
 use Rattle.mo_scope.proofs.laws.Standing.{every_append, every_back, every_front, every_weaker, every_map}
 use Rattle.mo_mods.proofs.PathTests.{text_test}
@@ -27,7 +26,7 @@ use Rattle.mo_instance.specs.Elements.{Around, class_place, instance_of, leaf_of
 use Rattle.mo_instance.specs.Instances.{Adding, Parts, Deeper, adding_each, around_root, component_entered, deeper, element_entered, entered_by, instances_by, instances_in, instances_of, member_entered, most_names, parts_entered, root_frame, root_instance}
 use Rattle.mo_instance.specs.Outer.{outer_checked}
 use Rattle.mo_instance.specs.Passes.{first_pass}
-use Rattle.mo_instance.specs.steps.Instances.{component_asked, is_entered}
+use Rattle.mo_instance.specs.steps.Instances.{component_asked}
 use Rattle.mo_instance.proofs.Members.{Different, IsWalkedOf, RowNamed, all_named, walk_has}
 use Rattle.mo_instance.proofs.Walking.{component_is, elements_of}
 

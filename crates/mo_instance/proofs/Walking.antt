@@ -1,5 +1,5 @@
 -- The walk over components, one step after another.
-use Rattle.std.proofs.Common.{◌≡◌, ℕ, zero, suc, ◌+◌, ◌-◌, ◌<◌, ◌≤◌, Bool, true, false, List, [], ◌∷◌, ◌++◌, length, map, flat_map, drop, get_or, Option, Some, None, Result, Ok, Err, refl, ap, sym, subst, ◌∙◌, arith, append_assoc, eqb-true}
+use Rattle.std.proofs.Common.{◌≡◌, ℕ, zero, suc, ◌+◌, ◌-◌, ◌<◌, ◌≤◌, Bool, true, false, List, [], ◌∷◌, ◌++◌, length, map, flat_map, drop, get_or, Option, Ok, Err, refl, ap, sym, subst, ◌∙◌, arith, append_assoc, eqb-true}
 use Rattle.std.specs.Prelude.{◌||◌, if◌then◌else◌, nat_eq}
 use Rattle.std.specs.List.{list_any}
 use Rattle.std.proofs.lemmas.List.{map-append}
@@ -13,7 +13,7 @@ use Rattle.mo_scope.specs.Lookup.{Walked}
 use Rattle.mo_scope.specs.Names.{Child, child_of_member, component_frame}
 use Rattle.mo_scope.specs.Compatible.{prefix_of}
 use Rattle.mo_scope.specs.Instances.{Instance, Leaf}
-use Rattle.mo_scope.specs.Redeclarations.{Checked, fine}
+use Rattle.mo_scope.specs.Redeclarations.{Checked}
 use Rattle.mo_scope.specs.Worlds.{World, Grows, frames_of, table_in}
 use Rattle.mo_scope.specs.declared.row.Member.{Member as MemberAt}
 use Rattle.mo_names.specs.declared.walk.Inherited.{Inherited as InheritedAt}
@@ -28,7 +28,7 @@ use Rattle.mo_instance.specs.Prefixes.{prefix_in_profile}
 use Rattle.mo_instance.specs.Outer.{outer_checked}
 use Rattle.mo_instance.specs.Elements.{Around, around_parts, class_place, leaf_of, instance_of, room_for_one}
 use Rattle.mo_instance.specs.Instances.{Adding, Parts, Deeper, adding_each, component_entered, deeper, element_entered, entered_by, member_entered, parts_entered}
-use Rattle.mo_instance.specs.steps.Instances.{component_asked, element_frame, element_in_frame, element_made, elements_to, elements_under, instance_at, is_entered, members_added, room_among}
+use Rattle.mo_instance.specs.steps.Instances.{component_asked, element_frame, element_in_frame, element_made, elements_to, elements_under, instance_at, is_entered, members_added}
 
 -- ---- adding one after another
 

@@ -1,14 +1,14 @@
 -- The operator at the front.
-use Rattle.std.proofs.Common.{◌≡◌, ℕ, suc, ◌<◌, ◌≤◌, ◌⊎◌, inl, inr, Bool, true, false, ◌&&◌, ◌||◌, not, List, [], ◌∷◌, ◌++◌, length, take, get_or, eqb, ltb, Some, None, refl, sym, ap, subst, ◌∙◌, arith}
+use Rattle.std.proofs.Common.{◌≡◌, ℕ, suc, ◌<◌, ◌≤◌, ◌⊎◌, inl, inr, Bool, true, false, ◌&&◌, ◌||◌, List, [], ◌∷◌, ◌++◌, length, take, get_or, eqb, ltb, Some, None, refl, sym, ap, subst, ◌∙◌, arith}
 use Rattle.mo_syntax.specs.declared.rules.TheConstants.{BAD_CHARACTER}
 use mathlib.Core.Bool.{false≢true}
 use Rattle.std.proofs.lemmas.Bool.Decides.{nat_tests}
 use Rattle.mo_tables.specs.Words.{code_in, operators}
 use Rattle.mo_lexer.specs.Bytes.{is_digit}
-use Rattle.mo_lexer.specs.Spelling.{IsDecimal, pointed, unpointed, IsComment, line, block}
+use Rattle.mo_lexer.specs.Spelling.{IsDecimal, IsComment, line, block}
 use Rattle.mo_lexer.specs.Lexing.{opens_block, IsStuck, Breaks, no_token, IsCutByEnd, comment, string, quoted, IsBadAt, in_string, in_quoted}
 use Rattle.mo_lexer.specs.steps.Finding.{is_mark, begins_number, opens_line}
-use Rattle.mo_lexer.proofs.Fronts.{first_is, both_hold, first_passes}
+use Rattle.mo_lexer.proofs.Fronts.{first_is}
 use Rattle.mo_lexer.proofs.Shapes.{Marks, class, class_mark, IsMarked, operator, number, remark, is_mark_text, operator_is_mark, mark_first, mark_second, NumberFirst, digit, point, decimal_first}
 use Rattle.mo_lexer.proofs.Stuck.{HasNoPiece, no_piece, stuck_where_none, narrow_where_none, fits_from, bounded, cut_after}
 use Rattle.mo_lexer.proofs.Words.{Front}

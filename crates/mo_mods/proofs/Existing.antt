@@ -1,6 +1,6 @@
 -- The frames in which the values of tables are looked up exist: what they are does not depend on other frames.
-use Rattle.std.proofs.Common.{◌≡◌, ℕ, zero, suc, ◌+◌, ◌<◌, ◌⊎◌, inl, inr, Bool, true, false, cond, List, [], ◌∷◌, ◌++◌, length, map, get_or, Option, Some, None, refl, ap, sym, ◌∙◌, subst, arith}
-use Rattle.std.specs.Prelude.{option_map, slice_get, IfSome}
+use Rattle.std.proofs.Common.{◌≡◌, ℕ, zero, suc, ◌+◌, ◌<◌, ◌⊎◌, inl, inr, List, [], ◌∷◌, length, Option, Some, None, refl, ap, sym, ◌∙◌, arith}
+use Rattle.std.specs.Prelude.{option_map, IfSome}
 use Rattle.mo_scope.specs.declared.source.Picked.{Picked as PickedAt}
 use Rattle.mo_scope.specs.Frames.{Frame, Top, In, No_source}
 use Rattle.mo_scope.specs.Parts.{Picked, picked, redeclared_path}
@@ -11,7 +11,7 @@ use Rattle.mo_scope.proofs.Numbered.{Alike, alike_sources}
 use Rattle.mo_mods.specs.declared.env.MergedEnv.{MergedEnv, out-MergedEnv}
 use Rattle.mo_mods.specs.declared.env.MergedValue.{MergedValue}
 use Rattle.mo_mods.specs.declared.env.RedeclaredAt.{RedeclaredAt}
-use Rattle.mo_mods.specs.Merged.{Merged, Merged_value, Redeclared, StandsFor, at_path, binding, redeclared_as, redeclared_here, table_for, tables_below, value_here}
+use Rattle.mo_mods.specs.Merged.{Merged_value, Redeclared, StandsFor, at_path, binding, redeclared_as, redeclared_here, table_for, tables_below, value_here}
 use Rattle.mo_mods.specs.Scopes.{ScopesExist, env_below, env_from, redeclared_at, redeclared_of, value_at, value_of}
 use Rattle.mo_mods.specs.Sights.{merged_in, merged_or, redeclared_in, value_in}
 use Rattle.mo_mods.specs.Steps.{entered_value, stepped_in}

@@ -1,5 +1,5 @@
 -- Elements that are entered.
-use Rattle.std.proofs.Common.{◌≡◌, ℕ, ◌+◌, Bool, true, false, cond, List, [], ◌∷◌, length, map, Option, Some, None, Result, Ok, Err, refl, ap, sym, subst, ◌∙◌}
+use Rattle.std.proofs.Common.{◌≡◌, ℕ, Bool, true, false, cond, List, [], length, Option, Some, None, Result, Ok, Err, refl, ap, sym, subst, ◌∙◌}
 use Rattle.std.specs.Prelude.{option_map, IfSome}
 use Rattle.mo_syntax.specs.Outcome.{Outcome, and_then, breaks}
 use Rattle.mo_syntax.specs.declared.class.ComponentOf.{ComponentOf}
@@ -8,8 +8,8 @@ use Rattle.mo_syntax.specs.declared.place.Stop.{Stop}
 use Rattle.mo_scope.specs.declared.saying.Redeclaration.{Redeclaration as RedeclarationAt}
 use Rattle.mo_scope.specs.Outcome.{Gives}
 use Rattle.mo_scope.specs.Rows.{Table, class_number, component_of, is_class}
-use Rattle.mo_scope.specs.Frames.{Frame, Scope, Source, Member, gathered, listed, looked_up, sources_of}
-use Rattle.mo_scope.specs.Lookup.{Classed, asking_of, class_named, entered}
+use Rattle.mo_scope.specs.Frames.{Frame, Scope, Source, Member, looked_up, sources_of}
+use Rattle.mo_scope.specs.Lookup.{asking_of, class_named, entered}
 use Rattle.mo_scope.specs.Names.{Child, child_of_member, scope_of_home, typed_by}
 use Rattle.mo_scope.specs.Parts.{Redeclaration, class_sources, component_sources, redeclared}
 use Rattle.mo_scope.specs.Sights.{declares_seen, redeclaration_in, source_seen}

@@ -1,16 +1,16 @@
 -- The elements that a class declares itself are among all its elements, the first ones of their names. So all elements of a frame, where
 -- there are any, tell what a name reaches.
-use Rattle.std.proofs.Common.{◌≡◌, ℕ, zero, suc, ◌+◌, ◌<◌, Bool, true, false, cond, List, [], ◌∷◌, ◌++◌, length, map, Option, Some, None, Ok, Err, refl, ap, sym, subst, ◌∙◌, arith}
-use Rattle.std.specs.Prelude.{◌||◌, find}
+use Rattle.std.proofs.Common.{◌≡◌, ℕ, suc, ◌+◌, Bool, true, false, cond, List, [], ◌∷◌, ◌++◌, length, map, Option, Some, None, Ok, Err, refl, ap, sym, subst, ◌∙◌, arith}
+use Rattle.std.specs.Prelude.{◌||◌}
 use Rattle.std.specs.List.{list_any}
 use Rattle.std.specs.Str.{bytes_eq}
 use Rattle.std.proofs.lemmas.List.{map-append}
 use Rattle.std.proofs.lemmas.Slice.Eq.{bytes_eq-Decides}
-use Rattle.mo_syntax.specs.Outcome.{Outcome, and_then, breach, breaks}
+use Rattle.mo_syntax.specs.Outcome.{Outcome, and_then, breach}
 use Rattle.mo_syntax.specs.declared.place.Place.{Place}
-use Rattle.mo_scope.specs.Rows.{Table, Row, row_at, Part, Element_of, Base_of, Declares, Clause, elements_in, is_left_out, number_of_classes}
+use Rattle.mo_scope.specs.Rows.{Table, Row, row_at, Part, Element_of, Base_of, Clause, elements_in, is_left_out, number_of_classes}
 use Rattle.mo_scope.specs.Frames.{Frame, Member, class_of}
-use Rattle.mo_scope.specs.Lookup.{Inherited, Walked, Asking, Element, Absent, asking_of, base_of, contains, last_place, leaf_checked, leaf_of, members_from, members_in, named, not_counted, nothing_walked, own_members, reached, reached_in, walked, walked_class, walked_parts, with_base, with_busy, with_member, with_members}
+use Rattle.mo_scope.specs.Lookup.{Inherited, Walked, Asking, Element, Absent, asking_of, base_of, last_place, leaf_checked, leaf_of, members_from, members_in, named, nothing_walked, own_members, reached, reached_in, walked, walked_class, walked_parts, with_base, with_busy, with_member, with_members}
 use Rattle.mo_scope.specs.Names.{elements_of, walk_of}
 use Rattle.mo_syntax.specs.declared.rules.TheConstants.{INHERITED_ELEMENTS_CLASH, OUTSIDE_PROFILE}
 

@@ -1,6 +1,6 @@
 -- Names behind a dot, one after another.
-use Rattle.std.proofs.Common.{◌≡◌, ℕ, Bool, false, List, [], ◌∷◌, Option, Some, None, Result, Ok, Err, refl, ap, sym, subst, ◌∙◌}
-use Rattle.mo_syntax.specs.Outcome.{Outcome, and_then}
+use Rattle.std.proofs.Common.{◌≡◌, ℕ, false, List, [], ◌∷◌, Result, Ok, refl, ap, sym, subst, ◌∙◌}
+use Rattle.mo_syntax.specs.Outcome.{and_then}
 use Rattle.mo_syntax.specs.declared.expr.Expr.{Expr}
 use Rattle.mo_syntax.specs.declared.expr.PartOf.{PartOf}
 use Rattle.mo_syntax.specs.declared.expr.ReferenceOf.{ReferenceOf}
@@ -8,10 +8,10 @@ use Rattle.mo_syntax.specs.declared.place.Place.{Place}
 use Rattle.mo_syntax.specs.declared.place.Stop.{Stop}
 use Rattle.mo_scope.specs.Outcome.{Gives}
 use Rattle.mo_scope.specs.Rows.{Table}
-use Rattle.mo_scope.specs.Frames.{Frame, Scope, Member}
+use Rattle.mo_scope.specs.Frames.{Scope, Member}
 use Rattle.mo_scope.specs.Lookup.{Found, Component, Class, Literal, Iteration, Function, Time, Element, Other, Absent, asking_of, reached}
 use Rattle.mo_scope.specs.Names.{behind_component, behind_found, child_of_member, component_frame, found_behind, found_reference, taken}
-use Rattle.mo_names.specs.Children.{component_entered, component_next, first_found, identifier, next_found, reached_in_component}
+use Rattle.mo_names.specs.Children.{component_next, first_found, next_found, reached_in_component}
 use Rattle.mo_names.specs.Past.{first_met}
 use Rattle.mo_names.proofs.Chains.{then_after}
 use Rattle.mo_names.proofs.Circling.{then_same}

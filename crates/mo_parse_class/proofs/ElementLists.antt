@@ -9,11 +9,11 @@ use Rattle.mo_grammar.specs.declared.reading.Halt.TheVariants.{NoMemory, Stuck}
 use Rattle.mo_grammar.specs.Codes.{semicolon}
 use Rattle.mo_grammar.specs.Lexeme.{Lexeme, lexemes}
 use Rattle.mo_grammar.specs.Grammar.{Limits, symbol, many}
-use Rattle.mo_grammar.specs.Forms.{before, second_of}
+use Rattle.mo_grammar.specs.Forms.{before}
 use Rattle.mo_grammar.specs.ClassTrees.{Inside, appended_items, items_before}
 use Rattle.mo_grammar.specs.Symbols.{ElementItems, Compositions, Sections}
-use Rattle.mo_grammar.specs.Classes.{elements, composition}
-use Rattle.mo_grammar.specs.Reading.{Outcome, read, stuck, unfinished, ◌>>=◌, next_in, Tables, may_be_empty, is_decided}
+use Rattle.mo_grammar.specs.Classes.{elements}
+use Rattle.mo_grammar.specs.Reading.{Outcome, read, stuck, unfinished, ◌>>=◌, next_in, Tables}
 use Rattle.mo_grammar.specs.Tables.{tables}
 use Rattle.mo_grammar.specs.Language.{reads, reads_form}
 use Rattle.mo_grammar.specs.Answers.{Gives, with_rest}

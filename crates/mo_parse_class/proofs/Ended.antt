@@ -1,19 +1,16 @@
 -- The end of a file stands at the end of it alone.
-use Rattle.std.proofs.Common.{◌≡◌, ◌&&◌, ◌+◌, ◌*◌, not, ℕ, zero, suc, Bool, true, false, List, [], ◌∷◌, ◌++◌, Option, Some, None, length, refl, sym, ap, subst, ◌∙◌, append_assoc, append-nil, if◌then◌else◌}
-use Rattle.std.proofs.lemmas.List.{append_cancel_right}
+use Rattle.std.proofs.Common.{◌≡◌, ◌&&◌, ◌+◌, ◌*◌, not, ℕ, zero, suc, Bool, true, false, List, [], ◌∷◌, Option, Some, None, length, refl, sym, subst, if◌then◌else◌}
 use Rattle.mo_syntax.specs.declared.place.Place.{Place}
 use Rattle.mo_syntax.specs.declared.class.FileTree.{FileTree}
 use Rattle.mo_syntax.specs.declared.class.ClassDefOf.{ClassDefOf}
 use Rattle.mo_syntax.specs.declared.class.Body.{Body}
-use Rattle.mo_grammar.specs.declared.fault.Fault.{Fault}
-use Rattle.mo_grammar.specs.declared.fault.Fault.TheVariants.{Misplaced, Misnamed, TooDeep}
-use Rattle.mo_grammar.specs.Codes.{end_of_file, within_word, semicolon, final_word}
+use Rattle.mo_grammar.specs.declared.fault.Fault.TheVariants.{Misplaced, Misnamed}
+use Rattle.mo_grammar.specs.Codes.{end_of_file}
 use Rattle.mo_grammar.specs.Lexeme.{Lexeme, code_of}
-use Rattle.mo_grammar.specs.Grammar.{Limits, Opening, EndName, end_name_in, suits, renamed, left_inside, Grammar, empty, token, seq, either, either2, many, made, placed, nested, end_name, under, unless, symbol, has, identifiers, first_passes, Productions}
-use Rattle.mo_grammar.specs.Forms.{optional, flag, behind, before, second_of}
+use Rattle.mo_grammar.specs.Grammar.{Limits, EndName, end_name_in, suits, renamed, left_inside, Grammar, empty, token, seq, either, either2, many, made, placed, nested, end_name, under, unless, symbol, has, identifiers, first_passes, Productions}
 use Rattle.mo_grammar.specs.Reading.{Outcome, read, stuck, unfinished, ◌>>=◌, Reader, Tables, first_codes, next_in, next_two, reads_token, reads_end, each_from, reads_inside, place_of_first, reads_by, reads_within, reads_as}
 use Rattle.mo_grammar.specs.ClassTrees.{file_tree}
-use Rattle.mo_grammar.specs.Symbols.{Symbol, ValueOf, Form, Names, ClassDefinitions, Files, Expressions, Simples, Logicals, Conjunctions, Negations, Relations, Sums, Products, Powers, Primaries, CallArguments, Arguments, MoreArguments, OneArgument, Indices, References, Subscripts, TypeSpecs, ClassMods, ModArguments, EquationItems, ForEquations, WhenEquations, ElseEquations, IfEquations, StatementItems, ImportNames, ElementItems, Compositions, Sections, SectionEquations}
+use Rattle.mo_grammar.specs.Symbols.{Symbol, Form, Names, ClassDefinitions, Files, Expressions, Simples, Logicals, Conjunctions, Negations, Relations, Sums, Products, Powers, Primaries, CallArguments, Arguments, MoreArguments, OneArgument, Indices, References, Subscripts, TypeSpecs, ClassMods, ModArguments, EquationItems, ForEquations, WhenEquations, ElseEquations, IfEquations, StatementItems, ImportNames, ElementItems, Compositions, Sections, SectionEquations}
 use Rattle.mo_grammar.specs.Productions.{rule}
 use Rattle.mo_grammar.specs.Tables.{tables}
 use Rattle.mo_grammar.specs.Language.{reads, reads_form}

@@ -4,15 +4,14 @@ use Rattle.mo_syntax.specs.declared.expr.Expr.{Expr}
 use Rattle.mo_syntax.specs.declared.class.What.{What}
 use Rattle.mo_grammar.specs.declared.fault.Fault.{Fault}
 use Rattle.mo_grammar.specs.Lexeme.{Lexeme}
-use Rattle.mo_grammar.specs.Grammar.{Limits, token, seq, many, made}
+use Rattle.mo_grammar.specs.Grammar.{Limits, many, made}
 use Rattle.mo_grammar.specs.Forms.{behind, separated, second_of, joined}
-use Rattle.mo_grammar.specs.Reading.{Outcome, read, stuck, unfinished, ◌>>=◌, next_in, each_from, reads_token, first_codes}
+use Rattle.mo_grammar.specs.Reading.{Outcome, read, stuck, unfinished, ◌>>=◌, next_in, each_from, reads_token}
 use Rattle.mo_grammar.specs.ClassTrees.{Declared, whats_of_components}
 use Rattle.mo_grammar.specs.Classes.{component, components}
 use Rattle.mo_grammar.specs.Codes.{comma}
 use Rattle.mo_grammar.specs.Symbols.{Form}
-use Rattle.mo_grammar.specs.Tables.{tables}
-use Rattle.mo_grammar.specs.Language.{reads, reads_form}
+use Rattle.mo_grammar.specs.Language.{reads_form}
 use Rattle.mo_grammar.proofs.Loops.{with_front, many_done, many_stuck}
 use Rattle.mo_parse_class.specs.steps.Parts.{Head, head, what_of}
 use Rattle.mo_grammar.proofs.Classless.{each_alike}

@@ -6,7 +6,7 @@ use Rattle.mo_syntax.specs.declared.token.Token.{Token}
 use Rattle.mo_grammar.specs.declared.fault.Fault.{Fault}
 use Rattle.mo_grammar.specs.declared.reading.Halt.{Halt}
 use Rattle.mo_grammar.specs.declared.reading.Halt.TheVariants.{NoMemory, Stuck}
-use Rattle.mo_grammar.specs.Lexeme.{Lexeme, lexemes}
+use Rattle.mo_grammar.specs.Lexeme.{lexemes}
 use Rattle.mo_grammar.specs.Reading.{Outcome, stuck}
 use Rattle.mo_grammar.specs.Answers.{Gives}
 

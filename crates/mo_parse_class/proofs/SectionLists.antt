@@ -1,22 +1,20 @@
 -- Sections of a class, one after another, and its end.
-use Rattle.std.proofs.Common.{◌≡◌, ◌==◌, ◌||◌, ◌&&◌, not, ℕ, Bool, true, false, List, [], ◌∷◌, ◌++◌, refl, sym, ap, subst, ◌∙◌, append_assoc, append-nil, eqb-true, inl, inr, if◌then◌else◌}
-use Rattle.mo_syntax.specs.declared.class.Item.{Item}
+use Rattle.std.proofs.Common.{◌≡◌, ◌==◌, ◌&&◌, not, ℕ, Bool, true, false, List, [], ◌∷◌, ◌++◌, refl, sym, ap, subst, ◌∙◌, append_assoc, append-nil, eqb-true, inl, inr, if◌then◌else◌}
 use Rattle.mo_syntax.specs.declared.class.Item.TheVariants.{Equations, Algorithm}
 use Rattle.mo_grammar.specs.declared.fault.Fault.{Fault}
-use Rattle.mo_grammar.specs.declared.fault.Fault.TheVariants.{Misplaced}
 use Rattle.mo_grammar.specs.Codes.{ident, semicolon, public_word, protected_word, equation_word, algorithm_word, initial_word, external_word, annotation_word, end_word}
 use Rattle.mo_grammar.specs.Lexeme.{Lexeme, code_of}
 use Rattle.mo_grammar.specs.Grammar.{Limits, symbol, seq, made, has}
 use Rattle.mo_grammar.specs.Forms.{before, second_of}
-use Rattle.mo_grammar.specs.ClassTrees.{Equation, Statement, Inside, items_before, equations_section, algorithm_section, one_more_equation, no_more_equations}
-use Rattle.mo_grammar.specs.Symbols.{ElementItems, EquationItems, Compositions, Sections, SectionEquations}
-use Rattle.mo_grammar.specs.Classes.{elements, statements, section, sections, section_equations, other_section, initial_section, class_end}
+use Rattle.mo_grammar.specs.ClassTrees.{Equation, Statement, Inside, items_before, equations_section, algorithm_section, one_more_equation}
+use Rattle.mo_grammar.specs.Symbols.{EquationItems, Sections, SectionEquations}
+use Rattle.mo_grammar.specs.Classes.{elements, statements, section, sections, section_equations, other_section}
 use Rattle.mo_grammar.specs.Reading.{Outcome, read, stuck, unfinished, ◌>>=◌, next_in, next_two, reads_token, first_codes, Tables}
 use Rattle.mo_grammar.specs.Tables.{tables}
 use Rattle.mo_grammar.specs.Language.{reads, reads_form}
 use Rattle.mo_grammar.proofs.Codes.{both, told, never, false_from, not_true, choose_true}
 use Rattle.mo_grammar.proofs.Readers.{sections_are, section_equations_are}
-use Rattle.mo_parse_class.specs.steps.Parts.{element_list, flattened, with_items, with_equations, before_sections, closing}
+use Rattle.mo_parse_class.specs.steps.Parts.{element_list, with_items, with_equations, before_sections, closing}
 use Rattle.mo_class_parts.specs.Starts.{equation_follows, section_codes}
 use Rattle.mo_parse_class.proofs.ElementLists.{items_follow}
 use Rattle.mo_class_heads.proofs.ImportNames.{one_code, rest_of}

@@ -1,5 +1,5 @@
 -- What reading says of the tokens of a whole file.
-use Rattle.std.proofs.Common.{◌≡◌, ℕ, suc, List, [], ◌∷◌, ◌++◌, length, refl, sym, ap, subst, ◌∙◌, append_assoc, append-nil, arith, Result, Ok, Err}
+use Rattle.std.proofs.Common.{◌≡◌, ℕ, List, [], ◌∷◌, ◌++◌, refl, sym, ap, subst, ◌∙◌, append_assoc, append-nil, Result, Ok, Err}
 use Rattle.std.specs.Prelude.{IfOk, IfErr}
 use Rattle.std.specs.Borrow.{Bor}
 use Rattle.mo_syntax.specs.declared.token.Token.{Token}
@@ -7,23 +7,20 @@ use Rattle.mo_grammar.specs.declared.reading.Halt.{Halt}
 use Rattle.mo_grammar.specs.declared.reading.Halt.TheVariants.{NoMemory, Stuck}
 use Rattle.std.proofs.lemmas.List.{append_cancel_right}
 use Rattle.mo_syntax.specs.declared.class.FileTree.{FileTree}
-use Rattle.mo_syntax.specs.declared.token.TokenKind.TheVariants.{End}
 use Rattle.mo_grammar.specs.declared.fault.Fault.{Fault}
 use Rattle.mo_grammar.specs.declared.fault.Fault.TheVariants.{Misplaced}
 use Rattle.mo_grammar.specs.Codes.{end_of_file}
 use Rattle.mo_grammar.specs.Lexeme.{Lexeme, lexemes, code_of, code_of_kind}
-use Rattle.mo_grammar.specs.Grammar.{EndName, any_name, this_name, Limits, at_most, end_name_in}
-use Rattle.mo_grammar.specs.Openness.{BegunAtAnyDepth, LongestFront}
+use Rattle.mo_grammar.specs.Grammar.{any_name, this_name, Limits, at_most, end_name_in}
 use Rattle.mo_grammar.specs.Reading.{Outcome, read, stuck, unfinished}
-use Rattle.mo_grammar.specs.Symbols.{Symbol, ValueOf, Files}
+use Rattle.mo_grammar.specs.Symbols.{Files}
 use Rattle.mo_grammar.specs.Productions.{rule}
 use Rattle.mo_grammar.specs.Tables.{tables}
-use Rattle.mo_grammar.specs.Language.{whole_limits, Spells, Begins, BeginsAtAnyDepth, IsLongestFront, IsImpossibleAfter, HasFaultAfter, reads}
+use Rattle.mo_grammar.specs.Language.{whole_limits, Spells, Begins, reads}
 use Rattle.mo_grammar.specs.Answers.{Gives, with_rest, broken_at}
 use Rattle.mo_grammar.proofs.GrammarLaws.{read_law, whole_law, stuck_law}
 use Rattle.mo_grammar.proofs.Checked.{known}
 use Rattle.mo_grammar.proofs.Extending.{extends}
-use Rattle.mo_grammar.proofs.Fronts.{front_begins}
 use Rattle.mo_grammar.proofs.Tested.{passed, level, productive, fillable}
 use Rattle.mo_parse_class.specs.WholeFiles.{EndsAtEnd, IsAtImpossible, IsTree, IsFirstImpossible, answered, answered_tree}
 use Rattle.mo_parse_class.proofs.Ended.{file_leaves, Leaves}

@@ -1,12 +1,12 @@
 -- The redeclarations of a frame, one after another.
-use Rattle.std.proofs.Common.{◌≡◌, ℕ, Bool, true, false, List, [], ◌∷◌, ◌++◌, flat_map, map, Option, Some, None, Ok, Err, refl, ap, sym, ◌∙◌}
-use Rattle.std.specs.Prelude.{is_some, option_map, if◌then◌else◌}
+use Rattle.std.proofs.Common.{◌≡◌, ℕ, Bool, List, [], ◌∷◌, ◌++◌, map, Option, Some, None, Ok, Err, refl, ap, ◌∙◌}
+use Rattle.std.specs.Prelude.{is_some, option_map}
 use Rattle.mo_syntax.specs.Outcome.{and_then}
 use Rattle.mo_syntax.specs.declared.meaning.FrameId.{FrameId}
 use Rattle.mo_scope.specs.Frames.{Frame, Member, sources_of}
 use Rattle.mo_scope.specs.Lookup.{Walked, members_in, named}
 use Rattle.mo_scope.specs.Parts.{Redeclaration}
-use Rattle.mo_scope.specs.Redeclarations.{Checked, each_checked, redeclaration_in, redeclarations_checked, spoken_checked}
+use Rattle.mo_scope.specs.Redeclarations.{Checked, each_checked, redeclarations_checked, spoken_checked}
 use Rattle.mo_scope.specs.Rows.{Table}
 use Rattle.mo_scope.specs.Spoken.{Spoken, spoken_in}
 use Rattle.mo_scope.specs.Worlds.{MemberEntry, World, frame_at, frame_in, frames_of, member_in, table_in}

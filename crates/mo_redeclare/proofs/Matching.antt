@@ -1,5 +1,5 @@
 -- The comparison of components and of classes, step by step.
-use Rattle.std.proofs.Common.{◌≡◌, ℕ, zero, suc, ◌+◌, ◌-◌, ◌<◌, Bool, true, false, List, [], ◌∷◌, map, Option, Some, None, Result, Ok, Err, refl, ap, sym, ◌∙◌, arith}
+use Rattle.std.proofs.Common.{◌≡◌, ℕ, zero, suc, ◌-◌, ◌<◌, Bool, true, false, List, [], map, Option, Some, None, Ok, Err, refl, ap, sym, ◌∙◌, arith}
 use Rattle.std.specs.Prelude.{filter, nat_eq, if◌then◌else◌}
 use Rattle.mo_syntax.specs.Outcome.{Outcome, and_then, breaks}
 use Rattle.mo_syntax.specs.declared.place.Place.{Place}
@@ -10,7 +10,7 @@ use Rattle.mo_scope.specs.Names.{Child, child_of_member, component_frame, walk_o
 use Rattle.mo_scope.specs.Compatible.{Compare, Pairs, are_matched, compared, compatible_from, counterpart, dimensions_of, is_matched, is_pair, prefix_of, same_prefixes, same_types, with_pair}
 use Rattle.mo_scope.specs.Worlds.{MemberEntry, member_in}
 use Rattle.mo_redeclare.specs.steps.Sights.{is_open}
-use Rattle.mo_redeclare.specs.steps.Comparing.{both_walked, children_of, components_compared, counterpart_matched, entered_alike, entered_matching, leaves_compared, pair_compared}
+use Rattle.mo_redeclare.specs.steps.Comparing.{both_walked, components_compared, counterpart_matched, entered_alike, entered_matching, leaves_compared, pair_compared}
 use Rattle.mo_redeclare.proofs.Tables.{named_open}
 use Rattle.mo_syntax.specs.declared.rules.TheConstants.{NOT_COMPATIBLE}
 

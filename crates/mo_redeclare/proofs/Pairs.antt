@@ -1,15 +1,14 @@
 -- The number in the comparison of classes: once it is greater than the number of pairs that are not being compared, a greater number
 -- changes nothing.
-use Rattle.std.proofs.Common.{◌≡◌, ℕ, zero, suc, ◌+◌, ◌*◌, ◌<◌, ◌≤◌, Bool, true, false, ◌&&◌, ◌||◌, List, [], ◌∷◌, length, Option, Some, None, Ok, nat_eq, refl, sym, ap, subst, ◌∙◌, arith, eqb-true, eq-eqb}
+use Rattle.std.proofs.Common.{◌≡◌, ℕ, zero, suc, ◌+◌, ◌*◌, ◌<◌, ◌≤◌, Bool, true, false, ◌&&◌, ◌||◌, [], ◌∷◌, length, Option, Some, None, Ok, nat_eq, refl, sym, ap, subst, ◌∙◌, arith, eqb-true, eq-eqb}
 use Rattle.std.proofs.Math.Nat.{suc-mul}
 use Rattle.std.proofs.lemmas.Nat.{mul-le}
-use Rattle.std.specs.Prelude.{sum_by, if◌then◌else◌}
 use Rattle.std.specs.List.{list_any}
-use Rattle.mo_syntax.specs.Outcome.{Outcome, and_then, breaks}
+use Rattle.mo_syntax.specs.Outcome.{Outcome, and_then}
 use mathlib.Core.Path.{fun_ext}
 use Rattle.mo_syntax.specs.declared.place.Place.{Place}
 use Rattle.mo_scope.specs.Rows.{Table, Row, row_at, number_of_classes}
-use Rattle.mo_scope.specs.Frames.{Frame, Member, class_of}
+use Rattle.mo_scope.specs.Frames.{Frame, class_of}
 use Rattle.mo_scope.specs.Lookup.{Walked, asking_of, nothing_walked, walked}
 use Rattle.mo_scope.specs.Compatible.{Compare, Pairs, compared, compared_frames, compatible, compatible_from, is_pair, with_pair}
 use Rattle.mo_redeclare.proofs.Outcomes.{then_same}

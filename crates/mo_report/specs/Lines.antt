@@ -1,5 +1,5 @@
 -- The text of a report, line by line. Equations and unknowns are written by their numbers, from 1, unknowns also by their names.
-use Rattle.std.specs.Prelude.{ℕ, zero, suc, ◌+◌, ◌-◌, ◌<◌, List, [], ◌∷◌, ◌++◌, Option, Some, None, codes, decimal, flat_map, length, nat_lt, if◌then◌else◌, slice_get, slice_index, unwrap_or}
+use Rattle.std.specs.Prelude.{ℕ, zero, suc, ◌+◌, List, [], ◌++◌, Option, Some, None, codes, decimal, flat_map, length, nat_lt, if◌then◌else◌, slice_get, slice_index, unwrap_or}
 use Rattle.mo_incidence.specs.declared.findings.Offsets.{Offsets}
 use Rattle.mo_incidence.specs.declared.findings.Deficit.{Deficit}
 use Rattle.mo_incidence.specs.declared.findings.Reason.{Reason}

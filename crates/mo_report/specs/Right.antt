@@ -1,8 +1,8 @@
 -- When a report is right for a flat model: its parts are those of the definitions, for the least transversal
 -- (J. D. Pryce, A simple structural analysis method for DAEs, BIT 41, 2001; S. E. Mattsson and G. Söderlind, Index reduction in
 -- differential-algebraic equations using dummy derivatives, SIAM J. Sci. Comput. 14, 1993).
-use Rattle.std.specs.Prelude.{◌≡◌, ◌≢◌, ◌==◌, ◌||◌, ℕ, ◌+◌, ◌-◌, ◌<◌, Bool, true, false, List, [], Option, Some, None, length, if◌then◌else◌}
-use Rattle.std.proofs.Common.{get_or, zero, suc}
+use Rattle.std.specs.Prelude.{◌≡◌, ◌≢◌, ◌==◌, ◌||◌, ℕ, ◌+◌, ◌<◌, Bool, false, List, [], Some, None, length, if◌then◌else◌}
+use Rattle.std.proofs.Common.{zero, suc}
 use Rattle.mo_flat.specs.declared.model.FlatModel.{FlatModel}
 use Rattle.mo_incidence.specs.declared.findings.Offsets.{Offsets}
 use Rattle.mo_incidence.specs.declared.findings.Deficit.{Deficit}

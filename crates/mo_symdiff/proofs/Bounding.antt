@@ -1,5 +1,5 @@
 -- Weights bound what is printed: nodes are those of the flat model, and names and literals stand in the text.
-use Rattle.std.proofs.Common.{◌≡◌, ℕ, zero, suc, ◌+◌, ◌-◌, ◌^◌, ◌<◌, ◌≤◌, Bool, true, false, List, [], ◌∷◌, ◌++◌, map, length, refl, ap, ◌∙◌, sym, arith, inl, inr}
+use Rattle.std.proofs.Common.{◌≡◌, ℕ, zero, suc, ◌+◌, ◌-◌, ◌^◌, ◌≤◌, Bool, true, false, List, [], ◌∷◌, ◌++◌, map, length, refl, ap, arith, inl, inr}
 use Rattle.std.specs.Prelude.{codes, flat_map, if◌then◌else◌, min, nat_lt, sum_by}
 use Rattle.std.proofs.lemmas.List.{length-append}
 use Rattle.std.proofs.lemmas.List.Sums.{sum_by-cons}
@@ -7,8 +7,7 @@ use Rattle.mo_flat.specs.declared.expr.FlatExpr.{FlatExpr, FlatExpr-F, map-FlatE
 use Rattle.mo_flat.specs.declared.model.FlatVar.{FlatVar}
 use Rattle.mo_flat.specs.declared.model.FlatEquation.{FlatEquation}
 use Rattle.mo_flat.specs.Nodes.{count_node, node_count}
-use Rattle.mo_flat.specs.Text.{Printed, branch_mark, chain_text, derivative_text, expr_text, factor_mark, function_name, in_row, node_text, operand, print_node, printed, relation_mark, separator, term_mark, variable_name}
-use Rattle.mo_symdiff.specs.declared.weights.Measure.{Measure}
+use Rattle.mo_flat.specs.Text.{Printed, branch_mark, chain_text, derivative_text, expr_text, factor_mark, function_name, in_row, operand, print_node, printed, relation_mark, separator, term_mark, variable_name}
 use Rattle.mo_symdiff.specs.declared.weights.Measure.TheVariants.{Nodes, Names}
 use Rattle.mo_symdiff.specs.Carried.{carried}
 use Rattle.mo_symdiff.specs.Derivative.{derived}

@@ -19,12 +19,11 @@ use Rattle.mo_flat.specs.declared.model.FlatVar.{FlatVar}
 use Rattle.mo_symdiff.specs.declared.weights.Measure.{Measure}
 use Rattle.mo_symdiff.specs.declared.weights.Measure.TheVariants.{Nodes, Literals, Names}
 use Rattle.mo_symdiff.specs.declared.weights.Row.{Row}
-use Rattle.mo_symdiff.specs.Derivative.{Part, applied, args_slope, base_term, call_slope, call_slope_of_two, chosen, derived, exponent_term, general_power, in_place, literal_power, minus, moving_terms, negated, next_order, one, over, plain_factors, plus, product_terms, replaced_factor, squared, sum_of, times, two, with_slopes}
+use Rattle.mo_symdiff.specs.Derivative.{Part, applied, args_slope, base_term, call_slope, call_slope_of_two, chosen, derived, exponent_term, general_power, in_place, literal_power, minus, moving_terms, negated, next_order, one, over, plus, product_terms, replaced_factor, squared, sum_of, times, two, with_slopes}
 use Rattle.mo_symdiff.specs.Still.{is_still}
 use Rattle.mo_symdiff.specs.Weights.{AreBranchSizes, AreSizes, AreTermSizes, IsSize, args_row, call_row, call_row_of_two, capped, literal_row, literal_weight, node_weight, row_of, row_weight, variable_weight, weigh, weigh_node}
 use Rattle.mo_flat.specs.Roles.{is_given, is_unknown}
-use Rattle.mo_symdiff.proofs.Derived.{at_Time as at_Time_derived, derived_All, derived_Any, derived_Call, derived_Der, derived_If, derived_Not, derived_Power, derived_Product, derived_Relation, derived_Sum, derived_Var, all_push, moving_push, moving_one, product_front, still_Var, unless}
-use Rattle.mo_symdiff.proofs.Tests.{still_at}
+use Rattle.mo_symdiff.proofs.Derived.{at_Time as at_Time_derived, derived_Var, all_push, moving_push, moving_one, product_front, still_Var, unless}
 
 -- ---- numbers that stop at the greatest of 64 bits
 

@@ -1,6 +1,6 @@
 -- How much an expression weighs: the number of its nodes, or of the bytes of the texts in it. A derivative is weighed before it
 -- is built, each call by the row of its function in the table of derivatives.
-use Rattle.std.specs.Prelude.{ℕ, ℤ, pos, ◌≡◌, ◌+◌, ◌*◌, ◌-◌, ◌^◌, min, Bool, List, [], ◌∷◌, if◌then◌else◌, length, map, nat_eq, sum_by}
+use Rattle.std.specs.Prelude.{ℕ, ℤ, pos, ◌≡◌, ◌+◌, ◌*◌, ◌-◌, ◌^◌, min, Bool, List, [], ◌∷◌, if◌then◌else◌, length, nat_eq, sum_by}
 use Rattle.std.specs.List.{list_all, list_any}
 use Rattle.std.specs.Ordering.{int_eq}
 use Rattle.mo_tables.specs.declared.functions.TheConstants.{ABS, ACOS, ASIN, ATAN, ATAN2, COS, COSH, EXP, LOG, LOG10, MAX, MIN, SIN, SINH, SQRT, TAN, TANH}

@@ -1,11 +1,10 @@
 -- Lists of parts in pieces, where the parts are mapped or come one by one.
-use Rattle.std.proofs.Common.{◌≡◌, ◌+◌, ◌<◌, ℕ, Bool, List, [], ◌∷◌, ◌++◌, map, take, get_or, length, eqb, refl, ap, ◌∙◌, append_assoc, Result, Ok, Err, OnOk}
+use Rattle.std.proofs.Common.{◌≡◌, ◌+◌, ◌<◌, ℕ, Bool, List, [], ◌∷◌, ◌++◌, map, take, get_or, length, eqb, refl, ap, ◌∙◌, append_assoc}
 use Rattle.std.specs.Prelude.{flat_map, codes, if◌then◌else◌}
 use Rattle.mo_syntax.specs.declared.expr.Expr.{Expr}
 use Rattle.mo_pieces.specs.Pieces.{Piece, a_word, a_line, deeper, shallower}
 use Rattle.mo_pieces.specs.Lines.{on_a_line, lines_of, block_of}
 use Rattle.mo_unparse.proofs.Rows.{row_step, in_row_map}
-use Rattle.mo_pieces.proofs.Written.{after_two}
 use Rattle.mo_pieces.specs.ShownEquations.{branch_of, branches_of, else_of}
 
 -- ---- mapped parts

@@ -1,5 +1,5 @@
 -- What the branches of an if-equation stand for, and the equations in which they are joined.
-use Rattle.std.specs.Prelude.{◌≡◌, ℕ, pos, ◌+◌, ◌-◌, ◌*◌, Bool, false, true, List, [], ◌∷◌, length, sum_by, slice_get, Option, Some, None, Result, Ok, nat_eq}
+use Rattle.std.specs.Prelude.{◌≡◌, ℕ, pos, ◌+◌, ◌-◌, ◌*◌, Bool, List, [], ◌∷◌, length, sum_by, slice_get, Option, Some, None, Result, Ok, nat_eq}
 use Rattle.std.specs.List.{list_all}
 use Rattle.mo_syntax.specs.Outcome.{Outcome, and_then, breaks}
 use Rattle.mo_syntax.specs.declared.place.Place.{Place}
@@ -15,7 +15,7 @@ use Rattle.mo_equations.specs.declared.joining.Choice.{Choice as ChoiceAt}
 use Rattle.mo_equations.specs.declared.made.Made.{Made as MadeAt}
 use Rattle.mo_equations.specs.Gathering.{Made}
 use Rattle.mo_equations.specs.Joining.{Choice, difference, made_if}
-use Rattle.mo_equations.specs.steps.Flats.{Answers, IsFlat, capped}
+use Rattle.mo_equations.specs.steps.Flats.{Answers, IsFlat}
 use Rattle.mo_equations.specs.steps.Makings.{IsMade}
 
 abbrev pub AreBranches : List (Flat × MadeAt) → List (FlatExpr × Made) → Type 0

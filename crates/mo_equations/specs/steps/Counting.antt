@@ -1,5 +1,5 @@
 -- The variables of scalar expressions, and what these weigh where each variable has a weight.
-use Rattle.std.specs.Prelude.{ℕ, ◌+◌, ◌-◌, List, [], ◌∷◌, ◌++◌, flat_map, sum_by, Option, Some, None, slice_get}
+use Rattle.std.specs.Prelude.{ℕ, ◌+◌, ◌-◌, List, [], ◌∷◌, ◌++◌, flat_map, sum_by, Option, Some, slice_get}
 use Rattle.mo_flat.specs.declared.expr.FlatExpr.{FlatExpr, FlatExpr-F, fold-FlatExpr}
 use Rattle.mo_equations.specs.declared.flat.Flat.{Flat}
 

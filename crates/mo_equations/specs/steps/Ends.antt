@@ -1,5 +1,5 @@
 -- The ends of connects, before their leaves are known.
-use Rattle.std.specs.Prelude.{ℕ, Bool, false, List, [], map, Ok, if◌then◌else◌}
+use Rattle.std.specs.Prelude.{Bool, false, List, [], map, Ok, if◌then◌else◌}
 use Rattle.mo_syntax.specs.Outcome.{Outcome, and_then, breaks}
 use Rattle.mo_syntax.specs.declared.expr.Expr.{Expr}
 use Rattle.mo_syntax.specs.declared.expr.PartOf.{PartOf}

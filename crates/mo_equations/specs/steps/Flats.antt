@@ -1,5 +1,5 @@
 -- What the counted expressions of the code stand for, and what an answer says where its value stands for one of a definition.
-use Rattle.std.specs.Prelude.{◌≡◌, ℕ, ◌-◌, ◌<◌, ◌^◌, Bool, ◌||◌, Option, Some, None, Result, Ok, Err, min, nat_lt}
+use Rattle.std.specs.Prelude.{◌≡◌, ℕ, ◌-◌, ◌<◌, ◌^◌, Bool, ◌||◌, Some, None, Result, Ok, Err, min, nat_lt}
 use Rattle.mo_syntax.specs.Outcome.{Outcome}
 use Rattle.mo_syntax.specs.declared.place.Stop.{Stop}
 use Rattle.mo_syntax.specs.declared.place.Stop.TheVariants.{Broken as broken_by, NoMemory as no_memory}

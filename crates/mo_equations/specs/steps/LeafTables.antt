@@ -1,5 +1,5 @@
 -- The tables of the leaves of a tree of instances.
-use Rattle.std.specs.Prelude.{◌≡◌, ℕ, ◌+◌, Bool, true, false, ◌&&◌, List, [], ◌∷◌, ◌++◌, filter, find, flat_map, map, Option, Some, None, is_some, if◌then◌else◌, nat_eq, slice_get}
+use Rattle.std.specs.Prelude.{◌≡◌, ℕ, ◌+◌, Bool, false, ◌&&◌, List, [], ◌∷◌, ◌++◌, filter, find, map, Option, Some, None, is_some, if◌then◌else◌, nat_eq, slice_get}
 use Rattle.std.specs.HashMap.{get_by_text}
 use Rattle.std.specs.List.{list_any}
 use Rattle.std.specs.Str.{bytes_eq}

@@ -1,5 +1,5 @@
 -- What the counted equations of the code stand for.
-use Rattle.std.specs.Prelude.{◌≡◌, ℕ, ◌+◌, ◌≤◌, ◌<◌, List, [], ◌∷◌, length, sum_by, Option, Some, None}
+use Rattle.std.specs.Prelude.{◌≡◌, ℕ, ◌+◌, ◌≤◌, [], ◌∷◌, length, sum_by, Option, Some, None}
 use Rattle.mo_syntax.specs.declared.place.Place.{Place}
 use Rattle.mo_flat.specs.declared.connect.Connect.{Connect}
 use Rattle.mo_flat.specs.declared.expr.FlatExpr.{FlatExpr}

@@ -1,5 +1,5 @@
 -- Tables of paths: the first place of a path, and of a text.
-use Rattle.std.specs.Prelude.{◌≡◌, ℕ, ◌+◌, ◌<◌, ◌^◌, ◌-◌, Bool, ◌&&◌, List, [], ◌∷◌, length, map, Option, Some, None, option_map, if◌then◌else◌}
+use Rattle.std.specs.Prelude.{◌≡◌, ℕ, ◌+◌, ◌<◌, ◌^◌, Bool, ◌&&◌, List, [], ◌∷◌, length, map, Option, Some, None, option_map, if◌then◌else◌}
 use Rattle.std.specs.HashMap.{get_by_text}
 use Rattle.std.specs.Str.{bytes_eq}
 use Rattle.mo_scope.specs.Frames.{Indexed, indexed_eq, numbers_eq}

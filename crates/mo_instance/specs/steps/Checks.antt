@@ -1,5 +1,5 @@
 -- Steps of the checks of a frame.
-use Rattle.std.specs.Prelude.{ℕ, Bool, List, Ok}
+use Rattle.std.specs.Prelude.{ℕ, Bool, List}
 use Rattle.mo_scope.specs.Rows.{Table}
 use Rattle.mo_scope.specs.Frames.{Frame, Source, sources_of}
 use Rattle.mo_scope.specs.Arguments.{second_pass}

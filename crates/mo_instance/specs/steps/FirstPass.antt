@@ -1,5 +1,5 @@
 -- Steps of the first pass over the arguments of a frame.
-use Rattle.std.specs.Prelude.{ℕ, Bool, false, ◌&&◌, List, [], ◌∷◌, ◌++◌, flat_map, map, Option, Some, None, if◌then◌else◌}
+use Rattle.std.specs.Prelude.{ℕ, Bool, false, ◌&&◌, List, [], ◌∷◌, Option, Some, None, if◌then◌else◌}
 use Rattle.std.specs.List.{list_any}
 use Rattle.mo_syntax.specs.Outcome.{breach}
 use Rattle.mo_syntax.specs.declared.place.Broken.{Broken}
@@ -7,11 +7,11 @@ use Rattle.mo_syntax.specs.declared.place.Place.{Place}
 use Rattle.mo_syntax.specs.ClassTable.{path_eq}
 use Rattle.mo_scope.specs.Rows.{Table}
 use Rattle.mo_scope.specs.Frames.{Frame, Member, Origin, Constraint_of, Source}
-use Rattle.mo_scope.specs.Arguments.{Claim, least}
+use Rattle.mo_scope.specs.Arguments.{Claim}
 use Rattle.mo_scope.specs.Lookup.{Walked, members_in, named}
 use Rattle.mo_scope.specs.Spoken.{spoken_of}
 use Rattle.mo_instance.specs.Attributes.{is_attribute}
-use Rattle.mo_instance.specs.Passes.{breach_if, broken_against, broken_spoken, first_of_all, inherits, own_claims}
+use Rattle.mo_instance.specs.Passes.{broken_spoken, first_of_all, inherits, own_claims}
 use Rattle.mo_instance.specs.steps.Speeches.{Speech}
 use Rattle.mo_syntax.specs.declared.rules.TheConstants.{PROTECTED_ELEMENT, MODIFIED_TWICE, FINAL_MODIFIED, MODIFIED_ELEMENT_NOT_FOUND}
 

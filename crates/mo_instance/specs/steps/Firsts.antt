@@ -1,10 +1,10 @@
 -- What stands first in the text of the parts of a class.
-use Rattle.std.specs.Prelude.{ℕ, Bool, true, false, ◌&&◌, ◌||◌, List, [], ◌∷◌, ◌++◌, flat_map, filter, map, Option, Some, None, if◌then◌else◌, nat_lt, option_map}
+use Rattle.std.specs.Prelude.{Bool, true, false, ◌||◌, List, [], ◌∷◌, flat_map, filter, map, Option, Some, None, if◌then◌else◌, nat_lt, option_map}
 use Rattle.mo_syntax.specs.declared.class.Element.{Element}
 use Rattle.mo_syntax.specs.declared.class.ElementFlags.{ElementFlags}
 use Rattle.mo_syntax.specs.declared.class.Item.{Item}
 use Rattle.mo_syntax.specs.declared.place.Place.{Place}
-use Rattle.mo_scope.specs.Rows.{Table, Declares, Part, Element_of, Base_of, is_class, elements_in, replacing_in}
+use Rattle.mo_scope.specs.Rows.{Table, Declares, Part, Element_of, Base_of, is_class, replacing_in}
 use Rattle.mo_scope.specs.Parts.{declared_in}
 use Rattle.mo_instance.specs.Checks.{first_in_text, is_inner_or_outer}
 

@@ -1,5 +1,5 @@
 -- Elements with the bases on the way to them, as the values of the code are data.
-use Rattle.std.specs.Prelude.{ℕ, Bool, ◌&&◌, not, List, map, option_map, Option, Some, None}
+use Rattle.std.specs.Prelude.{ℕ, Bool, ◌&&◌, not, List, map, Option, Some, None}
 use Rattle.std.specs.Str.{bytes_eq}
 use Rattle.mo_scope.specs.Frames.{Frame}
 use Rattle.mo_scope.specs.Lookup.{Walked}

@@ -1,7 +1,6 @@
 -- The way on which it is looked for whether a type is declared `input` (Modelica Language Specification 3.5, sections 4.4.2.2 and 4.5.1).
-use Rattle.std.specs.Prelude.{ℕ, Bool, true, false, List, Option, Some, None, Ok, Err, if◌then◌else◌}
+use Rattle.std.specs.Prelude.{Bool, true, false, List, Option, Some, None, Ok, Err, if◌then◌else◌}
 use Rattle.mo_syntax.specs.Outcome.{Outcome}
-use Rattle.mo_syntax.specs.declared.meaning.FrameId.{FrameId}
 use Rattle.mo_scope.specs.Rows.{Table, Row, row_at, Form, Short_class, Long_class}
 use Rattle.mo_scope.specs.Frames.{Frame, class_of}
 use Rattle.mo_scope.specs.Names.{clauses_of, walk_of}

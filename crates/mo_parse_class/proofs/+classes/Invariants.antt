@@ -1,5 +1,5 @@
 -- What was read so far, and how deep each reader goes.
-use Rattle.std.proofs.Common.{◌≡◌, ◌<◌, ◌≤◌, ◌+◌, ◌*◌, length}
+use Rattle.std.proofs.Common.{◌≡◌, ◌≤◌, ◌+◌, ◌*◌, length}
 use Rattle.mo_grammar.specs.Lexeme.{lexemes}
 use Rattle.mo_grammar.specs.Language.{reads, reads_form}
 use Rattle.mo_grammar.specs.Symbols.{Compositions, Sections}

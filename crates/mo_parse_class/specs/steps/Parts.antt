@@ -19,7 +19,7 @@ use Rattle.mo_grammar.specs.ClassTrees.{Declared, Equation, Inside, Limit, compo
 use Rattle.mo_grammar.specs.Reading.{Outcome, read, ◌>>=◌}
 use Rattle.mo_grammar.specs.Symbols.{Form, TypeSpecs, Subscripts, ClassDefinitions, ClassMods}
 use Rattle.mo_class_heads.specs.Prefixes.{words}
-use Rattle.mo_grammar.specs.Classes.{prefix, declares, component, constraint, commented, elements, class_end, annotated_end, annotation_part, external_end}
+use Rattle.mo_grammar.specs.Classes.{prefix, declares, constraint, commented, elements, class_end, annotated_end, annotation_part, external_end}
 
 -- ---- components
 

@@ -10,7 +10,7 @@ use Rattle.mo_syntax.specs.declared.class.Give.{Give, Give-F, out-Give}
 use Rattle.mo_syntax.specs.declared.class.Item.{Item}
 use Rattle.mo_syntax.specs.declared.class.What.{What}
 use Rattle.mo_syntax.specs.declared.place.Place.{Place}
-use Rattle.mo_scope.specs.Rows.{Table, place_eq}
+use Rattle.mo_scope.specs.Rows.{Table}
 use Rattle.mo_scope.specs.Frames.{Frame, Scope, Member, class_of}
 use Rattle.mo_scope.specs.Parts.{Redeclaration}
 use Rattle.mo_scope.specs.Lookup.{Walked, asking_of, class_named, named}

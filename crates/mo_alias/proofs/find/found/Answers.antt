@@ -1,4 +1,4 @@
-use Rattle.std.proofs.Common.{◌+◌, ℕ, Bool, sym, length, subst}
+use Rattle.std.proofs.Common.{ℕ, Bool, sym, length, subst}
 use Rattle.mo_alias.specs.steps.Findings.{AreFindings}
 use Rattle.mo_alias.specs.steps.Forests.{AreWithin}
 use Rattle.mo_alias.specs.steps.Leasts.{AreGoneBelow, AreRoots}

@@ -1,4 +1,3 @@
-use Rattle.std.proofs.Common.{refl, ap}
 use Rattle.mo_alias.proofs.Counting.{count_more, number_more}
 use Rattle.mo_alias.proofs.numbers.numbers_among.Goals as goal
 

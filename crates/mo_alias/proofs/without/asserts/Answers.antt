@@ -1,4 +1,4 @@
-use Rattle.std.proofs.Common.{map, refl, ap, ◌∙◌, take_all}
+use Rattle.std.proofs.Common.{map, ap, ◌∙◌, take_all}
 use Rattle.mo_alias.specs.steps.Placing.{place_at}
 use Rattle.mo_alias.specs.Without.{replaced_assert}
 use Rattle.mo_alias.proofs.Gathering.{mapped_more}

@@ -1,4 +1,4 @@
-use Rattle.std.proofs.Common.{◌+◌, ◌≡◌, length, map, ap, ◌∙◌}
+use Rattle.std.proofs.Common.{map, ap, ◌∙◌}
 use Rattle.std.specs.Prelude.{not}
 use Rattle.mo_alias.specs.steps.Placing.{flag_at, place_at}
 use Rattle.mo_alias.specs.Without.{kept_from, replaced_assert, replaced_equation, replaced_variable}

@@ -1,5 +1,5 @@
 -- One clause after another.
-use Rattle.std.proofs.Common.{◌≡◌, ◌<◌, Option, ap, sym, subst, ◌∙◌}
+use Rattle.std.proofs.Common.{◌<◌, ap, sym, subst, ◌∙◌}
 use Rattle.std.specs.Prelude.{option_map}
 use Rattle.mo_syntax.specs.declared.meaning.FrameId.{FrameId}
 use Rattle.mo_scope.specs.Names.{clauses_of}

@@ -1,4 +1,4 @@
-use Rattle.std.proofs.Common.{◌≡◌, ◌≤◌, drop, length}
+use Rattle.std.proofs.Common.{◌≡◌, drop}
 use Rattle.mo_scope.specs.Names.{clauses_of}
 use Rattle.mo_scope.specs.Sizes.{leaf_base}
 use Rattle.mo_scope.specs.Worlds.{Grows, frame_at, table_in}

@@ -1,4 +1,4 @@
-use Rattle.std.proofs.Common.{◌≡◌, ◌<◌, ◌≤◌, ◌+◌, ◌-◌, ◌/◌, ◌∙◌, sym, arith}
+use Rattle.std.proofs.Common.{◌<◌, ◌≤◌, ◌+◌, ◌-◌, ◌/◌, ◌∙◌, sym, arith}
 use Rattle.mo_incidence.specs.Signature.{equations, row_len, unknown_at}
 use Rattle.mo_certify.proofs.Halving.{one_entry, between_up, between_down, between_none}
 use Rattle.mo_certify.proofs.entries.find_entry.Goals as goal

@@ -1,5 +1,5 @@
 -- The first identifier, and one more.
-use Rattle.std.proofs.Common.{refl, sym, arith, ◌∷◌, ◌++◌, [], ◌∙◌, ap}
+use Rattle.std.proofs.Common.{sym, arith, ◌∷◌, ◌++◌, [], ◌∙◌, ap}
 use Rattle.std.proofs.lemmas.List.{map-append}
 use Rattle.mo_syntax.specs.Lexeme.{lexeme, lexemes}
 use Rattle.mo_grammar.specs.Language.{whole_limits, reads_form}

@@ -1,5 +1,5 @@
 -- By how many arguments there are.
-use Rattle.std.proofs.Common.{◌≡◌, ℕ, ◌<◌, ◌≤◌, length, List, Some, ap, subst, sym, ◌∙◌, arith}
+use Rattle.std.proofs.Common.{◌<◌, ◌≤◌, length, List, Some, ap, subst, sym, ◌∙◌, arith}
 use Rattle.std.specs.Borrow.{Bor}
 use Rattle.std.specs.Prelude.{Ok, option_map}
 use Rattle.mo_syntax.specs.Outcome.{Outcome, and_then}

@@ -1,5 +1,5 @@
 -- Argument by argument.
-use Rattle.std.proofs.Common.{◌≡◌, ◌+◌, ap, sym, ◌∙◌}
+use Rattle.std.proofs.Common.{◌+◌, ap, sym, ◌∙◌}
 use Rattle.mo_equations.specs.Asserts.{value_of_argument}
 use Rattle.mo_equations.proofs.Arguments.{ValuesLeft, partial_none, values_end, values_more, values_start, values_stop}
 use Rattle.mo_equations.proofs.asserts.values_of.Goals as goal

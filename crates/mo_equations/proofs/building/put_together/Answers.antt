@@ -1,5 +1,5 @@
 -- The expression that is counted, or filled in.
-use Rattle.std.proofs.Common.{◌≡◌, Some, None, refl, sym, ◌∙◌}
+use Rattle.std.proofs.Common.{Some, None, refl, sym, ◌∙◌}
 use Rattle.mo_equations.specs.declared.flat.Flat.{Flat}
 use Rattle.mo_equations.proofs.Replaced.{all_good, flat_past, flat_built}
 use Rattle.mo_equations.proofs.building.put_together.Goals as goal

@@ -1,5 +1,5 @@
 -- One more is kept.
-use Rattle.std.proofs.Common.{◌≡◌, ◌++◌, ◌∷◌, [], ℕ, List, Result, Ok, Err, Some, refl, ap, sym, ◌∙◌, subst}
+use Rattle.std.proofs.Common.{◌≡◌, ◌++◌, ◌∷◌, [], ℕ, List, Result, Ok, Err, Some, refl, sym, subst}
 use Rattle.std.specs.Prelude.{OnOk, OnErr, slice_get}
 use Rattle.mo_scope.specs.Worlds.{World}
 use Rattle.mo_eval.proofs.Remembered.{each_pushed}

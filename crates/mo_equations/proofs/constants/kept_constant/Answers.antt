@@ -1,5 +1,5 @@
 -- The expression that was kept is that of the constant.
-use Rattle.std.proofs.Common.{◌≡◌, ℕ, Ok, Some, ap, sym, subst, ◌∙◌, rules}
+use Rattle.std.proofs.Common.{◌≡◌, ℕ, Ok, Some, sym, subst, rules}
 use Rattle.std.specs.Prelude.{slice_get}
 use Rattle.mo_scope.specs.Worlds.{frames_of, table_in}
 use Rattle.mo_names.specs.Sights.{member_of}

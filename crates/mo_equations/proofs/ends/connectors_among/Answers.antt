@@ -1,5 +1,5 @@
 -- One component more.
-use Rattle.std.proofs.Common.{◌≡◌, ◌+◌, ◌++◌, ◌∷◌, [], List, Bool, Ok, Err, map, take, drop, refl, ap, sym, subst, ◌∙◌, rules}
+use Rattle.std.proofs.Common.{◌≡◌, ◌+◌, List, Bool, Ok, Err, map, take, drop, ap, sym, subst, ◌∙◌, rules}
 use Rattle.std.proofs.lemmas.List.{take_all}
 use Rattle.mo_scope.specs.declared.row.Member.{Member as MemberAt}
 use Rattle.mo_scope.specs.Frames.{Member}
@@ -7,7 +7,6 @@ use Rattle.mo_scope.specs.Rows.{Table}
 use Rattle.mo_scope.specs.Worlds.{frames_of, table_in}
 use Rattle.mo_names.specs.Sights.{IsMember, member_of}
 use Rattle.mo_names.proofs.Later.{grows_refl, grows_trans, is_member_later, member_later, table_later}
-use Rattle.mo_syntax.specs.Outcome.{Outcome}
 use Rattle.mo_typing.specs.Outcome.{Gives, each}
 use Rattle.mo_equations.specs.Ends.{is_connector_member}
 use Rattle.mo_equations.proofs.Eaching.{each_more, each_stops}

@@ -1,8 +1,7 @@
 -- The frame of the component, then what its name reaches there.
 use Rattle.std.proofs.Common.{◌≡◌, Err, ap, subst, sym, ◌∙◌, rules}
-use Rattle.mo_syntax.specs.Outcome.{Outcome}
 use Rattle.mo_syntax.specs.declared.meaning.FrameId.{FrameId}
-use Rattle.mo_scope.specs.Lookup.{Reached, asking_of, reached}
+use Rattle.mo_scope.specs.Lookup.{asking_of, reached}
 use Rattle.mo_scope.specs.Outcome.{Gives}
 use Rattle.mo_scope.specs.Rows.{Table}
 use Rattle.mo_scope.specs.Worlds.{frame_at, frames_of, table_in}

@@ -1,8 +1,5 @@
 -- One component more.
-use Rattle.std.proofs.Common.{◌≡◌, ℕ, ◌+◌, ◌-◌, ◌++◌, ◌∷◌, [], List, Ok, Err, map, take, drop, length, ap, sym, subst, ◌∙◌, rules, arith}
-use Rattle.mo_syntax.specs.Outcome.{Outcome}
-use Rattle.mo_syntax.specs.declared.expr.Expr.{Expr}
-use Rattle.mo_syntax.specs.declared.expr.PartOf.{PartOf}
+use Rattle.std.proofs.Common.{◌≡◌, ◌+◌, ◌-◌, ◌++◌, ◌∷◌, [], List, Ok, Err, map, take, drop, length, ap, sym, subst, ◌∙◌, rules, arith}
 use Rattle.mo_scope.specs.declared.row.Member.{Member as MemberAt}
 use Rattle.mo_scope.specs.Frames.{Member, Scope}
 use Rattle.mo_scope.specs.Outcome.{Gives}
@@ -10,7 +7,7 @@ use Rattle.mo_scope.specs.Places.{Every}
 use Rattle.mo_scope.specs.Rows.{Table}
 use Rattle.mo_scope.specs.Worlds.{frames_of, scope_in, table_in}
 use Rattle.mo_names.specs.Sights.{IsMember, member_of}
-use Rattle.mo_names.proofs.Later.{grows_refl, grows_trans, is_member_later, table_later}
+use Rattle.mo_names.proofs.Later.{grows_refl, grows_trans, table_later}
 use Rattle.mo_equations.specs.Ends.{declared_behind, declared_by_name}
 use Rattle.mo_equations.specs.steps.Ends.{first_component}
 use Rattle.mo_equations.proofs.Arguments.{scope_later}

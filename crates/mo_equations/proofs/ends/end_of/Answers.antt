@@ -2,7 +2,7 @@
 use Rattle.std.proofs.Common.{◌≡◌, ℕ, List, [], Some, Ok, Err, ap, sym, subst, ◌∙◌, rules}
 use Rattle.mo_flat.specs.declared.connect.End.{End}
 use Rattle.mo_flat.specs.declared.connect.Side.TheVariants.{Neither}
-use Rattle.mo_scope.specs.Worlds.{frames_of, scope_in, table_in}
+use Rattle.mo_scope.specs.Worlds.{frames_of, scope_in}
 use Rattle.mo_typing.specs.Outcome.{Gives}
 use Rattle.mo_eval.specs.Ends.{ended_seen, first_identifier}
 use Rattle.mo_equations.specs.Ends.{no_connector}

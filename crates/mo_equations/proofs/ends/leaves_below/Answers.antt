@@ -1,9 +1,7 @@
 -- The numbers under the text of a path are those of the leaves below it.
-use Rattle.std.proofs.Common.{◌≡◌, ℕ, [], List, None, Some, flat_map, ap, sym, ◌∙◌}
+use Rattle.std.proofs.Common.{◌≡◌, ℕ, [], List, flat_map, ap, sym, ◌∙◌}
 use Rattle.std.specs.HashMap.{get_by_text}
-use Rattle.mo_flat.specs.declared.connect.EndLeaf.{EndLeaf}
 use Rattle.mo_scope.specs.Worlds.{frames_of, table_in}
-use Rattle.mo_equations.specs.Connectors.{leaves_below}
 use Rattle.mo_equations.specs.Leaves.{path_text}
 use Rattle.mo_equations.specs.steps.Desks.{tree_in}
 use Rattle.mo_equations.specs.steps.LeafTables.{leaf_at_number, leaves_in, numbers_at, numbers_or_none}

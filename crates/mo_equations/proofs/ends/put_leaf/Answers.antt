@@ -1,5 +1,5 @@
 -- The leaf of a number.
-use Rattle.std.proofs.Common.{◌≡◌, ℕ, ◌≤◌, ◌-◌, Bool, [], ◌∷◌, ◌++◌, List, None, Some, true, false, zero, suc, option_copied, ap, sym, subst, ◌∙◌, arith}
+use Rattle.std.proofs.Common.{◌≡◌, ◌-◌, Bool, ◌++◌, List, None, Some, false, option_copied, ap, sym, subst, ◌∙◌}
 use Rattle.std.specs.Prelude.{OnOk, slice_get}
 use Rattle.std.proofs.lemmas.List.{append-nil}
 use Rattle.mo_flat.specs.declared.connect.EndLeaf.{EndLeaf}
@@ -10,7 +10,7 @@ use Rattle.mo_scope.specs.Worlds.{frames_of, table_in}
 use Rattle.mo_equations.specs.Connectors.{is_connector, is_declared_flow}
 use Rattle.mo_equations.specs.Leaves.{behind}
 use Rattle.mo_equations.specs.steps.Desks.{tree_in}
-use Rattle.mo_equations.specs.steps.LeafTables.{is_flow_by, leaf_at_number, leaves_in, paths_that}
+use Rattle.mo_equations.specs.steps.LeafTables.{is_flow_by, leaves_in, paths_that}
 use Rattle.mo_equations.proofs.Located.{is_behind, not_behind, not_joined, positive_by, variable_of}
 use Rattle.mo_equations.proofs.Making.{some_is}
 use Rattle.mo_equations.proofs.Places.{seen_at}

@@ -1,19 +1,17 @@
 -- Row after row.
-use Rattle.std.proofs.Common.{◌≡◌, ℕ, ◌+◌, ◌<◌, ◌≤◌, [], ◌∷◌, ◌++◌, ◌-◌, List, Result, Ok, Err, map, flat_map, length, take, drop, get_or, ap, sym, subst, ◌∙◌, arith, rules}
+use Rattle.std.proofs.Common.{◌≡◌, ℕ, ◌+◌, ◌≤◌, [], ◌∷◌, ◌++◌, ◌-◌, Ok, Err, map, length, take, drop, ap, sym, subst, arith, rules}
 use Rattle.mo_flat.specs.declared.expr.FlatExpr.{FlatExpr}
 use Rattle.mo_flat.specs.declared.model.FlatEquation.{FlatEquation}
 use Rattle.mo_scope.specs.Worlds.{frames_of}
 use Rattle.mo_syntax.specs.Outcome.{Outcome}
-use Rattle.mo_typing.specs.Indices.{Index, indices, numbers_to}
+use Rattle.mo_typing.specs.Indices.{Index, indices}
 use Rattle.mo_typing.specs.Outcome.{each}
 use Rattle.mo_arrays.specs.Equations.{equation}
 use Rattle.mo_eval.specs.Seen.{virtuals_seen}
 use Rattle.mo_eval.specs.Values.{most_references}
 use Rattle.mo_eval.proofs.Grown.{there_still}
 use Rattle.mo_equations.specs.Equalities.{replaced_sides}
-use Rattle.mo_equations.specs.Replacing.{of_variable}
-use Rattle.mo_equations.specs.steps.Desks.{replacing_in, tree_in}
-use Rattle.mo_equations.specs.steps.Equalities.{PutsEquations}
+use Rattle.mo_equations.specs.steps.Desks.{tree_in}
 use Rattle.mo_equations.specs.steps.Standing.{AreReplaced}
 use Rattle.mo_equations.proofs.Lists.{empty_list, opened_or}
 use Rattle.mo_equations.proofs.Sided.{puts_as, puts_nothing, row_empty, row_next, row_stops, rows_below, rows_end, same_sides, same_variables}

@@ -1,5 +1,5 @@
 -- What was put are the equations of the rows so far.
-use Rattle.std.proofs.Common.{◌≡◌, ◌+◌, ◌*◌, ◌++◌, ◌∷◌, [], Ok, flat_map, length, map}
+use Rattle.std.proofs.Common.{◌+◌, ◌*◌, ◌++◌, ◌∷◌, [], Ok, flat_map, length, map}
 use Rattle.mo_scope.specs.Worlds.{frames_of}
 use Rattle.mo_typing.specs.Indices.{indices, numbers_to}
 use Rattle.mo_typing.specs.Outcome.{each}

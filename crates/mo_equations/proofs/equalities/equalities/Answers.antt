@@ -1,8 +1,6 @@
 -- The equations of two sides.
-use Rattle.std.proofs.Common.{◌≡◌, ℕ, [], ◌++◌, List, Ok, Err, map, ap, sym, subst, ◌∙◌, rules}
-use Rattle.mo_flat.specs.declared.model.FlatEquation.{FlatEquation}
+use Rattle.std.proofs.Common.{◌≡◌, [], ◌++◌, Ok, Err, map, ap, rules}
 use Rattle.mo_scope.specs.Worlds.{frames_of, scope_in, table_in}
-use Rattle.mo_syntax.specs.Outcome.{Outcome}
 use Rattle.mo_typing.specs.Indices.{indices}
 use Rattle.mo_typing.specs.Outcome.{each}
 use Rattle.mo_arrays.specs.Equations.{equation}

@@ -1,5 +1,5 @@
 -- The equation of the elements at an index.
-use Rattle.std.proofs.Common.{◌≡◌, ℕ, [], ◌∷◌, Ok, Err, ap, sym, subst, ◌∙◌, rules}
+use Rattle.std.proofs.Common.{◌≡◌, ℕ, [], ◌∷◌, Err, ap, sym, subst, ◌∙◌, rules}
 use Rattle.mo_flat.specs.declared.expr.FlatExpr.{FlatExpr}
 use Rattle.mo_scope.specs.Worlds.{frames_of}
 use Rattle.mo_arrays.specs.Elements.{element_of}
@@ -10,7 +10,7 @@ use Rattle.mo_eval.proofs.Grown.{there_still}
 use Rattle.mo_equations.specs.declared.flat.Flat.{Flat}
 use Rattle.mo_equations.specs.Replacing.{with_variables}
 use Rattle.mo_equations.specs.steps.Desks.{tree_in}
-use Rattle.mo_equations.specs.steps.Flats.{Answers, IsFlat}
+use Rattle.mo_equations.specs.steps.Flats.{IsFlat}
 use Rattle.mo_equations.specs.steps.Standing.{AreReplaced}
 use Rattle.mo_equations.proofs.Replacings.{answers_as}
 use Rattle.mo_equations.proofs.Sided.{both_are, left_stops, right_stops, same_variables}

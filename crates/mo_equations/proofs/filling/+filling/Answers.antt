@@ -1,5 +1,5 @@
 -- Each part in turn.
-use Rattle.std.proofs.Common.{◌≡◌, Bool, List, Ok, ap, sym, ◌∙◌}
+use Rattle.std.proofs.Common.{Bool, List, Ok, ap, sym, ◌∙◌}
 use Rattle.mo_flat.specs.declared.expr.FlatExpr.{FlatExpr}
 use Rattle.mo_flat.specs.declared.expr.FlatExpr as flat
 use Rattle.mo_equations.specs.Replacing.{with_variables}

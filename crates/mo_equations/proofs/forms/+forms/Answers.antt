@@ -1,40 +1,36 @@
 -- The equations of a section, one form after another.
-use Rattle.std.proofs.Common.{◌≡◌, ℕ, ℤ, ◌+◌, ◌-◌, ◌<◌, ◌≤◌, Bool, true, false, List, [], ◌∷◌, ◌++◌, Option, Some, None, Result, Ok, Err, map, take, drop, length, get_or, refl, ap, sym, subst, ◌∙◌, arith, rules}
-use Rattle.std.specs.Prelude.{slice_get}
-use Rattle.std.proofs.lemmas.List.{drop_all, take_all, take_more}
+use Rattle.std.proofs.Common.{◌≡◌, ℕ, ℤ, ◌+◌, ◌-◌, ◌≤◌, true, false, List, [], ◌∷◌, ◌++◌, Some, Ok, Err, map, take, drop, length, ap, sym, subst, ◌∙◌, arith, rules}
+use Rattle.std.proofs.lemmas.List.{drop_all, take_all}
 use Rattle.std.proofs.lemmas.Int.{to_z-of_z}
-use Rattle.mo_syntax.specs.Outcome.{Outcome, breaks}
 use Rattle.mo_syntax.specs.declared.equation.EquationKind.{EquationKind}
 use Rattle.mo_syntax.specs.declared.equation.EquationOf.{EquationOf}
 use Rattle.mo_syntax.specs.declared.expr.Expr.{Expr}
 use Rattle.mo_syntax.specs.declared.place.Stop.{Stop}
 use Rattle.mo_typing.specs.Outcome as told
 use Rattle.mo_values.specs.Scalars.{Known}
-use Rattle.mo_scope.specs.Worlds.{frames_of, scope_in}
+use Rattle.mo_scope.specs.Worlds.{frames_of}
 use Rattle.mo_names.proofs.Later.{is_frame_later}
 use Rattle.mo_values.specs.declared.value.Scalar.TheVariants.{Truth}
 use Rattle.mo_equations.specs.declared.desk.Desk.{Desk}
 use Rattle.mo_equations.specs.declared.made.Made.{Made as MadeAt}
 use Rattle.mo_equations.specs.Equations.{Former, Site, condition_known, flat_condition, in_branch, made_kind, made_loop, numbers_of_index, with_iteration}
-use Rattle.mo_equations.specs.Gathering.{Made, Turning, beside, gathered, made_equations, nothing, one_turn}
-use Rattle.mo_equations.specs.Joining.{Choice, made_if}
+use Rattle.mo_equations.specs.Gathering.{beside, gathered, nothing, one_turn}
+use Rattle.mo_equations.specs.Joining.{made_if}
 use Rattle.mo_equations.specs.declared.flat.Flat.{Flat}
 use Rattle.mo_equations.specs.declared.forms.Site.{Site as SiteAt}
 use Rattle.mo_equations.specs.steps.Choices.{AreBranches}
-use Rattle.mo_equations.specs.steps.Equalities.{GivesEquations}
 use Rattle.mo_syntax.specs.declared.expr.IndexOf.{IndexOf}
 use Rattle.mo_equations.specs.Leaves.{Tree, place_of_root}
 use Rattle.mo_equations.specs.steps.Desks.{Goes, tree_in}
-use Rattle.mo_equations.specs.steps.Flats.{Answers, IsFlat}
-use Rattle.mo_equations.specs.steps.Makings.{IsMade}
+use Rattle.mo_equations.specs.steps.Flats.{IsFlat}
 use Rattle.mo_equations.specs.steps.Ranges.{numbers_seen}
-use Rattle.mo_equations.specs.steps.Turns.{GivesBranch, GivesMade, all_made_at, branch_at, choice_at, formed_at, made_turns, site_in, undecided_at}
+use Rattle.mo_equations.specs.steps.Turns.{GivesBranch, GivesMade, all_made_at, choice_at, formed_at, made_turns, site_in, undecided_at}
 use Rattle.mo_equations.proofs.Bare.{choice_is_bare}
 use Rattle.mo_equations.proofs.Branched.{both_branch}
 use Rattle.mo_equations.proofs.Depths.{equations_below}
 use Rattle.mo_equations.proofs.Deciding.{put_front, branches_more, false_left, from_place, front_none, last_made, last_stops, other_left, other_stops, step_halts, true_made, true_stops}
 use Rattle.mo_equations.proofs.EachForm.{at_Call, at_Connect, at_Equal, at_For, at_If, at_When}
-use Rattle.mo_equations.proofs.Formed.{branch_halts, branch_made, branch_stops, gathers_stop, goes_taken, if_halts, if_made, inner_site, loop_body, loop_halts, loop_then, made_as, made_none, mapped_split, mapped_taken, same_site, same_told, turn_stops, turn_taken}
+use Rattle.mo_equations.proofs.Formed.{branch_halts, gathers_stop, goes_taken, if_halts, if_made, inner_site, loop_body, loop_halts, loop_then, made_as, made_none, mapped_split, mapped_taken, same_site, same_told, turn_stops, turn_taken}
 use Rattle.mo_equations.proofs.Lists.{empty_list, opened, split_at, split_got, taken_got}
 use Rattle.mo_equations.proofs.Staying.{goes_on, same_tree, stays_still}
 use Rattle.mo_equations.proofs.Turning.{Gathers, gathers, gathers_more, gathers_none}

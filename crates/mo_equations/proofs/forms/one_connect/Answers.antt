@@ -1,5 +1,4 @@
 -- One connect alone.
-use Rattle.std.proofs.Common.{[], ◌∷◌}
 use Rattle.mo_equations.specs.Gathering.{nothing}
 use Rattle.mo_equations.proofs.forms.one_connect.Goals as goal
 

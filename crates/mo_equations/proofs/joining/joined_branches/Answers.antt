@@ -1,5 +1,5 @@
 -- One branch more.
-use Rattle.std.proofs.Common.{◌≡◌, Ok, ap, sym, ◌∙◌}
+use Rattle.std.proofs.Common.{Ok, ap, sym, ◌∙◌}
 use Rattle.std.proofs.lemmas.List.{take_all}
 use Rattle.mo_typing.specs.Outcome.{each}
 use Rattle.mo_equations.specs.steps.Choices.{branch_at}

@@ -1,5 +1,5 @@
 -- One equation more.
-use Rattle.std.proofs.Common.{◌≡◌, Ok, ap, sym, ◌∙◌}
+use Rattle.std.proofs.Common.{Ok, ap, sym}
 use Rattle.mo_equations.proofs.Joined.{next_joined}
 use Rattle.mo_equations.proofs.joining.joined_equations.Goals as goal
 

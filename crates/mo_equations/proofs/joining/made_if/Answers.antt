@@ -1,11 +1,7 @@
 -- By the branches that are left.
-use Rattle.std.proofs.Common.{◌≡◌, true, false, Err, List, [], refl, ap, sym, ◌∙◌, arith}
+use Rattle.std.proofs.Common.{true, false, refl, sym, ◌∙◌}
 use Rattle.std.proofs.lemmas.Bool.{false≢true}
-use Rattle.mo_syntax.specs.declared.place.Stop.{Stop}
-use Rattle.mo_flat.specs.declared.expr.FlatExpr.{FlatExpr}
-use Rattle.mo_equations.specs.declared.flat.Flat.{Flat}
 use Rattle.mo_equations.specs.declared.made.Made.{Made as MadeAt}
-use Rattle.mo_equations.specs.steps.Choices.{counts_are_equal}
 use Rattle.mo_equations.specs.steps.Makings.{IsMade}
 use Rattle.mo_equations.proofs.Joined.{joined_alone, joined_made, joined_unequal, uncapped}
 use Rattle.mo_equations.proofs.Replacings.{answers_breaks}

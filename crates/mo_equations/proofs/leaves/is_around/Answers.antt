@@ -1,6 +1,5 @@
 -- By the prefixes.
-use Rattle.std.proofs.Common.{◌≡◌, ◌||◌, true, false, is_some, length, take, ap, sym, ◌∙◌, arith}
-use Rattle.mo_scope.specs.Frames.{Indexed}
+use Rattle.std.proofs.Common.{◌||◌, true, false, is_some, take, ap, sym, ◌∙◌, arith}
 use Rattle.mo_equations.specs.steps.Tables.{paths_seen, place_among}
 use Rattle.mo_equations.proofs.Around.{any_found, any_next, any_of_all, around_by_prefixes}
 use Rattle.mo_equations.proofs.leaves.is_around.Goals as goal

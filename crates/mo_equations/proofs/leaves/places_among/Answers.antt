@@ -1,5 +1,5 @@
 -- One place more.
-use Rattle.std.proofs.Common.{◌+◌, ◌++◌, ◌∷◌, [], ap, sym, ◌∙◌, if◌then◌else◌, arith}
+use Rattle.std.proofs.Common.{◌+◌, ◌++◌, ◌∷◌, [], ap, ◌∙◌, if◌then◌else◌, arith}
 use Rattle.mo_equations.proofs.Tabled.{places_next}
 use Rattle.mo_equations.proofs.leaves.places_among.Goals as goal
 

@@ -1,5 +1,5 @@
 -- One prefix more.
-use Rattle.std.proofs.Common.{◌+◌, ◌≤◌, length, ◌∙◌, arith, ap, sym, if◌then◌else◌}
+use Rattle.std.proofs.Common.{◌∙◌, arith, ap, sym, if◌then◌else◌}
 use Rattle.std.specs.HashMap.{get_by_text}
 use Rattle.mo_equations.specs.steps.LeafTables.{has_text, numbers_or_none, with_number}
 use Rattle.mo_equations.proofs.Around.{any_of_all, around_more}

@@ -1,5 +1,5 @@
 -- One assert, kept where all its parts are built.
-use Rattle.std.proofs.Common.{◌≡◌, ◌++◌, ◌∷◌, [], List, None, Some, ap, refl, sym, ◌∙◌}
+use Rattle.std.proofs.Common.{◌++◌, ◌∷◌, [], List, ap, sym, ◌∙◌}
 use Rattle.mo_flat.specs.declared.model.FlatAssert.{FlatAssert}
 use Rattle.mo_equations.proofs.Making.{assert_put, no_asserts, none_some, some_is}
 use Rattle.mo_equations.proofs.made.one_assert.Goals.{in-Some+in_ok-push, in_default}

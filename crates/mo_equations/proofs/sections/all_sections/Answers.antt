@@ -1,5 +1,5 @@
 -- The sections of one frame more.
-use Rattle.std.proofs.Common.{◌≡◌, ◌++◌, [], List, Ok, Err, flat_map, refl, ap, sym, ◌∙◌, rules}
+use Rattle.std.proofs.Common.{◌≡◌, ◌++◌, [], List, Err, flat_map, refl, ap, sym, ◌∙◌, rules}
 use Rattle.std.proofs.lemmas.List.{take_all}
 use Rattle.mo_syntax.specs.declared.meaning.FrameId.{FrameId}
 use Rattle.mo_equations.specs.Expansion.{made_placed}

@@ -1,6 +1,6 @@
 -- The frames of all instances, one after another.
-use Rattle.std.proofs.Common.{◌≡◌, ◌+◌, ◌++◌, ◌∷◌, [], List, Ok, Err, map, take, drop, get_or, refl, ap, sym, subst, ◌∙◌, rules}
-use Rattle.std.proofs.lemmas.List.{take_all, take_more}
+use Rattle.std.proofs.Common.{◌≡◌, ◌+◌, [], List, Ok, Err, map, take, drop, refl, ap, sym, subst, ◌∙◌, rules}
+use Rattle.std.proofs.lemmas.List.{take_all}
 use Rattle.mo_syntax.specs.Outcome.{IfBroken, Outcome}
 use Rattle.mo_syntax.specs.declared.meaning.FrameId.{FrameId}
 use Rattle.mo_scope.specs.declared.instance.Instance.{Instance as InstanceAt}

@@ -1,5 +1,5 @@
 -- A section of equations.
-use Rattle.std.proofs.Common.{◌≡◌, [], List, Ok, Err, refl, ap, sym, ◌∙◌, rules}
+use Rattle.std.proofs.Common.{◌≡◌, Err, rules}
 use Rattle.mo_scope.specs.Worlds.{frame_in, frames_of}
 use Rattle.mo_equations.specs.steps.Desks.{tree_in}
 use Rattle.mo_equations.proofs.Parted.{puts_section, stops_section}

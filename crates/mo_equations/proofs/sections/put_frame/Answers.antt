@@ -1,5 +1,5 @@
 -- The sections of the class of a frame.
-use Rattle.std.proofs.Common.{◌≡◌, List, Ok, refl, ap, sym}
+use Rattle.std.proofs.Common.{List, Ok, refl, ap, sym}
 use Rattle.mo_scope.specs.Worlds.{frame_at, frames_of, table_in}
 use Rattle.mo_equations.specs.declared.sections.Placed.{Placed as PlacedAt}
 use Rattle.mo_equations.specs.Expansion.{Placed, made_placed}

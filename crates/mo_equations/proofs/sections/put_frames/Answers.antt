@@ -1,10 +1,10 @@
 -- The frames of an instance: its bases, then its class.
-use Rattle.std.proofs.Common.{◌≡◌, ◌++◌, ◌∷◌, [], List, Err, refl, ap, sym, ◌∙◌, append_assoc, rules}
+use Rattle.std.proofs.Common.{◌≡◌, ◌++◌, ◌∷◌, [], List, Err, refl, ap, ◌∙◌, append_assoc, rules}
 use Rattle.mo_syntax.specs.declared.meaning.FrameId.{FrameId}
 use Rattle.mo_scope.specs.Worlds.{frame_at, frames_of, table_in}
 use Rattle.mo_names.specs.Sights.{walk_seen}
 use Rattle.mo_names.proofs.Later.{is_frame_later}
-use Rattle.mo_equations.specs.steps.Placing.{AreFrames, last_frames}
+use Rattle.mo_equations.specs.steps.Placing.{last_frames}
 use Rattle.mo_equations.proofs.Parted.{all_exist, both_exist, exist_later, walk_halts, walked_frames}
 use Rattle.mo_equations.proofs.sections.put_frames.Goals as goal
 

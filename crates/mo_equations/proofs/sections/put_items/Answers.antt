@@ -1,5 +1,5 @@
 -- One item more.
-use Rattle.std.proofs.Common.{◌≡◌, ◌+◌, ◌++◌, [], List, Ok, Err, flat_map, take, drop, refl, ap, sym, subst, ◌∙◌, rules}
+use Rattle.std.proofs.Common.{◌≡◌, ◌+◌, [], List, Ok, Err, flat_map, take, drop, refl, ap, sym, subst, ◌∙◌, rules}
 use Rattle.std.proofs.lemmas.List.{take_all}
 use Rattle.mo_syntax.specs.declared.class.Item.{Item}
 use Rattle.mo_scope.specs.Worlds.{frames_of}

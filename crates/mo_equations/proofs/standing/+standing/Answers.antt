@@ -1,8 +1,6 @@
 -- What stands for elements, one reference after another.
-use Rattle.std.proofs.Common.{◌≡◌, ℕ, ◌+◌, ◌-◌, List, [], ◌∷◌, Option, Some, None, Result, Ok, Err, ◌<◌, map, take, length, get_or, refl, ap, sym, subst, ◌∙◌, arith, rules}
-use Rattle.std.specs.Prelude.{slice_get, slice_set}
-use Rattle.mo_syntax.specs.Outcome.{Outcome}
-use Rattle.mo_syntax.specs.declared.place.Stop.{Stop}
+use Rattle.std.proofs.Common.{◌≡◌, ℕ, ◌-◌, List, Some, None, Err, ◌<◌, map, take, length, get_or, refl, ap, sym, subst, ◌∙◌, arith, rules}
+use Rattle.std.specs.Prelude.{slice_set}
 use Rattle.mo_flat.specs.declared.expr.FlatExpr.{FlatExpr}
 use Rattle.mo_flat.specs.declared.expr.FlatExpr as flat
 use Rattle.mo_scope.specs.Places.{Every}
@@ -12,18 +10,17 @@ use Rattle.mo_scope.specs.Sights.{picked_in, source_seen}
 use Rattle.mo_scope.specs.Worlds.{frames_of, scope_in, table_in}
 use Rattle.mo_names.specs.Children.{child_seen}
 use Rattle.mo_names.proofs.Later.{is_member_later, table_later}
-use Rattle.mo_typing.specs.Indices.{Index}
 use Rattle.mo_values.specs.Asked.{fitted}
 use Rattle.mo_eval.specs.Components.{place_of}
-use Rattle.mo_eval.specs.Seen.{element_seen, resolved_seen, virtual_seen, virtuals_seen}
+use Rattle.mo_eval.specs.Seen.{element_seen, resolved_seen, virtuals_seen}
 use Rattle.mo_eval.specs.Virtuals.{Resolved}
 use Rattle.mo_eval.proofs.Bindings.{picked_exists}
 use Rattle.mo_eval.proofs.Grown.{there_still}
 use Rattle.mo_equations.specs.declared.flat.Flat.{Flat}
 use Rattle.mo_equations.specs.Leaves.{number_of}
-use Rattle.mo_equations.specs.Replacing.{Replacing, constant, constant_by, flat_at, flat_chosen, flat_element, flat_value, of_variable, of_virtual, standing, with_variables}
+use Rattle.mo_equations.specs.Replacing.{Replacing, constant, constant_by, flat_at, flat_element, flat_value, of_variable, of_virtual, standing, with_variables}
 use Rattle.mo_equations.specs.steps.Desks.{replacing_in, tree_in}
-use Rattle.mo_equations.specs.steps.Flats.{Answers, IsFlat}
+use Rattle.mo_equations.specs.steps.Flats.{IsFlat}
 use Rattle.mo_equations.specs.steps.Layers.{fit_of, wanted_of}
 use Rattle.mo_equations.specs.steps.Counting.{variables_in}
 use Rattle.mo_equations.specs.steps.Standing.{IsAskedAt, constant_expression, constant_known}

@@ -1,19 +1,16 @@
 -- Number by number.
-use Rattle.std.proofs.Common.{◌≡◌, ℕ, ℤ, ◌+◌, ◌++◌, ◌∷◌, [], List, Result, Ok, Err, rules, ap, arith, sym, subst, ◌∙◌}
+use Rattle.std.proofs.Common.{◌≡◌, ℤ, ◌+◌, ◌++◌, ◌∷◌, [], Err, rules, ap, arith, sym, subst, ◌∙◌}
 use Rattle.std.proofs.lemmas.Int.{to_z-of_z}
 use Rattle.mo_syntax.specs.Outcome.{Outcome}
-use Rattle.mo_syntax.specs.declared.place.Stop.{Stop}
-use Rattle.mo_scope.specs.Outcome as seen
-use Rattle.mo_scope.specs.Worlds.{World, frames_of, table_in}
+use Rattle.mo_scope.specs.Worlds.{frames_of, table_in}
 use Rattle.mo_typing.specs.Indices.{Index, numbers_to}
-use Rattle.mo_typing.specs.Outcome.{Gives, each}
+use Rattle.mo_typing.specs.Outcome.{Gives}
 use Rattle.mo_values.specs.Asked.{must_be_whole}
 use Rattle.mo_values.specs.Scalars.{Known}
 use Rattle.mo_eval.specs.Seen.{resolved_seen}
 use Rattle.mo_eval.specs.Values.{known_of, most_references}
 use Rattle.mo_eval.proofs.Grown.{there_still}
-use Rattle.mo_equations.specs.declared.values.Numbers.{Numbers}
-use Rattle.mo_equations.specs.steps.Ranges.{GivesNumbers, numbers_seen}
+use Rattle.mo_equations.specs.steps.Ranges.{numbers_seen}
 use Rattle.mo_equations.proofs.Eaching.{Left, left_end, left_more}
 use Rattle.mo_equations.proofs.Knowing.{item_is, item_within, items_end, known_later, number_known, numbers_stop, stops_known, stops_whole, whole_known}
 use Rattle.mo_equations.proofs.Staying.{reads, stays_on}

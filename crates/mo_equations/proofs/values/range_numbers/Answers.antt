@@ -1,5 +1,5 @@
 -- What is resolved, then its numbers.
-use Rattle.std.proofs.Common.{◌≡◌, [], ◌∷◌, map, Ok, arith, ap, sym, ◌∙◌}
+use Rattle.std.proofs.Common.{[], ◌∷◌, map, Ok, arith, sym, ◌∙◌}
 use Rattle.std.proofs.lemmas.Int.{to_z-of_z}
 use Rattle.mo_typing.specs.Indices.{numbers_to, range_element}
 use Rattle.mo_scope.specs.Worlds.{frames_of, scope_in, table_in}

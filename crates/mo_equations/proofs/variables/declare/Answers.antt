@@ -1,11 +1,10 @@
 -- Its attributes, then its binding.
-use Rattle.std.proofs.Common.{◌≡◌, ◌++◌, ◌∷◌, [], Err, List, rules, ap, sym, subst, ◌∙◌}
-use Rattle.mo_scope.specs.Worlds.{frames_of, table_in}
+use Rattle.std.proofs.Common.{◌≡◌, ◌++◌, ◌∷◌, [], Err, rules, sym, subst, ◌∙◌}
+use Rattle.mo_scope.specs.Worlds.{frames_of}
 use Rattle.mo_names.proofs.Later.{grows_trans, table_later}
-use Rattle.mo_typing.specs.Outcome.{each}
 use Rattle.mo_equations.specs.Leaves.{Variable}
-use Rattle.mo_equations.specs.Variables.{declared_with, flat_attribute, flat_option}
-use Rattle.mo_equations.specs.steps.Declaring.{AreAttributes, AreDeclared, attributes_in, binding_in, variable_in}
+use Rattle.mo_equations.specs.Variables.{declared_with, flat_option}
+use Rattle.mo_equations.specs.steps.Declaring.{AreAttributes, AreDeclared, variable_in}
 use Rattle.mo_equations.specs.steps.Desks.{tree_in}
 use Rattle.mo_equations.specs.steps.Makings.{IsFlatOption}
 use Rattle.mo_equations.proofs.AllDeclared.{bound_of, declared_is, option_later, refused_first, refused_then}

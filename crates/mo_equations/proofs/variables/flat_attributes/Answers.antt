@@ -1,5 +1,5 @@
 -- Attribute by attribute.
-use Rattle.std.proofs.Common.{◌≡◌, ◌+◌, ◌++◌, ◌∷◌, [], Err, List, rules, ap, sym, subst, ◌∙◌}
+use Rattle.std.proofs.Common.{◌≡◌, ◌+◌, ◌++◌, ◌∷◌, [], Err, rules, ap, sym, ◌∙◌}
 use Rattle.mo_scope.specs.Trees.{IsChosen, attribute_in, chosen_in}
 use Rattle.mo_scope.specs.Worlds.{frames_of}
 use Rattle.mo_syntax.specs.declared.meaning.Kind.{Kind}
@@ -10,7 +10,7 @@ use Rattle.mo_equations.specs.steps.Desks.{tree_in}
 use Rattle.mo_equations.specs.steps.Flats.{IsFlat}
 use Rattle.mo_equations.proofs.AllDeclared.{attribute_given, attribute_is, attribute_stop, attribute_within, attributes_end, each_stop}
 use Rattle.mo_equations.proofs.Declares.{flat_later, is_chosen_later, is_one_of_later}
-use Rattle.mo_equations.proofs.Eaching.{left_end, left_more, left_start}
+use Rattle.mo_equations.proofs.Eaching.{left_end, left_more}
 use Rattle.mo_equations.proofs.Replacings.{answers_as}
 use Rattle.mo_equations.proofs.Staying.{stays_on}
 use Rattle.mo_equations.proofs.Tabled.{every_at}

@@ -1,5 +1,5 @@
 -- What is chosen, with the sizes that are pending.
-use Rattle.std.proofs.Common.{◌≡◌, refl}
+use Rattle.std.proofs.Common.{refl}
 use Rattle.mo_scope.specs.Worlds.{frames_of}
 use Rattle.mo_equations.specs.steps.Declaring.{variable_in}
 use Rattle.mo_equations.specs.steps.Flats.{IsFlat}

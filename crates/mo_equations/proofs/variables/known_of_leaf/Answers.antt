@@ -1,5 +1,5 @@
 -- What is chosen, with the sizes that are pending.
-use Rattle.std.proofs.Common.{◌≡◌, refl, subst}
+use Rattle.std.proofs.Common.{refl, subst}
 use Rattle.mo_scope.specs.Worlds.{frames_of}
 use Rattle.mo_syntax.specs.Outcome.{Outcome}
 use Rattle.mo_typing.specs.Outcome.{Gives}

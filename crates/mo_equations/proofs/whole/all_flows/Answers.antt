@@ -1,9 +1,9 @@
 -- One variable more.
-use Rattle.std.proofs.Common.{◌≡◌, ℕ, ◌++◌, ◌<◌, ◌≤◌, List, flat_map, take, length, ap, sym, subst, ◌∙◌, arith}
+use Rattle.std.proofs.Common.{ℕ, ◌++◌, List, flat_map, ap, sym, ◌∙◌, arith}
 use Rattle.std.proofs.lemmas.List.{take_all}
 use Rattle.mo_syntax.specs.declared.place.Place.{Place}
 use Rattle.mo_scope.specs.Worlds.{frames_of}
-use Rattle.mo_equations.specs.Leaves.{Variable, variables_of}
+use Rattle.mo_equations.specs.Leaves.{variables_of}
 use Rattle.mo_equations.specs.steps.Desks.{tree_in}
 use Rattle.mo_equations.specs.steps.LeafTables.{flow_at, flow_in}
 use Rattle.mo_equations.proofs.Flowing.{flows_step, places_many}

@@ -1,5 +1,5 @@
 -- The parts with the name and the flows.
-use Rattle.std.proofs.Common.{◌≡◌, ◌∙◌, List, Result, Ok, Err, sym, ap, subst, refl}
+use Rattle.std.proofs.Common.{◌≡◌, List, Result, Ok, Err, sym, subst, refl}
 use Rattle.std.specs.Prelude.{IfOk}
 use Rattle.mo_equations.specs.declared.whole.Expansion.{Expansion}
 use Rattle.mo_equations.specs.Counted.{IsExpansion}

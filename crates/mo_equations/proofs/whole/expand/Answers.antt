@@ -1,5 +1,5 @@
 -- What is made is what instances give, and its connects are sound.
-use Rattle.std.proofs.Common.{◌≡◌, List, Ok, sym, subst}
+use Rattle.std.proofs.Common.{List, Ok, sym, subst}
 use Rattle.mo_scope.specs.declared.instance.Instance.{Instance as InstanceAt}
 use Rattle.mo_flat.specs.SoundConnects.{IsSoundConnects}
 use Rattle.mo_equations.specs.declared.whole.Expansion.{Expansion}

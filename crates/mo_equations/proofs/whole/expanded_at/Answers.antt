@@ -1,12 +1,9 @@
 -- The variables, then the sections, then the rest.
 use Rattle.std.proofs.Common.{◌≡◌, ◌∙◌, ap, subst, sym, Err, Ok, rules}
-use Rattle.mo_equations.specs.declared.variables.Declared.{Declared as DeclaredAt}
 use Rattle.mo_equations.specs.Counted.{GivesExpansion}
 use Rattle.mo_equations.specs.Leaves.{Tree}
 use Rattle.mo_equations.specs.Variables.{all_declared}
-use Rattle.mo_equations.specs.steps.Declaring.{AreDeclared}
 use Rattle.mo_equations.specs.steps.Desks.{tree_in}
-use Rattle.mo_equations.specs.steps.Flats.{Answers}
 use Rattle.mo_equations.specs.steps.Placing.{parts_of_tree}
 use Rattle.mo_equations.proofs.Expanding.{declared_stop, parts_as}
 use Rattle.mo_equations.proofs.Staying.{goes_on, same_tree}

@@ -1,5 +1,5 @@
 -- Nothing was read yet.
-use Rattle.std.proofs.Common.{◌≡◌, ◌∙◌, List, [], Option, Some, None, sym, ap}
+use Rattle.std.proofs.Common.{◌≡◌, ◌∙◌, List, Option, Some, None, sym, ap}
 use Rattle.mo_scope.specs.declared.instance.Instance.{Instance as InstanceAt}
 use Rattle.mo_equations.specs.declared.desk.KeptConstant.{KeptConstant}
 use Rattle.mo_equations.specs.Leaves.{place_of_root}

@@ -1,5 +1,5 @@
 -- The place of the first instance.
-use Rattle.std.proofs.Common.{◌≡◌, refl, arith}
+use Rattle.std.proofs.Common.{refl, arith}
 use Rattle.mo_equations.proofs.Lists.{empty_list}
 use Rattle.mo_equations.proofs.whole.place_of_root.Goals as goal
 

@@ -1,5 +1,5 @@
 -- The flow of one variable.
-use Rattle.std.proofs.Common.{◌≡◌, sym}
+use Rattle.std.proofs.Common.{sym}
 use Rattle.mo_equations.proofs.Flowing.{put_is}
 use Rattle.mo_equations.proofs.whole.put_flow.Goals as goal
 

@@ -1,4 +1,4 @@
-use Rattle.std.proofs.Common.{◌≡◌, [], ◌∷◌, ap, sym, refl, ◌∙◌}
+use Rattle.std.proofs.Common.{◌≡◌, [], ◌∷◌, ap, ◌∙◌}
 use Rattle.mo_eval.specs.steps.Parts.{as_part}
 use Rattle.mo_eval.specs.steps.Calling.{is_lone}
 use Rattle.mo_eval.proofs.calls.lone.Goals as goal

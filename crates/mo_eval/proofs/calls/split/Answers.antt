@@ -1,6 +1,5 @@
-use Rattle.std.proofs.Common.{◌≡◌, ◌-◌, ◌∷◌, Some, None, drop, length, take, sym, subst, ◌∙◌, ap, add-one, arith, drop-cons, length-drop}
+use Rattle.std.proofs.Common.{◌≡◌, ◌-◌, ◌∷◌, Some, None, drop, length, take, sym, subst, ◌∙◌, ap, arith}
 use Rattle.mo_syntax.specs.declared.expr.Arg.{Arg}
-use Rattle.mo_syntax.specs.declared.expr.Arg.TheVariants.{Value, Partial}
 use Rattle.std.specs.Prelude.{List}
 use Rattle.mo_eval.specs.steps.Calling.{plain}
 use Rattle.mo_eval.proofs.Calling.{first_plain, plain_partial, opened_list}

@@ -1,9 +1,9 @@
-use Rattle.std.proofs.Common.{◌≡◌, ◌++◌, ◌∷◌, [], Ok, Err, ap, sym, subst, ◌∙◌, rules}
+use Rattle.std.proofs.Common.{◌≡◌, Ok, Err, sym, subst, ◌∙◌, rules}
 use Rattle.std.specs.Prelude.{List}
 use Rattle.mo_scope.specs.Worlds.{frames_of}
 use Rattle.mo_eval.specs.declared.virtuals.Virtual.{Virtual as VirtualAt}
 use Rattle.mo_eval.specs.steps.Dividing.{variable_of}
-use Rattle.mo_eval.specs.Seen.{AreThere, virtuals_seen}
+use Rattle.mo_eval.specs.Seen.{AreThere}
 use Rattle.mo_eval.proofs.Dividing.{halt_put, put_variable, there_more}
 use Rattle.mo_eval.proofs.division.put.Goals as goal
 

@@ -1,4 +1,3 @@
-use Rattle.std.proofs.Common.{◌≡◌}
 use Rattle.mo_eval.proofs.Layering.{fits_by_layers}
 use Rattle.mo_eval.proofs.layers.fits.Goals as goal
 

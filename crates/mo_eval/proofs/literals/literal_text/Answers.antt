@@ -1,4 +1,4 @@
-use Rattle.std.proofs.Common.{◌≡◌, [], sym}
+use Rattle.std.proofs.Common.{[], sym}
 use Rattle.std.specs.Prelude.{slice_get}
 use Rattle.mo_scope.specs.Lookup.{literals_at}
 use Rattle.mo_scope.specs.Worlds.{table_in}

@@ -1,4 +1,4 @@
-use Rattle.std.proofs.Common.{◌≡◌, ◌∙◌, Err, ap, sym, rules}
+use Rattle.std.proofs.Common.{◌∙◌, Err, ap, sym, rules}
 use Rattle.mo_scope.specs.Lookup.{Class, Literal, Iteration, Function, Time}
 use Rattle.mo_scope.specs.Worlds.{frame_in, frames_of, table_in}
 use Rattle.mo_names.specs.Sights.{found_in, member_of}

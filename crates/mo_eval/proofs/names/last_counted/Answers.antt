@@ -1,4 +1,4 @@
-use Rattle.std.proofs.Common.{◌≡◌, [], Ok, Err, ap, sym, refl, ◌∙◌}
+use Rattle.std.proofs.Common.{[], Ok, ap, sym, refl, ◌∙◌}
 use Rattle.mo_scope.specs.Worlds.{frames_of, table_in}
 use Rattle.mo_names.specs.Sights.{found_in}
 use Rattle.mo_names.proofs.Later.{is_found_later}

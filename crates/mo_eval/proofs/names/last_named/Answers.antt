@@ -1,6 +1,6 @@
-use Rattle.std.proofs.Common.{◌≡◌, Ok, refl, sym, subst}
+use Rattle.std.proofs.Common.{Ok, sym, subst}
 use Rattle.mo_scope.specs.Worlds.{frame_in}
-use Rattle.std.proofs.Common.{ap, ◌∙◌, ◌++◌, ◌∷◌, []}
+use Rattle.std.proofs.Common.{ap}
 use Rattle.mo_names.specs.declared.found.Found.TheVariants.{Component as component_at}
 use Rattle.mo_names.specs.Sights.{IsFound, IsMember}
 use Rattle.mo_eval.proofs.Naming.{last_seen}

@@ -1,4 +1,4 @@
-use Rattle.std.proofs.Common.{◌≡◌, ◌+◌, [], Err, map, drop, ap, sym, refl, ◌∙◌, arith}
+use Rattle.std.proofs.Common.{◌+◌, [], Err, map, drop, ap, sym, refl, ◌∙◌, arith}
 use Rattle.std.proofs.lemmas.List.{drop_all}
 use Rattle.mo_scope.specs.Worlds.{frames_of, table_in}
 use Rattle.mo_names.specs.Sights.{found_in}

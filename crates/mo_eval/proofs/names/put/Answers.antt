@@ -1,4 +1,4 @@
-use Rattle.std.proofs.Common.{◌≡◌, refl, subst}
+use Rattle.std.proofs.Common.{subst}
 use Rattle.mo_scope.specs.Worlds.{frame_in}
 use Rattle.mo_names.specs.declared.found.Found.TheVariants.{Component as component_at}
 use Rattle.mo_names.specs.Sights.{IsFound, IsMember}

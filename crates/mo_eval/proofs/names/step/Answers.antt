@@ -1,5 +1,4 @@
 use Rattle.std.proofs.Common.{◌≡◌, ◌∷◌, Ok, Err, refl, sym, rules}
-use Rattle.mo_scope.specs.Outcome.{Gives as GivesSeen}
 use Rattle.mo_scope.specs.Worlds.{frames_of, table_in}
 use Rattle.mo_names.specs.Sights.{found_in}
 use Rattle.mo_names.proofs.Later.{grows_trans, is_found_later}

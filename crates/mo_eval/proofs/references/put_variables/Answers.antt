@@ -1,8 +1,7 @@
-use Rattle.std.proofs.Common.{◌≡◌, ◌++◌, ◌∷◌, ◌+◌, [], length, map, take, ap, sym, ◌∙◌, rules, arith}
+use Rattle.std.proofs.Common.{◌≡◌, ◌++◌, ◌∷◌, ◌+◌, [], length, ap, ◌∙◌, rules, arith}
 use Rattle.std.proofs.lemmas.List.{length-take-le, take_all}
-use Rattle.mo_eval.specs.Seen.{virtuals_seen}
 use Rattle.mo_eval.specs.Virtuals.{numbers_behind}
-use Rattle.mo_eval.proofs.Putting.{counted_put, number_put, numbers_all, numbers_more, put_all, put_more, there_taken, variable_at, variables_at}
+use Rattle.mo_eval.proofs.Putting.{number_put, numbers_all, numbers_more, put_all, put_more, there_taken, variable_at, variables_at}
 use Rattle.mo_eval.proofs.references.put_variables.Goals as goal
 
 pub returns-in_err-index-clause-there : goal.returns-in_err-index-clause-there

@@ -1,4 +1,4 @@
-use Rattle.std.proofs.Common.{◌≡◌, option_map, ap, sym, arith}
+use Rattle.std.proofs.Common.{option_map, ap, sym, arith}
 use Rattle.mo_scope.specs.Worlds.{frames_of, table_in}
 use Rattle.mo_names.specs.Sights.{member_of}
 use Rattle.mo_eval.specs.steps.Naming.{names_seen}

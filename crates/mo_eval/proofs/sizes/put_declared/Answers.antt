@@ -1,4 +1,4 @@
-use Rattle.std.proofs.Common.{◌≡◌, sym}
+use Rattle.std.proofs.Common.{sym}
 use Rattle.std.proofs.lemmas.List.{append-nil}
 use Rattle.mo_scope.specs.Sizes.{sizes_if}
 use Rattle.mo_scope.specs.Worlds.{scope_in}

@@ -1,10 +1,5 @@
-use Rattle.std.proofs.Common.{◌≡◌, ◌++◌, ◌+◌, [], List, ap, sym, ◌∙◌, rules, arith}
-use Rattle.mo_scope.specs.Frames.{Frame}
-use Rattle.mo_scope.specs.Rows.{number_of_classes}
-use Rattle.mo_scope.specs.Sizes.{sizes_from, sizes_if}
-use Rattle.mo_scope.specs.Worlds.{frame_at, frames_of, scope_in, table_in}
-use Rattle.mo_names.proofs.Later.{grows_refl, grows_trans, is_frame_later, table_later}
-use Rattle.mo_eval.specs.steps.Sizing.{sizes_seen}
+use Rattle.std.proofs.Common.{arith}
+use Rattle.mo_names.proofs.Later.{grows_refl, grows_trans, is_frame_later}
 use Rattle.mo_eval.proofs.Written.{are_sized_later, type_done, type_ended, type_step}
 use Rattle.mo_eval.proofs.sizes.put_type.Goals as goal
 

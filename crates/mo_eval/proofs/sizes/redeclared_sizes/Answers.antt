@@ -1,4 +1,4 @@
-use Rattle.std.proofs.Common.{◌≡◌, refl}
+use Rattle.std.proofs.Common.{refl}
 use Rattle.mo_eval.proofs.sizes.redeclared_sizes.Goals as goal
 
 pub returns-in-None-clause-exact : goal.returns-in-None-clause-exact

@@ -1,5 +1,5 @@
 -- The connection sets, then their equations.
-use Rattle.std.proofs.Common.{◌≡◌, Err, All, ap, sym, subst, ◌∙◌, rules}
+use Rattle.std.proofs.Common.{◌≡◌, Err, All, ap, subst, rules}
 use Rattle.mo_flat.specs.declared.connect.Connects.{Connects}
 use Rattle.mo_flat.specs.declared.connect.Expanded.{Expanded}
 use Rattle.mo_scope.specs.Outcome.{Gives}

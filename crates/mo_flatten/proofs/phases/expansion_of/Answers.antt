@@ -1,12 +1,11 @@
 -- Instances, then what they give.
-use Rattle.std.proofs.Common.{◌≡◌, Ok, Err, List, ap, sym, subst, ◌∙◌, rules}
+use Rattle.std.proofs.Common.{◌≡◌, Err, List, ap, sym, subst, rules}
 use Rattle.mo_syntax.specs.declared.class.FileTree.{FileTree}
 use Rattle.mo_syntax.specs.SoundTree.{any_name}
 use Rattle.mo_scope.specs.Instances.{IsInstanceTree}
 use Rattle.mo_scope.specs.Rows.{Table, table_of}
 use Rattle.mo_scope.specs.Trees.{tree_seen}
 use Rattle.mo_equations.specs.Counted.{tree_of}
-use Rattle.mo_equations.specs.Leaves.{Tree}
 use Rattle.mo_flatten.proofs.Telling.{expanded_told, instances_stop}
 use Rattle.mo_flatten.proofs.phases.expansion_of.Goals as goal
 

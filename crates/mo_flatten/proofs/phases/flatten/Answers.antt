@@ -1,5 +1,5 @@
 -- The asked class, then all behind it.
-use Rattle.std.proofs.Common.{◌≡◌, refl}
+use Rattle.std.proofs.Common.{refl}
 use Rattle.mo_flatten.specs.Flat.{Flattens, expansion_in, no_class}
 use Rattle.mo_flatten.specs.Told.{TellsOf}
 use Rattle.mo_flatten.proofs.Telling.{class_exists, class_has_row, class_told, if_told}

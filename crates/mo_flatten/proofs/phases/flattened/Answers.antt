@@ -1,5 +1,5 @@
 -- Variables and equations, then connections.
-use Rattle.std.proofs.Common.{◌≡◌, Err, ap, sym, subst, rules}
+use Rattle.std.proofs.Common.{◌≡◌, Err, rules}
 use Rattle.mo_flatten.specs.Flat.{expansion_in}
 use Rattle.mo_flatten.specs.Told.{Connects, TellsOf, goes_on}
 use Rattle.mo_flatten.proofs.Telling.{expansion_stops, if_told}

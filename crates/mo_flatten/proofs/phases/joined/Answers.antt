@@ -1,5 +1,5 @@
 -- The equations behind the others, then the size.
-use Rattle.std.proofs.Common.{◌≡◌, ◌≤◌, All, length, ap, sym, subst, arith}
+use Rattle.std.proofs.Common.{◌≤◌, All, length, subst, arith}
 use Rattle.std.proofs.lemmas.List.Elements.{All-append}
 use Rattle.mo_flat.specs.declared.model.FlatModel.{FlatModel}
 use Rattle.mo_flat.specs.Sound.{IsSoundEquation}

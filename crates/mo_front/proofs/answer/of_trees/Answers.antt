@@ -1,6 +1,4 @@
 -- A class tree that breaks a rule, and what flattening tells of one that breaks none.
-use Rattle.std.proofs.Common.{subst}
-use Rattle.mo_syntax.specs.SoundTree.{IsSoundTree}
 use Rattle.mo_front.proofs.Answering.{no_tree_holds, told_flat, told_broken}
 use Rattle.mo_front.proofs.answer.of_trees.Goals as goal
 

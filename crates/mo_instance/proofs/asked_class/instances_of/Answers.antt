@@ -1,5 +1,5 @@
 -- The row of the asked class, its frame and what is made of it.
-use Rattle.std.proofs.Common.{◌≡◌, List, Ok, ap, subst, sym, ◌∙◌}
+use Rattle.std.proofs.Common.{List, Ok, ap, subst, sym, ◌∙◌}
 use Rattle.mo_scope.specs.declared.instance.Instance.{Instance as InstanceAt}
 use Rattle.mo_scope.specs.Outcome.{Gives}
 use Rattle.mo_scope.specs.Rows.{Table}

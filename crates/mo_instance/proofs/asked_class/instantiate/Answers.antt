@@ -1,5 +1,5 @@
 -- What was made is a tree of instances.
-use Rattle.std.proofs.Common.{◌≡◌, ◌<◌, List, ap, subst, sym, ◌∙◌}
+use Rattle.std.proofs.Common.{◌<◌, List, ap, subst, sym, ◌∙◌}
 use Rattle.mo_syntax.specs.declared.class.FileTree.{FileTree}
 use Rattle.mo_scope.specs.Frames.{class_of}
 use Rattle.mo_scope.specs.Instances.{Instance}

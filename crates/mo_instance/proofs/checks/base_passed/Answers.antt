@@ -1,7 +1,7 @@
 -- The elements of the frame, then the checks of its base.
-use Rattle.std.proofs.Common.{◌≡◌, ap, drop, length, map, sym, ◌∙◌}
+use Rattle.std.proofs.Common.{ap, drop, length, map, sym, ◌∙◌}
 use Rattle.std.proofs.lemmas.Result.{err_from_is_err_and}
-use Rattle.mo_scope.specs.Frames.{Source, sources_of}
+use Rattle.mo_scope.specs.Frames.{sources_of}
 use Rattle.mo_scope.specs.Lookup.{Walked}
 use Rattle.mo_scope.specs.Redeclarations.{fine}
 use Rattle.mo_scope.specs.Sights.{source_seen}

@@ -1,9 +1,8 @@
 -- One base after another.
-use Rattle.std.proofs.Common.{◌≡◌, ◌+◌, List, Err, drop, map, ap, sym, subst, ◌∙◌}
+use Rattle.std.proofs.Common.{◌+◌, List, Err, drop, map, ap, sym, subst, ◌∙◌}
 use Rattle.std.proofs.lemmas.List.{drop_all}
 use Rattle.std.proofs.lemmas.Result.{err_from_is_err_and}
 use Rattle.mo_syntax.specs.declared.meaning.FrameId.{FrameId}
-use Rattle.mo_scope.specs.Frames.{Frame}
 use Rattle.mo_scope.specs.Outcome.{Gives}
 use Rattle.mo_scope.specs.Redeclarations.{each_checked}
 use Rattle.mo_scope.specs.Worlds.{frame_at, frames_of, table_in}

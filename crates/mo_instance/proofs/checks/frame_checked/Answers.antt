@@ -1,5 +1,5 @@
 -- The frame, then its bases.
-use Rattle.std.proofs.Common.{◌≡◌, Err, false, List, Ok, ap, map, sym, ◌∙◌}
+use Rattle.std.proofs.Common.{Err, false, List, Ok, ap, map, sym, ◌∙◌}
 use Rattle.std.proofs.lemmas.Result.{err_from_is_err_and}
 use Rattle.mo_syntax.specs.Outcome.{and_then}
 use Rattle.mo_syntax.specs.declared.meaning.FrameId.{FrameId}

@@ -1,5 +1,5 @@
 -- The elements of the frame, then its checks.
-use Rattle.std.proofs.Common.{◌≡◌, Err, Ok, ap, drop, subst, sym, ◌∙◌}
+use Rattle.std.proofs.Common.{Err, Ok, ap, drop, subst, sym, ◌∙◌}
 use Rattle.std.specs.Prelude.{option_copied}
 use Rattle.std.proofs.lemmas.Result.{err_from_is_err_and}
 use Rattle.mo_scope.specs.Frames.{sources_of}

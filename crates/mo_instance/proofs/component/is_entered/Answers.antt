@@ -1,5 +1,5 @@
 -- A class, an outer component, and what the condition of another one says.
-use Rattle.std.proofs.Common.{◌≡◌, Bool, Ok, ap, false, subst, sym, ◌∙◌}
+use Rattle.std.proofs.Common.{Bool, Ok, ap, false, subst, sym, ◌∙◌}
 use Rattle.std.proofs.lemmas.Result.{err_from_is_err_and}
 use Rattle.mo_scope.specs.Outcome.{Gives}
 use Rattle.mo_scope.specs.Redeclarations.{Checked}

@@ -1,10 +1,8 @@
 -- The checks of the frame, then the instance.
-use Rattle.std.proofs.Common.{◌≡◌, Err, Ok, ap, subst, sym, ◌∙◌}
+use Rattle.std.proofs.Common.{Err, ap, sym, ◌∙◌}
 use Rattle.std.proofs.lemmas.Result.{err_from_is_err_and}
 use Rattle.mo_scope.specs.declared.instance.Instance.{Instance as InstanceAt}
 use Rattle.mo_scope.specs.Instances.{Instance}
-use Rattle.mo_scope.specs.Lookup.{Walked}
-use Rattle.mo_scope.specs.Outcome.{Gives}
 use Rattle.mo_scope.specs.Trees.{instance_in}
 use Rattle.mo_scope.specs.Worlds.{frame_at, frames_of, table_in}
 use Rattle.mo_names.specs.declared.walk.Walk.{Walk as WalkAt}

@@ -1,5 +1,5 @@
 -- What it is as a leaf, then the instance.
-use Rattle.std.proofs.Common.{◌≡◌, Ok, Option, ap, sym, ◌∙◌}
+use Rattle.std.proofs.Common.{Ok, Option, ap, sym, ◌∙◌}
 use Rattle.mo_scope.specs.Instances.{Instance, Leaf}
 use Rattle.mo_scope.specs.Worlds.{frame_at, frames_of}
 use Rattle.mo_names.specs.Sights.{member_of}

@@ -1,5 +1,5 @@
 -- The element of its first name, if there is one.
-use Rattle.std.proofs.Common.{◌≡◌, Bool, List, Option, Some, None, ap, map, sym, ◌∙◌}
+use Rattle.std.proofs.Common.{Bool, List, Option, Some, None, ap, map, ◌∙◌}
 use Rattle.std.specs.Prelude.{◌&&◌, option_copied}
 use Rattle.mo_syntax.specs.declared.place.Place.{Place}
 use Rattle.mo_scope.specs.Frames.{Member}

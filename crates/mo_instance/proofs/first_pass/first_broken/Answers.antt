@@ -1,5 +1,5 @@
 -- One argument after another.
-use Rattle.std.proofs.Common.{◌≡◌, List, map, ap, sym, ◌∙◌}
+use Rattle.std.proofs.Common.{List, map, ap, sym, ◌∙◌}
 use Rattle.std.specs.Prelude.{option_copied}
 use Rattle.std.proofs.lemmas.List.{drop_all}
 use Rattle.mo_scope.specs.Worlds.{frames_of}

@@ -1,10 +1,10 @@
 -- The first rule of the sources that are left.
-use Rattle.std.proofs.Common.{◌≡◌, ◌≤◌, ◌-◌, take, Option, Some, None, List, Ok, ap, drop, length, map, subst, sym, ◌∙◌}
+use Rattle.std.proofs.Common.{◌≡◌, ◌≤◌, ◌-◌, take, Option, List, ap, drop, length, map, subst, sym, ◌∙◌}
 use Rattle.std.specs.Prelude.{option_copied}
 use Rattle.std.proofs.lemmas.List.{drop_all}
 use Rattle.mo_syntax.specs.declared.place.Broken.{Broken}
 use Rattle.mo_scope.specs.declared.source.Source.{Source as SourceAt}
-use Rattle.mo_scope.specs.Frames.{Source, sources_of}
+use Rattle.mo_scope.specs.Frames.{sources_of}
 use Rattle.mo_scope.specs.Outcome.{unless_broken}
 use Rattle.mo_scope.specs.Sights.{source_seen}
 use Rattle.mo_scope.specs.Worlds.{frame_at, frames_of, source_in, sources_in, table_in}

@@ -1,5 +1,5 @@
 -- One path after another.
-use Rattle.std.proofs.Common.{◌≡◌, List, map, ap, sym, ◌∙◌}
+use Rattle.std.proofs.Common.{List, map, ap, sym, ◌∙◌}
 use Rattle.std.proofs.lemmas.List.{drop_all}
 use Rattle.mo_names.proofs.Circling.{left_from}
 use Rattle.mo_mods.specs.declared.asked.Claim.{Claim as ClaimAt}

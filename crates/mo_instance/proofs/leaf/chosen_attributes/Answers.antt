@@ -1,9 +1,7 @@
 -- One attribute after another.
-use Rattle.std.proofs.Common.{◌≡◌, ℕ, ◌∷◌, ◌++◌, [], List, map, flat_map, get_or, ap, ◌∙◌}
+use Rattle.std.proofs.Common.{◌∷◌, ◌++◌, [], map, flat_map, get_or, ap, ◌∙◌}
 use Rattle.mo_syntax.specs.declared.meaning.Kind.{Kind}
 use Rattle.mo_flat.specs.Text.{attribute_name}
-use Rattle.mo_scope.specs.Parts.{picked}
-use Rattle.mo_scope.specs.Frames.{sources_of}
 use Rattle.mo_scope.specs.Worlds.{frame_at, frames_of, table_in}
 use Rattle.mo_scope.proofs.Sayings.{gathered_all, gathered_more}
 use Rattle.mo_instance.specs.Attributes.{attribute_as, attributes_of, chosen_attribute}

@@ -1,5 +1,5 @@
 -- A leaf that is not left out.
-use Rattle.std.proofs.Common.{◌≡◌, Some, Ok, ap, sym, ◌∙◌}
+use Rattle.std.proofs.Common.{Some, Ok, ap, sym, ◌∙◌}
 use Rattle.mo_scope.specs.Instances.{Leaf}
 use Rattle.mo_scope.specs.Worlds.{frame_at, frames_of, table_in}
 use Rattle.mo_names.specs.Sights.{member_of}

@@ -1,5 +1,5 @@
 -- The binding, if there is one.
-use Rattle.std.proofs.Common.{◌≡◌, ap, sym, ◌∙◌}
+use Rattle.std.proofs.Common.{ap, sym, ◌∙◌}
 use Rattle.std.specs.Prelude.{option_map}
 use Rattle.mo_scope.specs.Trees.{chosen_in}
 use Rattle.mo_scope.specs.Worlds.{frames_of}

@@ -2,9 +2,8 @@
 use Rattle.std.proofs.Common.{List, map, ap, sym, subst, ◌∙◌}
 use Rattle.std.proofs.lemmas.Result.{IfOk-weaker}
 use Rattle.mo_scope.specs.declared.source.Source.{Source as SourceAt}
-use Rattle.mo_scope.specs.Frames.{Source, sources_of}
 use Rattle.mo_scope.specs.Sights.{source_seen}
-use Rattle.mo_scope.specs.Worlds.{AreFrames, frame_at, frames_of, sources_in, table_in}
+use Rattle.mo_scope.specs.Worlds.{AreFrames, frames_of, sources_in, table_in}
 use Rattle.mo_mods.specs.Merged.{StandsFor}
 use Rattle.mo_mods.specs.Sights.{merged_in}
 use Rattle.mo_instance.proofs.leaf.table_of.Goals as goal

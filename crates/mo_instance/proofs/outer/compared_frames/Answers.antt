@@ -1,13 +1,11 @@
 -- Both are entered, then compared.
-use Rattle.std.proofs.Common.{[], ap, subst, sym, ◌∙◌}
+use Rattle.std.proofs.Common.{ap, subst, ◌∙◌}
 use Rattle.mo_scope.specs.Compatible.{compatible}
-use Rattle.mo_scope.specs.Frames.{Frame, Member}
-use Rattle.mo_scope.specs.Names.{component_frame}
+use Rattle.mo_scope.specs.Frames.{Frame}
 use Rattle.mo_scope.specs.Outcome.{Gives}
 use Rattle.mo_scope.specs.Rows.{Table}
 use Rattle.mo_scope.specs.Worlds.{frame_at, frames_of, table_in}
-use Rattle.mo_names.specs.Sights.{member_of}
-use Rattle.mo_names.proofs.Later.{frame_later, grows_trans, is_frame_later, is_member_later, table_later}
+use Rattle.mo_names.proofs.Later.{frame_later, grows_trans, table_later}
 use Rattle.mo_instance.specs.steps.Outer.{compared_frames}
 use Rattle.mo_instance.proofs.Later.{is_child_later}
 use Rattle.mo_instance.proofs.Outers.{frame_before, frame_seen}

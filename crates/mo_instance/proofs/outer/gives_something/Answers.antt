@@ -1,5 +1,5 @@
 -- Whether there are paths.
-use Rattle.std.proofs.Common.{◌≡◌, Bool, ap, sym, ◌∙◌}
+use Rattle.std.proofs.Common.{ap, sym, ◌∙◌}
 use Rattle.std.specs.Prelude.{not}
 use Rattle.mo_mods.specs.PathSights.{claim_seen}
 use Rattle.mo_instance.proofs.Lists.{mapped_nothing, nothing_is}

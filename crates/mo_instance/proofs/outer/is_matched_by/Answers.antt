@@ -1,5 +1,5 @@
 -- They are compared where they have as many dimensions and one flow prefix.
-use Rattle.std.proofs.Common.{◌≡◌, ◌∙◌, subst}
+use Rattle.std.proofs.Common.{◌∙◌, subst}
 use Rattle.mo_scope.specs.Outcome.{Gives}
 use Rattle.mo_scope.specs.Worlds.{frames_of, table_in}
 use Rattle.mo_names.specs.Children.{child_seen}

@@ -1,5 +1,5 @@
 -- What the sources speak of.
-use Rattle.std.proofs.Common.{◌≡◌, List, map, ap, ◌∙◌}
+use Rattle.std.proofs.Common.{List, map, ap, ◌∙◌}
 use Rattle.std.specs.List.{list_any}
 use Rattle.mo_scope.specs.declared.source.Source.{Source as SourceAt}
 use Rattle.mo_scope.specs.Frames.{Source, sources_of}

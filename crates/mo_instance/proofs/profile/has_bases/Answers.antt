@@ -1,5 +1,5 @@
 -- One after another.
-use Rattle.std.proofs.Common.{◌≡◌, List, drop, map, ap, sym, ◌∙◌}
+use Rattle.std.proofs.Common.{List, map, ap, sym, ◌∙◌}
 use Rattle.std.specs.List.{list_any}
 use Rattle.std.proofs.lemmas.List.{drop_all}
 use Rattle.mo_names.proofs.Circling.{left_from}

@@ -1,7 +1,6 @@
 -- What is declared wrongly stands among the parts, or among the elements with `redeclare` behind them.
-use Rattle.std.proofs.Common.{◌≡◌, ◌++◌, List, Some, None, Option, flat_map, map, ap, sym, ◌∙◌}
+use Rattle.std.proofs.Common.{◌++◌, List, flat_map, map, ap, sym, ◌∙◌}
 use Rattle.std.specs.Prelude.{filter}
-use Rattle.mo_syntax.specs.declared.place.Place.{Place}
 use Rattle.mo_scope.specs.declared.row.Part.{Part as PartAt}
 use Rattle.mo_scope.specs.Parts.{declared_in}
 use Rattle.mo_scope.specs.Rows.{elements_in, is_class, replacing_in}

@@ -1,5 +1,5 @@
 -- Elements with `redeclare` replace what the bases have.
-use Rattle.std.proofs.Common.{◌≡◌, List, flat_map, map, ap, sym, ◌∙◌}
+use Rattle.std.proofs.Common.{List, flat_map, map, ap, sym, ◌∙◌}
 use Rattle.std.specs.List.{list_any}
 use Rattle.mo_scope.specs.declared.row.Part.{Part as PartAt}
 use Rattle.mo_scope.specs.Rows.{replacing_in}

@@ -1,5 +1,5 @@
 -- An element with `redeclare` in front of the others.
-use Rattle.std.proofs.Common.{◌≡◌, ◌++◌, List, map, ap, sym, ◌∙◌}
+use Rattle.std.proofs.Common.{◌++◌, List, map, ap, sym, ◌∙◌}
 use Rattle.mo_syntax.specs.declared.class.Element.{Element}
 use Rattle.mo_scope.specs.Parts.{declared_in}
 use Rattle.mo_instance.specs.steps.Firsts.{earlier_place, first_wrong}

@@ -1,9 +1,8 @@
 -- One name after another.
-use Rattle.std.proofs.Common.{◌≡◌, ◌+◌, ◌++◌, ◌∷◌, [], ℕ, List, Bor, take, drop, map, refl, ap, sym, ◌∙◌, arith}
+use Rattle.std.proofs.Common.{◌≡◌, ◌+◌, ◌++◌, ◌∷◌, [], ℕ, List, Bor, take, drop, ap, sym, ◌∙◌, arith}
 use Rattle.std.specs.Prelude.{find, option_map}
-use Rattle.std.proofs.lemmas.List.{drop_all, map-append, take_all, take_more}
+use Rattle.std.proofs.lemmas.List.{drop_all, map-append, take_more}
 use Rattle.mo_scope.specs.Entries.{number_of}
-use Rattle.mo_scope.specs.Frames.{Frame}
 use Rattle.mo_scope.specs.Rows.{Table}
 use Rattle.mo_scope.specs.Worlds.{frame_or_top, frames_of, table_in}
 use Rattle.mo_names.proofs.Later.{grows_trans, table_later}

@@ -1,5 +1,5 @@
 -- A frame in the outer one, or that one.
-use Rattle.std.proofs.Common.{◌≡◌, List, ap, map, sym, ◌∙◌}
+use Rattle.std.proofs.Common.{List, ap, map, sym, ◌∙◌}
 use Rattle.std.specs.Prelude.{find, option_map}
 use Rattle.mo_syntax.specs.declared.meaning.ClassId.{ClassId}
 use Rattle.mo_scope.specs.declared.source.Source.{Source as SourceAt}

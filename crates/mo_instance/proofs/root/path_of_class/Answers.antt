@@ -1,5 +1,5 @@
 -- The row of the class is that of its number.
-use Rattle.std.proofs.Common.{◌≡◌, List, Bor, ℕ, Some, None, ap, sym, ◌∙◌}
+use Rattle.std.proofs.Common.{◌≡◌, Some, None, ap, ◌∙◌}
 use Rattle.std.proofs.lemmas.Result.{IfOk-weaker}
 use Rattle.mo_scope.specs.Rows.{Row}
 use Rattle.mo_scope.specs.Sights.{row_seen}

@@ -1,14 +1,14 @@
 -- The class is entered in the frames around it.
-use Rattle.std.proofs.Common.{◌≡◌, ℕ, List, Some, Bor, [], ap, map, sym, ◌∙◌}
+use Rattle.std.proofs.Common.{List, Some, [], ap, map, ◌∙◌}
 use Rattle.std.specs.Prelude.{option_map}
 use Rattle.std.proofs.lemmas.Result.{IfOk-weaker}
 use Rattle.mo_scope.specs.declared.source.Source.{Source as SourceAt}
 use Rattle.mo_scope.specs.Entries.{number_of}
-use Rattle.mo_scope.specs.Frames.{Frame, In, Indexed, Top, gathered}
+use Rattle.mo_scope.specs.Frames.{In, Indexed, Top, gathered}
 use Rattle.mo_scope.specs.Sights.{source_seen}
 use Rattle.mo_scope.specs.Worlds.{frame_or_top, frames_of, sources_in, table_in}
 use Rattle.mo_instance.specs.steps.Roots.{names_seen}
-use Rattle.mo_instance.proofs.Rooting.{root_made, rooted}
+use Rattle.mo_instance.proofs.Rooting.{root_made}
 use Rattle.mo_names.proofs.Later.{grows_refl, grows_trans}
 use Rattle.mo_instance.proofs.root.root_frame.Goals as goal
 

@@ -1,5 +1,5 @@
 -- The frames of the sources exist.
-use Rattle.std.proofs.Common.{List, map, ap, sym, subst}
+use Rattle.std.proofs.Common.{List, map, sym, subst}
 use Rattle.mo_scope.specs.declared.source.Source.{Source as SourceAt}
 use Rattle.mo_scope.specs.Sights.{source_seen}
 use Rattle.mo_scope.specs.Worlds.{AreFrames}

@@ -1,5 +1,5 @@
 -- All classes are left, and none is having its bases found.
-use Rattle.std.proofs.Common.{◌≡◌, ℕ, length, arith}
+use Rattle.std.proofs.Common.{◌≡◌, length, arith}
 use Rattle.std.proofs.lemmas.Bool.Decides.{nat_tests}
 use Rattle.mo_scope.specs.Rows.{number_of_classes}
 use Rattle.mo_scope.specs.Worlds.{table_in}

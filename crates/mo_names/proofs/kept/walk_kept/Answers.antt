@@ -2,7 +2,7 @@
 use Rattle.std.proofs.Common.{ap, refl, subst, sym, ◌∙◌}
 use Rattle.mo_scope.specs.Places.{Every}
 use Rattle.mo_scope.specs.Worlds.{frame_at, frames_of, table_in}
-use Rattle.mo_names.specs.Sights.{IsMember, asks, walk_seen}
+use Rattle.mo_names.specs.Sights.{IsMember, asks}
 use Rattle.mo_names.proofs.Listing.{found_elements, held, held_stand}
 use Rattle.mo_names.proofs.Tables.{asked_elements}
 use Rattle.mo_names.proofs.Later.{grows_refl}

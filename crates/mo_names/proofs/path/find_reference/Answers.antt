@@ -1,5 +1,5 @@
 -- The first identifier, then the others.
-use Rattle.std.proofs.Common.{◌≡◌, drop}
+use Rattle.std.proofs.Common.{drop}
 use Rattle.mo_scope.specs.Names.{found_behind}
 use Rattle.mo_scope.specs.Worlds.{table_in}
 use Rattle.mo_scope.specs.Sights.{scope_at}

@@ -1,5 +1,5 @@
 -- One more component.
-use Rattle.std.proofs.Common.{refl, arith, ap, ◌++◌, ◌∷◌, [], ◌∙◌, sym}
+use Rattle.std.proofs.Common.{refl, arith}
 use Rattle.mo_grammar.specs.Lexeme.{lexemes}
 use Rattle.mo_grammar.specs.Codes.{comma}
 use Rattle.mo_grammar.specs.Grammar.{made}

@@ -1,5 +1,5 @@
 -- One redeclaration after another.
-use Rattle.std.proofs.Common.{◌≡◌, ◌+◌, List, Err, drop, map, ap, sym, subst, ◌∙◌}
+use Rattle.std.proofs.Common.{◌+◌, List, Err, drop, map, ap, sym, subst, ◌∙◌}
 use Rattle.std.proofs.lemmas.List.{drop_all}
 use Rattle.std.proofs.lemmas.Result.{err_from_is_err_and}
 use Rattle.mo_scope.specs.Frames.{Member}

@@ -1,5 +1,5 @@
 -- The elements by name are those of the walk.
-use Rattle.std.proofs.Common.{◌≡◌, List, map, ap, sym, subst, ◌∙◌}
+use Rattle.std.proofs.Common.{map, ap, sym, subst, ◌∙◌}
 use Rattle.mo_scope.specs.Outcome.{Gives}
 use Rattle.mo_scope.specs.Places.{Every}
 use Rattle.mo_scope.specs.Worlds.{frames_of}

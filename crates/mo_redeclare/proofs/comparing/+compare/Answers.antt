@@ -15,7 +15,7 @@ use Rattle.mo_scope.specs.Outcome.{Gives}
 use Rattle.mo_scope.specs.Places.{Every}
 use Rattle.mo_scope.specs.Worlds.{frames_of, table_in, member_in, MemberEntry, frame_at}
 use Rattle.mo_scope.specs.Sights.{member_at}
-use Rattle.std.proofs.Common.{◌≡◌, sym, subst, ◌+◌, List, Err, drop, map, ap, ◌∙◌, Bool, true, false, Ok, ◌-◌, arith}
+use Rattle.std.proofs.Common.{sym, subst, ◌+◌, List, Err, drop, map, ap, ◌∙◌, Bool, true, false, Ok, ◌-◌, arith}
 use Rattle.std.proofs.lemmas.List.{drop_all}
 use Rattle.std.proofs.lemmas.Result.{err_from_is_err_and}
 use Rattle.std.specs.Prelude.{filter, if◌then◌else◌}

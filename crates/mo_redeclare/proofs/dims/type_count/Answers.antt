@@ -3,7 +3,7 @@ use Rattle.std.proofs.Common.{◌≡◌, ℕ, ◌+◌, ◌-◌, ◌<◌, Option,
 use Rattle.std.specs.Prelude.{option_map}
 use Rattle.mo_scope.specs.Frames.{Frame}
 use Rattle.mo_scope.specs.Rows.{Table}
-use Rattle.mo_scope.specs.Sizes.{count_sizes, sizes_from, type_sizes}
+use Rattle.mo_scope.specs.Sizes.{count_sizes, sizes_from}
 use Rattle.mo_scope.specs.Worlds.{frame_at, frames_of, table_in}
 use Rattle.mo_names.proofs.Later.{grows_refl, grows_trans, table_later}
 use Rattle.mo_redeclare.specs.steps.Ways.{step_of, step_seen}

@@ -1,6 +1,5 @@
 -- The dimensions so far and those of the base are all.
 use Rattle.std.proofs.Common.{◌≡◌, ◌+◌}
-use Rattle.mo_scope.specs.Rows.{number_of_classes}
 use Rattle.mo_scope.specs.Sizes.{count_sizes, sizes_from, type_sizes}
 use Rattle.mo_scope.specs.Worlds.{Grows, IsFrame, frame_at, table_in}
 use Rattle.mo_redeclare.proofs.dims.type_count.Given as goal

@@ -1,5 +1,5 @@
 -- They are entered where they have as many dimensions.
-use Rattle.std.proofs.Common.{◌≡◌, ◌∙◌, subst}
+use Rattle.std.proofs.Common.{◌∙◌, subst}
 use Rattle.mo_syntax.specs.declared.meaning.FrameId.{FrameId}
 use Rattle.mo_scope.specs.Frames.{Frame}
 use Rattle.mo_scope.specs.Outcome.{Gives}

@@ -1,5 +1,5 @@
 -- One item after another.
-use Rattle.std.proofs.Common.{◌≡◌, ◌++◌, flat_map, map, ap, sym, ◌∙◌}
+use Rattle.std.proofs.Common.{◌++◌, flat_map, map, ap, sym, ◌∙◌}
 use Rattle.std.specs.Option.{option_to_list}
 use Rattle.mo_syntax.specs.declared.class.Element.{Element}
 use Rattle.mo_syntax.specs.declared.class.Item.{Item}

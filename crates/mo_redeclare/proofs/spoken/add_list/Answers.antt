@@ -1,5 +1,5 @@
 -- One argument after another.
-use Rattle.std.proofs.Common.{◌≡◌, map}
+use Rattle.std.proofs.Common.{map}
 use Rattle.std.specs.Option.{option_to_list}
 use Rattle.mo_syntax.specs.declared.class.ArgumentOf.{ArgumentOf}
 use Rattle.mo_syntax.specs.declared.class.Give.{Give}

@@ -1,9 +1,6 @@
 -- An argument redeclares where no name of it is left.
-use Rattle.std.proofs.Common.{◌≡◌, ◌<◌, ◌≤◌, subst, sym, ◌∙◌}
-use Rattle.mo_scope.specs.Frames.{Argued, Source}
-use Rattle.mo_scope.specs.Parts.{behind_name, pending_behind}
-use Rattle.mo_scope.specs.Sights.{source_seen}
-use Rattle.mo_scope.specs.Worlds.{frames_of, source_in, table_in}
+use Rattle.std.proofs.Common.{◌<◌, ◌≤◌, subst, sym}
+use Rattle.mo_scope.specs.Worlds.{frames_of, table_in}
 use Rattle.mo_redeclare.proofs.Speaking.{behind_left, behind_some}
 use Rattle.mo_redeclare.proofs.spoken.argument_behind.Goals as goal
 

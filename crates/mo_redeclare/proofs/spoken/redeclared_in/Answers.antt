@@ -1,5 +1,5 @@
 -- One source after another.
-use Rattle.std.proofs.Common.{◌≡◌, [], List, flat_map, map, ap, sym, ◌∙◌}
+use Rattle.std.proofs.Common.{[], List, flat_map, map, ap, sym, ◌∙◌}
 use Rattle.std.proofs.lemmas.List.Folds.{flat_map-map}
 use Rattle.mo_scope.specs.declared.source.Source.{Source as SourceAt}
 use Rattle.mo_scope.specs.Frames.{Source}

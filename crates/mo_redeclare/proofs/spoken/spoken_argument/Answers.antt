@@ -1,5 +1,5 @@
 -- The first name of an argument.
-use Rattle.std.proofs.Common.{◌≡◌, sym, ◌∙◌}
+use Rattle.std.proofs.Common.{sym, ◌∙◌}
 use Rattle.std.proofs.lemmas.Result.{IfOk-weaker}
 use Rattle.mo_scope.specs.Worlds.{table_in}
 use Rattle.mo_scope.specs.Sights.{source_at}

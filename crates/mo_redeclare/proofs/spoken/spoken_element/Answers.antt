@@ -1,7 +1,6 @@
 -- An element with `redeclare` redeclares the element of its name.
-use Rattle.std.proofs.Common.{◌≡◌, ℕ, List, [], ◌∷◌, ap, sym, ◌∙◌}
+use Rattle.std.proofs.Common.{[], ◌∷◌, ap, sym, ◌∙◌}
 use Rattle.mo_scope.specs.Frames.{Source}
-use Rattle.mo_scope.specs.Parts.{Redeclaration}
 use Rattle.mo_scope.specs.Rows.{Declares}
 use Rattle.mo_scope.specs.Sights.{declares_seen, source_at}
 use Rattle.mo_scope.specs.Spoken.{spoken_element}

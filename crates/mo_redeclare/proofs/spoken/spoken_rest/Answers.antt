@@ -1,5 +1,5 @@
 -- The first name that is left of an argument.
-use Rattle.std.proofs.Common.{◌≡◌, drop, ap, refl, sym, ◌∙◌}
+use Rattle.std.proofs.Common.{drop, ap, refl, sym, ◌∙◌}
 use Rattle.std.proofs.lemmas.List.{drop_all}
 use Rattle.std.proofs.lemmas.Result.{IfOk-weaker}
 use Rattle.mo_scope.specs.Worlds.{table_in}

@@ -1,5 +1,5 @@
-use Rattle.std.proofs.Common.{◌≡◌, ◌++◌, string_bytes, take, flat_map, List, [], ◌∷◌, codes}
-use Rattle.mo_report.specs.Lines.{numbered, lines_below, in_line, name_line, equation_line, unknown_line, reason_line, block_line, dummy_line, state_line}
+use Rattle.std.proofs.Common.{◌≡◌, ◌++◌, string_bytes}
+use Rattle.mo_report.specs.Lines.{lines_below, equation_line}
 use Rattle.mo_report.proofs.lines.write_equations.Given as goal
 
 abbrev pub invariant-loop-at : goal.invariant-loop-at

@@ -1,9 +1,7 @@
-use Rattle.std.proofs.Common.{◌∙◌, ◌+◌, ap, sym, [], take, map}
-use Rattle.std.specs.Prelude.{◌&&◌, if◌then◌else◌, sum_by}
-use Rattle.std.specs.List.{list_all}
+use Rattle.std.proofs.Common.{◌∙◌, ap, sym, [], take, map}
+use Rattle.std.specs.Prelude.{if◌then◌else◌}
 use Rattle.mo_flat.specs.declared.expr.FlatExpr.TheVariants.{All, Any, Call, Der, If, Not, Power, Product, Relation, Sum}
 use Rattle.mo_symdiff.specs.Derivative.{args_slope, derived, moving_terms, power_slope, product_terms, sum_of, with_slopes}
-use Rattle.mo_symdiff.specs.Still.{is_still}
 use Rattle.mo_symdiff.specs.Weights.{AreBranchSizes, AreSizes, AreTermSizes, capped, node_weight, weigh}
 use Rattle.mo_symdiff.proofs.Derived.{at_Whole as made_Whole, at_Decimal as made_Decimal, at_Str as made_Str, at_Truth as made_Truth, at_Literal as made_Literal, derived_All, derived_Any, derived_Call, derived_Der, derived_If, derived_Not, derived_Power, derived_Product, derived_Relation, derived_Sum, still_Der, still_Not, still_Power, still_Relation}
 use Rattle.mo_symdiff.proofs.Tests.{still_All, still_Any, still_Call, still_If, still_Product, still_Sum}

@@ -1,4 +1,4 @@
-use Rattle.std.proofs.Common.{◌≡◌, ◌+◌, ◌*◌, [], max, take}
+use Rattle.std.proofs.Common.{◌+◌, ◌*◌, [], max, take}
 use Rattle.mo_flat.specs.declared.expr.FlatExpr.{size-FlatExpr}
 use Rattle.mo_symdiff.specs.Derivative.{moving_terms, product_terms, with_slopes}
 use Rattle.mo_symdiff.specs.Weights.{AreBranchSizes, AreSizes, AreTermSizes}

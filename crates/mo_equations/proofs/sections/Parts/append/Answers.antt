@@ -1,9 +1,7 @@
 -- What comes of a section more.
-use Rattle.std.proofs.Common.{◌≡◌, [], ◌++◌, ◌∷◌, List, Bool, true, false, map, Ok, Err, refl, ap, sym, subst, ◌∙◌, rules}
+use Rattle.std.proofs.Common.{◌≡◌, [], ◌++◌, List, Bool, true, false, map, refl, ap, sym, subst, rules}
 use Rattle.mo_flat.specs.declared.connect.Connect.{Connect}
-use Rattle.mo_equations.specs.declared.made.Made.{Made as MadeAt}
 use Rattle.mo_equations.specs.declared.sections.Parts.{Parts as PartsAt}
-use Rattle.mo_equations.specs.Expansion.{Parts}
 use Rattle.mo_equations.specs.Gathering.{all_beside}
 use Rattle.mo_equations.specs.steps.Makings.{IsMade}
 use Rattle.mo_equations.specs.steps.Placing.{AreParts, part_of_section}

@@ -1,6 +1,5 @@
 -- A path is found by its text, and compared.
-use Rattle.std.proofs.Common.{◌≡◌, List, ℕ, None, Some, true, ap, sym, ◌∙◌}
-use Rattle.std.specs.Prelude.{slice_get}
+use Rattle.std.proofs.Common.{◌≡◌, None, Some, true, ap, sym, ◌∙◌}
 use Rattle.std.specs.HashMap.{get_by_text}
 use Rattle.std.specs.Borrow.{Bor}
 use Rattle.mo_syntax.specs.declared.meaning.InstancePath.{InstancePath}

@@ -1,4 +1,4 @@
-use Rattle.std.proofs.Common.{◌≡◌, ℕ, ℤ, ◌<◌, length, Some, ◌+◌, ◌∷◌, [], ap, arith, sym, ◌∙◌, subst}
+use Rattle.std.proofs.Common.{◌≡◌, ◌<◌, length, Some, ◌+◌, ◌∷◌, [], ap, arith, sym, ◌∙◌, subst}
 use Rattle.std.specs.Result.{IfOk}
 use Rattle.mo_typing.specs.Indices.{range_element}
 use Rattle.std.specs.Prelude.{slice_get}

@@ -1,6 +1,5 @@
 -- One variable more.
-use Rattle.std.proofs.Common.{◌≡◌, ℕ, ◌+◌, List, Option, flat_map, ap, sym, subst, ◌∙◌}
-use Rattle.mo_flat.specs.declared.expr.FlatExpr.{FlatExpr}
+use Rattle.std.proofs.Common.{ℕ, ◌+◌, List, flat_map, ap, sym, subst, ◌∙◌}
 use Rattle.mo_flat.specs.declared.model.FlatEquation.{FlatEquation}
 use Rattle.mo_flat.specs.declared.model.FlatVar.{FlatVar}
 use Rattle.mo_scope.specs.Worlds.{frames_of}
