@@ -152,7 +152,7 @@ fn spoken_element<'t>(
         Claim {
             path,
             place: declares.place,
-            last: source.last,
+            last: source.last || declares.flags.last,
         },
     )?;
     Ok(Spoken {

@@ -236,7 +236,7 @@ fn asked_declares<'s, 't>(
         Claim {
             path,
             place: declares.place,
-            last: source.last,
+            last: source.last || declares.flags.last,
         },
     )?;
     Ok(Asked {

@@ -1,10 +1,10 @@
 -- What sources redeclare.
-use Rattle.std.proofs.Common.{◌≡◌, ℕ, zero, suc, ◌+◌, ◌<◌, ◌≤◌, Bool, true, false, List, [], ◌∷◌, ◌++◌, length, take, drop, get_or, map, flat_map, Option, Some, None, refl, ap, sym, subst, ◌∙◌, append-nil, append_assoc, arith}
+use Rattle.std.proofs.Common.{◌≡◌, ℕ, zero, suc, ◌+◌, ◌<◌, ◌≤◌, Bool, true, false, List, [], ◌∷◌, ◌++◌, length, drop, get_or, map, flat_map, Option, Some, None, refl, ap, sym, subst, ◌∙◌, append-nil, arith}
 use Rattle.std.specs.Prelude.{option_map, slice_get}
 use Rattle.std.proofs.lemmas.Option.{slice_get-map, slice_get_read}
 use Rattle.std.specs.Option.{option_to_list}
 use Rattle.std.specs.Str.{bytes_eq}
-use Rattle.std.proofs.lemmas.List.{drop_all, map-append}
+use Rattle.std.proofs.lemmas.List.{map-append}
 use Rattle.std.proofs.lemmas.Grind.{flat_map-append}
 use Rattle.std.proofs.lemmas.Slice.Eq.{bytes_eq-Decides}
 use Rattle.mo_syntax.specs.declared.class.ArgumentOf.{ArgumentOf}
@@ -15,8 +15,8 @@ use Rattle.mo_syntax.specs.declared.class.Item.{Item}
 use Rattle.mo_syntax.specs.declared.class.What.{What}
 use Rattle.mo_scope.specs.Rows.{Table, Declares, Modifiers}
 use Rattle.mo_scope.specs.Frames.{Given, Listed, Argued, Replacing, Source}
-use Rattle.mo_scope.specs.Parts.{Redeclaration, Saying, Modifies, Redeclares, begins_with, behind_name, declared_in, held, names_left, pending_behind, redeclarations_in, said_behind, said_by_argument, said_by_element, said_further}
-use Rattle.mo_scope.specs.Spoken.{Spoken, spoken_argument, spoken_rest, spoken_element, spoken_of, spoken_in}
+use Rattle.mo_scope.specs.Parts.{Redeclaration, begins_with, behind_name, declared_in, held, names_left, pending_behind, redeclarations_in, said_behind, said_by_argument, said_by_element, said_further}
+use Rattle.mo_scope.specs.Spoken.{Spoken, spoken_argument, spoken_rest, spoken_element, spoken_of}
 use Rattle.mo_scope.proofs.Sayings.{said_left, said_list, said_redeclare, said_replaceable, argument_named, further_named, element_named, flat_map_flat_map}
 use Rattle.mo_scope.specs.Arguments.{asked_argument, asked_rest}
 use Rattle.mo_scope.specs.declared.source.Source.{Source as SourceAt}
@@ -156,7 +156,7 @@ module _ (table : Table) (source : Source) where
           declares = declares;
           place = declares.place;
           keeps = declares.flags.replaceable;
-          source = behind_name source declares.name (source.piece.pending ++ []) false (Listed declares.own);
+          source = behind_name source declares.name (source.piece.pending ++ []) declares.flags.last (Listed declares.own);
         },
       ) ∷ []
   element_speaks declares =

@@ -193,7 +193,7 @@ fn spoken_element<'t>(
     let passing = Passing {
         name: declares.name,
         each: false,
-        last: false,
+        last: declares.flags.last,
     };
     let behind = source_behind(alloc, source, &passing, Given::Listed(declares.own))?;
     Ok(Named {

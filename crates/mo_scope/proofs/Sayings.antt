@@ -75,7 +75,7 @@ module _ (table : Table) (source : Source) (name index : List ℕ) where
         declares = declares;
         place = declares.place;
         keeps = declares.flags.replaceable;
-        source = behind_name source declares.name (source.piece.pending ++ index) false (Listed declares.own);
+        source = behind_name source declares.name (source.piece.pending ++ index) declares.flags.last (Listed declares.own);
       }) ∷ []
   element_named declares same =
       let is : declares.name ≡ name = (bytes_eq-Decides declares.name name).0 same in

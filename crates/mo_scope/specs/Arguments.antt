@@ -72,12 +72,13 @@ asked_rest source argument (name ∷ names) = record {
   claims = claims_of argument.give (name ∷ names) argument.place source.piece.last;
 } ∷ []
 
+-- `final` of an element with `redeclare` is that of an argument.
 abbrev pub asked_element : Source → Declares → Asked
 asked_element source declares = record {
   listing = source.piece.listing;
   place = declares.place;
   each = false;
-  claims = claim (declares.name ∷ []) declares.place source.piece.last ∷ [];
+  claims = claim (declares.name ∷ []) declares.place (source.piece.last || declares.flags.last) ∷ [];
 }
 
 abbrev pub asked_of : Table → Source → List Asked

@@ -131,7 +131,7 @@ said_by_element table source name index declares =
       declares = declares;
       place = declares.place;
       keeps = declares.flags.replaceable;
-      source = behind_name source name (source.piece.pending ++ index) false (Listed declares.own);
+      source = behind_name source name (source.piece.pending ++ index) declares.flags.last (Listed declares.own);
     }) ∷ []
     else []
 

@@ -282,7 +282,7 @@ impl<'t> Scopes<'t> {
         }
         let entering = Entering {
             each: false,
-            last: false,
+            last: declares.flags.last,
             index: asked.index,
         };
         let given = Given::Listed(declares.own);

@@ -1,5 +1,5 @@
 -- What is read of the arguments of sources, each by its first name.
-use Rattle.std.specs.Prelude.{ℕ, Bool, true, false, List, [], ◌∷◌, map, flat_map}
+use Rattle.std.specs.Prelude.{ℕ, Bool, true, false, ◌||◌, List, [], ◌∷◌, map, flat_map}
 use Rattle.mo_syntax.specs.declared.place.Place.{Place}
 use Rattle.mo_scope.specs.Rows.{Table, Declares}
 use Rattle.mo_scope.specs.Frames.{Origin, Source}
@@ -65,6 +65,6 @@ element_with source declares = record {
   origin = source.piece.origin;
   name = declares.name;
   place = declares.place;
-  claims = claim (declares.name ∷ []) declares.place source.piece.last ∷ [];
+  claims = claim (declares.name ∷ []) declares.place (source.piece.last || declares.flags.last) ∷ [];
   replacing = true;
 }
