@@ -76,17 +76,21 @@ pub fn owned<'a>(dims: &Option<List<u32>>, index: &'a [u32]) -> &'a [u32]
     }
 }
 
-/// The number of a range from `first` by `step` at an index; one past 64 bits is answered by want of memory.
+/// The number of a range from `first` by `step` at an index; one past 64 bits is answered by want of memory. So many steps may leave 64
+/// bits where the number does not.
 pub fn range_element(first: i64, step: i64, index: &[u32]) -> Result<i64, NoMemory>
     ensures { IfOk result (λ n. n ≡ range_element first step index.now) }
 {
-    let steps = i64::from(first_number(index).saturating_sub(1));
-    let Some(way) = steps.checked_mul(step) else {
+    let steps = i128::from(first_number(index).saturating_sub(1));
+    let Some(way) = steps.checked_mul(i128::from(step)) else {
         return Err(NoMemory);
     };
-    match first.checked_add(way) {
-        None => Err(NoMemory),
-        Some(n) => Ok(n),
+    let Some(number) = i128::from(first).checked_add(way) else {
+        return Err(NoMemory);
+    };
+    match i64::try_from(number) {
+        Err(_) => Err(NoMemory),
+        Ok(n) => Ok(n),
     }
 }
 
