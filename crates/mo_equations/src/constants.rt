@@ -11,6 +11,7 @@ ghost use Rattle.mo_equations.specs.steps.Flats.{IsFlat};
 
 use crate::desk::{Desk, KeptConstant};
 use crate::flat::Flat;
+use crate::levels::may_replace;
 use mo_eval::Element;
 use mo_scope::{Member, Scopes, copied};
 use mo_syntax::NoMemory;
@@ -87,6 +88,11 @@ pub(crate) fn keep_constant<'i, 't>(
     requires is { (e : Expression) × (constant_by_left (table_in _s.now) (number_of (tree_in _s.now desk.old.leaves)) left (element_at _s.now element.now) ≡ Ok e) × IsFlat flat.now e }
     ensures { Stays _s.now _s.now desk.old desk.new }
 {
+    if let Some(e) = &flat.built {
+        if !may_replace(e) {
+            return Err(NoMemory);
+        }
+    }
     let element = copied_element(alloc, element)?;
     let flat = flat.copied(alloc)?;
     desk.constants.push(KeptConstant {

@@ -26,6 +26,7 @@ mod joining;
 mod kinds;
 mod layers;
 mod leaves;
+mod levels;
 mod limits;
 mod made;
 mod paths;
