@@ -1,5 +1,5 @@
 -- Lists of what is told, one more at their end.
-use Rattle.std.proofs.Common.{◌≡◌, ℕ, ◌+◌, ◌-◌, ◌<◌, ◌≤◌, Bool, false, List, [], ◌∷◌, ◌++◌, map, flat_map, take, drop, length, get_or, Option, Some, Ok, Err, refl, ap, sym, ◌∙◌, add-one, append_assoc, arith}
+use Rattle.std.proofs.Common.{◌≡◌, ℕ, ◌+◌, ◌-◌, ◌<◌, ◌≤◌, Bool, false, List, [], ◌∷◌, ◌++◌, map, flat_map, take, drop, length, get_or, Option, Some, Ok, Err, refl, ap, ap₂, sym, ◌∙◌, add-one, append_assoc, arith, take_all}
 use Rattle.std.specs.Prelude.{fold}
 use Rattle.std.proofs.lemmas.List.{map-append, append-nil}
 use Rattle.std.proofs.lemmas.List.Sums.{fold-append}
@@ -7,12 +7,14 @@ use Rattle.std.proofs.lemmas.Grind.{common_steps, flat_map-append}
 use Rattle.std.proofs.lemmas.Simd.{map-map}
 use Rattle.std.proofs.Math.Seq.{take-length}
 use Rattle.mo_flat.specs.declared.array.ArrayExpr.{ArrayExpr}
+use Rattle.mo_flat.specs.declared.array.Subscript.{Subscript}
 use Rattle.mo_syntax.specs.Outcome.{Outcome, and_then}
 use Rattle.mo_typing.specs.Dims.{Dims}
 use Rattle.mo_typing.specs.Shape.{shape_of, or_scalar, multiplied}
 use Rattle.mo_typing.specs.Indices.{Index, numbers_to, indices, own, first_number}
 use Rattle.mo_values.specs.declared.value.Reckoned.{Reckoned}
 use Rattle.mo_values.specs.declared.value.Reckoned.TheVariants.{Unknown}
+use Rattle.mo_values.specs.Selected.{selected, selected_numbers}
 use Rattle.mo_values.specs.Scalars.{Known, sum_with, read_all}
 use Rattle.mo_values.specs.Walk.{Part, Chain, at, both, number, branch_reads, branch_of}
 use Rattle.mo_values.specs.steps.Chains.{Signed, begun_with, inner_term, inner_sum, gathering, gathered}
@@ -117,3 +119,16 @@ opened [] some = absurd (grind (arith, common_steps))
 opened (n ∷ dims) some =
     let others : length (n ∷ dims) - 1 ≡ length dims = omega arith in
     ap (λ k. n ∷ take k dims) others ∙ ap (λ xs. n ∷ xs) (take-length dims)
+
+-- ---- what subscripts select
+
+pub nothing_each : {A B : Type 0} (xs : List A) → ◌≡◌ {A = List B} (flat_map (λ x. []) xs) []
+nothing_each [] = refl
+nothing_each (x ∷ xs) = nothing_each xs
+
+-- nothing is selected where nothing is behind the first dimension
+pub nothing_behind : (dims : Dims) (subs : List Subscript) → 1 ≤ length dims → 1 ≤ length subs → selected (take (length dims - 1) (drop 1 dims)) (take (length subs - 1) (drop 1 subs)) ≡ [] → selected dims subs ≡ []
+nothing_behind [] subs some more none = elim some [ ]
+nothing_behind (n ∷ dims) [] some more none = elim more [ ]
+nothing_behind (n ∷ dims) (sub ∷ subs) some more none =
+    ap (λ indices. flat_map (λ k. map (λ index. k ∷ index) indices) (selected_numbers n sub)) (ap₂ selected (sym (take_all (length (n ∷ dims) - 1) dims (omega arith))) (sym (take_all (length (sub ∷ subs) - 1) subs (omega arith))) ∙ none) ∙ nothing_each (selected_numbers n sub)

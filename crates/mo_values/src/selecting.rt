@@ -1,5 +1,5 @@
 //! What the subscripts of a reference select.
-ghost use Rattle.std.specs.Prelude.{◌≡◌, ◌∷◌, ◌++◌, [], map, flat_map, IfOk, OnOk, is_ok};
+ghost use Rattle.std.specs.Prelude.{◌≡◌, ◌∷◌, ◌++◌, [], map, flat_map, IfOk, OnOk, is_ok, true};
 ghost use Rattle.mo_typing.specs.Indices.{numbers_to};
 ghost use Rattle.mo_typing.specs.Shape.{size_of};
 ghost use Rattle.mo_typing.specs.Subscripts.{subscript, subscripts, is_within};
@@ -90,13 +90,34 @@ fn behind_each(
     Ok(made)
 }
 
-/// The indices that subscripts select, the last one fastest. `NoMemory` is the only other answer.
-#[cycle(selected)]
-pub fn selected(
-    alloc: Global,
-    dims: &[u32],
-    subs: &[Subscript],
-) -> Result<List<List<u32>>, NoMemory>
+/// Whether a subscript selects no number in a dimension of that size.
+fn is_without_numbers(size: u32, sub: &Subscript) -> bool
+    ensures { result ≡ true → selected_numbers size sub.now ≡ [] }
+{
+    match sub {
+        Subscript::All => size == 0,
+        Subscript::One(_, _) => false,
+        Subscript::Many(_, numbers) => numbers.is_empty(),
+    }
+}
+
+/// Whether one of the subscripts selects nothing, however large the other dimensions are.
+#[cycle(nothing)]
+fn is_nothing(dims: &[u32], subs: &[Subscript]) -> bool
+    ensures { result ≡ true → selected dims.now subs.now ≡ [] }
+{
+    match dims {
+        [] => false,
+        [n, more @ ..] => match subs {
+            [] => true,
+            [sub, others @ ..] => is_without_numbers(*n, sub) || is_nothing(more, others),
+        },
+    }
+}
+
+/// The indices that subscripts select, where each dimension is gone through.
+#[cycle(listed)]
+fn listed(alloc: Global, dims: &[u32], subs: &[Subscript]) -> Result<List<List<u32>>, NoMemory>
     ensures { IfOk result (λ made. made ≡ selected dims.now subs.now) }
 {
     match dims {
@@ -109,11 +130,25 @@ pub fn selected(
             [] => Ok(List::new(alloc)),
             [sub, others @ ..] => {
                 let numbers = selected_numbers(alloc, *n, sub)?;
-                let indices = selected(alloc, more, others)?;
+                let indices = listed(alloc, more, others)?;
                 behind_each(alloc, numbers.as_slice(), indices.as_slice())
             }
         },
     }
+}
+
+/// The indices that subscripts select, the last one fastest. `NoMemory` is the only other answer.
+pub fn selected(
+    alloc: Global,
+    dims: &[u32],
+    subs: &[Subscript],
+) -> Result<List<List<u32>>, NoMemory>
+    ensures { IfOk result (λ made. made ≡ selected dims.now subs.now) }
+{
+    if is_nothing(dims, subs) {
+        return Ok(List::new(alloc));
+    }
+    listed(alloc, dims, subs)
 }
 
 fn are_within(size: u32, numbers: &[i64]) -> bool

@@ -1,9 +1,4 @@
 use Rattle.std.proofs.Common.{◌≡◌, false, true, Ok, Err, sym, ap, ◌∙◌, rules}
-use Rattle.std.specs.List.{list_all}
-use Rattle.mo_syntax.specs.Outcome.{and_then}
-use Rattle.mo_typing.specs.Outcome.{Gives, each}
-use Rattle.mo_typing.specs.Kinds.{kind_of}
-use Rattle.mo_values.specs.Asked.{is_whole}
 use Rattle.mo_values.proofs.TwoOperands.{kinds_asked, not_two, not_whole, two_checked}
 use Rattle.mo_values.proofs.operands.checked_operands.Goals as goal
 
