@@ -2,21 +2,18 @@
 //! nothing (Modelica Language Specification 3.5, sections 4.6, 5.4 and 7.3).
 ghost use Rattle.std.specs.Prelude.{◌≡◌, ◌++◌, List as Seq, flat_map, map};
 ghost use Rattle.std.specs.List.{list_any};
-ghost use Rattle.mo_syntax.specs.declared.class.Body.{out-Body};
 ghost use Rattle.mo_syntax.specs.declared.class.Element.{Element as ElementOf};
 ghost use Rattle.mo_scope.specs.Outcome.{Gives};
 ghost use Rattle.mo_scope.specs.Parts.{declared_in};
 ghost use Rattle.mo_scope.specs.Frames.{class_of};
-ghost use Rattle.mo_scope.specs.Rows.{Element_of, Table, clauses_in, form_in, is_short_form, replacing_in, row_at};
+ghost use Rattle.mo_scope.specs.Rows.{Element_of, Table, clauses_in, replacing_in, row_at};
 ghost use Rattle.mo_scope.specs.Sights.{declares_seen, part_seen, row_seen};
 ghost use Rattle.mo_scope.specs.Worlds.{IsFrame, frame_at, table_in};
 ghost use Rattle.mo_instance.specs.Checks.{first_in_text, in_profile as frame_in_profile, is_function as kind_is_function, is_partial_short as row_is_partial_short, replaces_inherited as frame_replaces, row_in_profile as profile_of_row, unless_any, unless_bases, whole_class as class_is_whole, wrongly_inner};
 ghost use Rattle.mo_instance.specs.steps.Firsts.{earlier_place, first_replaced, first_wrong, part_is_base, place_in_part, wrong_at, wrong_items, wrong_parts, wrong_place as place_if_wrong};
 
-use mo_scope::{Declares, Part, Row, Scopes, is_class, replacing};
-use mo_syntax::{
-    Body, ClassKind, Element, ElementFlags, FrameId, Item, Place, Stop, What, rules, stop,
-};
+use mo_scope::{Declares, Part, Row, Scopes, is_class, is_short, replacing};
+use mo_syntax::{ClassKind, Element, ElementFlags, FrameId, Item, Place, Stop, What, rules, stop};
 
 /// Breaks rule 26 at the place where the class of a frame is partial.
 pub(crate) fn whole_class(s: &Scopes, place: Place, frame: FrameId) -> Result<(), Stop>
@@ -32,27 +29,6 @@ pub(crate) fn whole_class(s: &Scopes, place: Place, frame: FrameId) -> Result<()
             }
         }
         None => Ok(()),
-    }
-}
-
-/// Whether a class is a short one.
-fn is_short(body: &Body) -> bool
-    ensures { result ≡ is_short_form (form_in (out-Body body.now)) }
-{
-    match body {
-        Body::Short {
-            causal: _,
-            base: _,
-            subs: _,
-            mods: _,
-        } => true,
-        Body::Long {
-            extending: _,
-            items: _,
-            external: _,
-        } => false,
-        Body::Enumeration(_) => false,
-        Body::Der(_, _) => false,
     }
 }
 

@@ -60,3 +60,4 @@ pub use sort::{component_of, is_class, is_constant, is_encapsulated, is_open};
 pub use source::{Given, Listing, Modifiers, Origin, Picked, ScopeAt, Source};
 pub use table::MemberTable;
 pub use values::pick_here;
+pub use written::is_short;

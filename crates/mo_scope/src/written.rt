@@ -184,8 +184,8 @@ pub(crate) fn replacing_source<'t>(
     })
 }
 
-/// Whether a class is a short one.
-fn is_short(body: &Body) -> bool
+/// Whether a class is a short one (Modelica Language Specification 3.5, section 4.5.1).
+pub fn is_short(body: &Body) -> bool
     ensures { result ≡ is_short_form (form_in (out-Body body.now)) }
 {
     match body {
