@@ -9,6 +9,7 @@ use Rattle.mo_eval.proofs.+resolving.Answers.Division as division
 use Rattle.mo_eval.proofs.+resolving.Answers.References as references
 use Rattle.mo_eval.proofs.+resolving.Answers.Resolve as resolve
 use Rattle.mo_eval.proofs.+resolving.Answers.Selections as selections
+use Rattle.mo_eval.proofs.+resolving.Answers.SizeCalls as size_calls
 use Rattle.mo_eval.proofs.+resolving.Answers.Subscripts as subscripts
 use Rattle.mo_eval.proofs.+resolving.Answers.Variables as variables
 use Rattle.mo_eval.proofs.+resolving.Goals as goal
@@ -22,6 +23,7 @@ mod Division
 mod References
 mod Resolve
 mod Selections
+mod SizeCalls
 mod Subscripts
 mod Variables
 
@@ -218,94 +220,94 @@ pub calls::arguments-returns-clause-exact : goal.calls::arguments-returns-clause
 calls::arguments-returns-clause-exact = calls.arguments-returns-clause-exact
 
 pub calls::sizes-returns-in_err-one-clause-exact : goal.calls::sizes-returns-in_err-one-clause-exact
-calls::sizes-returns-in_err-one-clause-exact = calls.sizes-returns-in_err-one-clause-exact
+calls::sizes-returns-in_err-one-clause-exact = size_calls.sizes-returns-in_err-one-clause-exact
 
 pub calls::sizes-loop-arg-preserved : goal.calls::sizes-loop-arg-preserved
-calls::sizes-loop-arg-preserved = calls.sizes-loop-arg-preserved
+calls::sizes-loop-arg-preserved = size_calls.sizes-loop-arg-preserved
 
 pub calls::sizes-returns-clause-exact : goal.calls::sizes-returns-clause-exact
-calls::sizes-returns-clause-exact = calls.sizes-returns-clause-exact
+calls::sizes-returns-clause-exact = size_calls.sizes-returns-clause-exact
 
 pub calls::number-returns-in_default-clause-exact : goal.calls::number-returns-in_default-clause-exact
-calls::number-returns-in_default-clause-exact = calls.number-returns-in_default-clause-exact
+calls::number-returns-in_default-clause-exact = size_calls.number-returns-in_default-clause-exact
 
 pub calls::number-returns-in_err-n-clause-there : goal.calls::number-returns-in_err-n-clause-there
-calls::number-returns-in_err-n-clause-there = calls.number-returns-in_err-n-clause-there
+calls::number-returns-in_err-n-clause-there = size_calls.number-returns-in_err-n-clause-there
 
 pub calls::number-returns-in_err-n-clause-exact : goal.calls::number-returns-in_err-n-clause-exact
-calls::number-returns-in_err-n-clause-exact = calls.number-returns-in_err-n-clause-exact
+calls::number-returns-in_err-n-clause-exact = size_calls.number-returns-in_err-n-clause-exact
 
 pub calls::number-returns-in-None-clause-there : goal.calls::number-returns-in-None-clause-there
-calls::number-returns-in-None-clause-there = calls.number-returns-in-None-clause-there
+calls::number-returns-in-None-clause-there = size_calls.number-returns-in-None-clause-there
 
 pub calls::number-returns-in-None-clause-exact : goal.calls::number-returns-in-None-clause-exact
-calls::number-returns-in-None-clause-exact = calls.number-returns-in-None-clause-exact
+calls::number-returns-in-None-clause-exact = size_calls.number-returns-in-None-clause-exact
 
 pub calls::number-arguments-requires : goal.calls::number-arguments-requires
-calls::number-arguments-requires = calls.number-arguments-requires
+calls::number-arguments-requires = size_calls.number-arguments-requires
 
 pub calls::number-returns-in_err-arguments-in-Some-split-clause-exact : goal.calls::number-returns-in_err-arguments-in-Some-split-clause-exact
-calls::number-returns-in_err-arguments-in-Some-split-clause-exact = calls.number-returns-in_err-arguments-in-Some-split-clause-exact
+calls::number-returns-in_err-arguments-in-Some-split-clause-exact = size_calls.number-returns-in_err-arguments-in-Some-split-clause-exact
 
 pub calls::number-returns-in_ok-arguments-in-Some-split-clause-exact : goal.calls::number-returns-in_ok-arguments-in-Some-split-clause-exact
-calls::number-returns-in_ok-arguments-in-Some-split-clause-exact = calls.number-returns-in_ok-arguments-in-Some-split-clause-exact
+calls::number-returns-in_ok-arguments-in-Some-split-clause-exact = size_calls.number-returns-in_ok-arguments-in-Some-split-clause-exact
 
 pub calls::size-returns-in_default-clause-exact : goal.calls::size-returns-in_default-clause-exact
-calls::size-returns-in_default-clause-exact = calls.size-returns-in_default-clause-exact
+calls::size-returns-in_default-clause-exact = size_calls.size-returns-in_default-clause-exact
 
 pub calls::size-returns-in_err-inner-clause-exact : goal.calls::size-returns-in_err-inner-clause-exact
-calls::size-returns-in_err-inner-clause-exact = calls.size-returns-in_err-inner-clause-exact
+calls::size-returns-in_err-inner-clause-exact = size_calls.size-returns-in_err-inner-clause-exact
 
 pub calls::size-returns-in_err-at-clause-exact : goal.calls::size-returns-in_err-at-clause-exact
-calls::size-returns-in_err-at-clause-exact = calls.size-returns-in_err-at-clause-exact
+calls::size-returns-in_err-at-clause-exact = size_calls.size-returns-in_err-at-clause-exact
 
 pub calls::size-returns-clause-exact : goal.calls::size-returns-clause-exact
-calls::size-returns-clause-exact = calls.size-returns-clause-exact
+calls::size-returns-clause-exact = size_calls.size-returns-clause-exact
 
 pub calls::ndims-returns-clause-exact : goal.calls::ndims-returns-clause-exact
-calls::ndims-returns-clause-exact = calls.ndims-returns-clause-exact
+calls::ndims-returns-clause-exact = size_calls.ndims-returns-clause-exact
 
 pub calls::ndims-returns-in_err-arguments-clause-exact : goal.calls::ndims-returns-in_err-arguments-clause-exact
-calls::ndims-returns-in_err-arguments-clause-exact = calls.ndims-returns-in_err-arguments-clause-exact
+calls::ndims-returns-in_err-arguments-clause-exact = size_calls.ndims-returns-in_err-arguments-clause-exact
 
 pub calls::ndims-returns-in_default-clause-exact : goal.calls::ndims-returns-in_default-clause-exact
-calls::ndims-returns-in_default-clause-exact = calls.ndims-returns-in_default-clause-exact
+calls::ndims-returns-in_default-clause-exact = size_calls.ndims-returns-in_default-clause-exact
 
 pub calls::fill-returns-in_default-clause-exact : goal.calls::fill-returns-in_default-clause-exact
-calls::fill-returns-in_default-clause-exact = calls.fill-returns-in_default-clause-exact
+calls::fill-returns-in_default-clause-exact = size_calls.fill-returns-in_default-clause-exact
 
 pub calls::fill-returns-in_err-filling-clause-exact : goal.calls::fill-returns-in_err-filling-clause-exact
-calls::fill-returns-in_err-filling-clause-exact = calls.fill-returns-in_err-filling-clause-exact
+calls::fill-returns-in_err-filling-clause-exact = size_calls.fill-returns-in_err-filling-clause-exact
 
 pub calls::fill-returns-in_err-numbers-clause-there : goal.calls::fill-returns-in_err-numbers-clause-there
-calls::fill-returns-in_err-numbers-clause-there = calls.fill-returns-in_err-numbers-clause-there
+calls::fill-returns-in_err-numbers-clause-there = size_calls.fill-returns-in_err-numbers-clause-there
 
 pub calls::fill-returns-in_err-numbers-clause-exact : goal.calls::fill-returns-in_err-numbers-clause-exact
-calls::fill-returns-in_err-numbers-clause-exact = calls.fill-returns-in_err-numbers-clause-exact
+calls::fill-returns-in_err-numbers-clause-exact = size_calls.fill-returns-in_err-numbers-clause-exact
 
 pub calls::fill-returns-clause-there : goal.calls::fill-returns-clause-there
-calls::fill-returns-clause-there = calls.fill-returns-clause-there
+calls::fill-returns-clause-there = size_calls.fill-returns-clause-there
 
 pub calls::fill-returns-clause-exact : goal.calls::fill-returns-clause-exact
-calls::fill-returns-clause-exact = calls.fill-returns-clause-exact
+calls::fill-returns-clause-exact = size_calls.fill-returns-clause-exact
 
 pub calls::sized-returns-in_err-numbers-clause-there : goal.calls::sized-returns-in_err-numbers-clause-there
-calls::sized-returns-in_err-numbers-clause-there = calls.sized-returns-in_err-numbers-clause-there
+calls::sized-returns-in_err-numbers-clause-there = size_calls.sized-returns-in_err-numbers-clause-there
 
 pub calls::sized-returns-in_err-numbers-clause-exact : goal.calls::sized-returns-in_err-numbers-clause-exact
-calls::sized-returns-in_err-numbers-clause-exact = calls.sized-returns-in_err-numbers-clause-exact
+calls::sized-returns-in_err-numbers-clause-exact = size_calls.sized-returns-in_err-numbers-clause-exact
 
 pub calls::sized-returns-then-not-takes-clause-there : goal.calls::sized-returns-then-not-takes-clause-there
-calls::sized-returns-then-not-takes-clause-there = calls.sized-returns-then-not-takes-clause-there
+calls::sized-returns-then-not-takes-clause-there = size_calls.sized-returns-then-not-takes-clause-there
 
 pub calls::sized-returns-then-not-takes-clause-exact : goal.calls::sized-returns-then-not-takes-clause-exact
-calls::sized-returns-then-not-takes-clause-exact = calls.sized-returns-then-not-takes-clause-exact
+calls::sized-returns-then-not-takes-clause-exact = size_calls.sized-returns-then-not-takes-clause-exact
 
 pub calls::sized-returns-clause-there : goal.calls::sized-returns-clause-there
-calls::sized-returns-clause-there = calls.sized-returns-clause-there
+calls::sized-returns-clause-there = size_calls.sized-returns-clause-there
 
 pub calls::sized-returns-clause-exact : goal.calls::sized-returns-clause-exact
-calls::sized-returns-clause-exact = calls.sized-returns-clause-exact
+calls::sized-returns-clause-exact = size_calls.sized-returns-clause-exact
 
 pub calls::derivative-returns-in_err-operands-clause-exact : goal.calls::derivative-returns-in_err-operands-clause-exact
 calls::derivative-returns-in_err-operands-clause-exact = calls.derivative-returns-in_err-operands-clause-exact
@@ -869,37 +871,37 @@ pub calls::arguments-returns-in_err-push-clause-grows : goal.calls::arguments-re
 calls::arguments-returns-in_err-push-clause-grows = calls.arguments-returns-in_err-push-clause-grows
 
 pub calls::sizes-returns-in_err-one-clause-grows : goal.calls::sizes-returns-in_err-one-clause-grows
-calls::sizes-returns-in_err-one-clause-grows = calls.sizes-returns-in_err-one-clause-grows
+calls::sizes-returns-in_err-one-clause-grows = size_calls.sizes-returns-in_err-one-clause-grows
 
 pub calls::sizes-returns-in_err-push-clause-grows : goal.calls::sizes-returns-in_err-push-clause-grows
-calls::sizes-returns-in_err-push-clause-grows = calls.sizes-returns-in_err-push-clause-grows
+calls::sizes-returns-in_err-push-clause-grows = size_calls.sizes-returns-in_err-push-clause-grows
 
 pub calls::number-returns-in_default-clause-grows : goal.calls::number-returns-in_default-clause-grows
-calls::number-returns-in_default-clause-grows = calls.number-returns-in_default-clause-grows
+calls::number-returns-in_default-clause-grows = size_calls.number-returns-in_default-clause-grows
 
 pub calls::number-returns-in_err-arguments-in-Some-split-clause-grows : goal.calls::number-returns-in_err-arguments-in-Some-split-clause-grows
-calls::number-returns-in_err-arguments-in-Some-split-clause-grows = calls.number-returns-in_err-arguments-in-Some-split-clause-grows
+calls::number-returns-in_err-arguments-in-Some-split-clause-grows = size_calls.number-returns-in_err-arguments-in-Some-split-clause-grows
 
 pub calls::number-returns-in_ok-arguments-in-Some-split-clause-grows : goal.calls::number-returns-in_ok-arguments-in-Some-split-clause-grows
-calls::number-returns-in_ok-arguments-in-Some-split-clause-grows = calls.number-returns-in_ok-arguments-in-Some-split-clause-grows
+calls::number-returns-in_ok-arguments-in-Some-split-clause-grows = size_calls.number-returns-in_ok-arguments-in-Some-split-clause-grows
 
 pub calls::size-returns-in_default-clause-grows : goal.calls::size-returns-in_default-clause-grows
-calls::size-returns-in_default-clause-grows = calls.size-returns-in_default-clause-grows
+calls::size-returns-in_default-clause-grows = size_calls.size-returns-in_default-clause-grows
 
 pub calls::size-returns-in_err-at-clause-grows : goal.calls::size-returns-in_err-at-clause-grows
-calls::size-returns-in_err-at-clause-grows = calls.size-returns-in_err-at-clause-grows
+calls::size-returns-in_err-at-clause-grows = size_calls.size-returns-in_err-at-clause-grows
 
 pub calls::size-returns-clause-grows : goal.calls::size-returns-clause-grows
-calls::size-returns-clause-grows = calls.size-returns-clause-grows
+calls::size-returns-clause-grows = size_calls.size-returns-clause-grows
 
 pub calls::fill-returns-in_default-clause-grows : goal.calls::fill-returns-in_default-clause-grows
-calls::fill-returns-in_default-clause-grows = calls.fill-returns-in_default-clause-grows
+calls::fill-returns-in_default-clause-grows = size_calls.fill-returns-in_default-clause-grows
 
 pub calls::fill-returns-in_err-numbers-clause-grows : goal.calls::fill-returns-in_err-numbers-clause-grows
-calls::fill-returns-in_err-numbers-clause-grows = calls.fill-returns-in_err-numbers-clause-grows
+calls::fill-returns-in_err-numbers-clause-grows = size_calls.fill-returns-in_err-numbers-clause-grows
 
 pub calls::fill-returns-clause-grows : goal.calls::fill-returns-clause-grows
-calls::fill-returns-clause-grows = calls.fill-returns-clause-grows
+calls::fill-returns-clause-grows = size_calls.fill-returns-clause-grows
 
 pub calls::call-returns-else-not-are_plain-clause-grows : goal.calls::call-returns-else-not-are_plain-clause-grows
 calls::call-returns-else-not-are_plain-clause-grows = calls.call-returns-else-not-are_plain-clause-grows
