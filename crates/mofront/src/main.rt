@@ -4,6 +4,10 @@
 //! docs/ARCHITECTURE.md.
 #![tactic(auto)]
 
+ghost use Rattle.std.specs.Prelude.{◌≡◌};
+ghost use Rattle.std.specs.IoError.{error_kind};
+ghost use Rattle.mofront.specs.Words.{status_without_words};
+
 use mo_front::{Status, run};
 use mo_ports::{FileShelf, StdSink};
 use std::process::ExitCode;
@@ -16,7 +20,9 @@ fn words_of<R: Env + AllocGlobal>(rt: &R) -> io::Result<Vec<String>> {
 }
 
 /// The status of a run whose words could not be taken up: one that is not UTF-8 is no word of any form.
-fn without_words(error: &io::Error) -> Status {
+fn without_words(error: &io::Error) -> Status
+    ensures { result ≡ status_without_words (error_kind error.now) }
+{
     match error.kind() {
         io::ErrorKind::InvalidData => Status::Usage,
         _ => Status::NoMemory,
