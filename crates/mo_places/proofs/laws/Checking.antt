@@ -19,15 +19,15 @@ use Rattle.mo_scope.specs.Spoken.{Spoken, spoken_in}
 use Rattle.mo_instance.specs.Passes.{breach_if, broken_against, broken_constraint, broken_found, broken_member, broken_name, broken_spoken, first_of_all, first_pass, inherits, is_known, own_claims}
 use Rattle.mo_instance.specs.Checks.{added_to, base_passed, before_last, earlier_of, first_in_text, frame_checked, frame_passed, in_profile, is_function, is_inner_or_outer, is_partial_short, partial_base, profile_of, replaces_by, replaces_inherited, type_checked, unless_any, unless_bases, whole_class, whole_row, wrongly_inner}
 use Rattle.mo_places.specs.Written.{Written, At}
-use Rattle.mo_places.specs.Stands.{Anything, Every, IfAny, Answers, ClauseStands, DeclaresStand, ElementStands, FrameStands, RowStands, SourceStands, TableStands, WalkedStands}
+use Rattle.mo_places.specs.Stands.{Anything, Every, IfAny, Answers, DeclaresStand, ElementStands, FrameStands, RowStands, SourceStands, TableStands, WalkedStands}
 use Rattle.mo_places.proofs.laws.Standing.{every_append, every_drop, every_filter, every_flat_map, every_map, every_weaker, if_answers, if_list, then_answers}
 use Rattle.mo_places.proofs.laws.Sources.{declared_stand, row_stands, sources_stand}
 use Rattle.mo_places.proofs.laws.Finding.{elements_stand}
-use Rattle.mo_places.proofs.laws.Naming.{base_frame_of_stands, final_stands, walk_of_stands}
+use Rattle.mo_places.proofs.laws.Naming.{final_stands, walk_of_stands}
 use Rattle.mo_places.proofs.laws.Passing.{BrokenStands, ClaimStands, least_stands, or_later_stands, second_pass_answers, unless_answers}
 use Rattle.mo_places.proofs.laws.Speaking.{SpokenStands, spoken_in_stands}
 use Rattle.mo_places.proofs.laws.Redeclaring.{each_checked_answers, redeclarations_answer}
-use Rattle.mo_places.proofs.laws.values.TypeSizes.{clauses_of_stand}
+use Rattle.mo_places.proofs.laws.values.TypeSizes.{clauses_of_stand, first_base_answers}
 use Rattle.mo_syntax.specs.declared.rules.TheConstants.{PROTECTED_ELEMENT, FINAL_MODIFIED, MODIFIED_ELEMENT_NOT_FOUND, MODIFIED_TWICE}
 
 module _ (P : Written → Type 0) (table : Table) (stands : TableStands P table) where
@@ -174,15 +174,11 @@ module _ (P : Written → Type 0) (table : Table) (stands : TableStands P table)
 
   -- ---- the class of a component's type
 
-  first_base_answers : (frame : Frame) (clauses : List Clause) → FrameStands P frame → Every (ClauseStands P) clauses → Answers P (FrameStands P) (first_base table frame clauses)
-  first_base_answers frame [] hf h = record { holds = hf }
-  first_base_answers frame (clause ∷ clauses) hf h = base_frame_of_stands P table stands frame clause hf h.0
-
   partial_base_answers : (frame : Frame) → FrameStands P frame → Fine (partial_base table frame)
   partial_base_answers frame hf =
       if_answers P Sure (is_partial_short (row_at table (class_of frame))) _ _
       (then_answers P (FrameStands P) Sure (first_base table frame (clauses_of table frame)) _
-      (first_base_answers frame (clauses_of table frame) hf (clauses_of_stand P table stands frame)) (λ base hb. record { holds = tt }))
+      (first_base_answers P table stands frame (clauses_of table frame) hf (clauses_of_stand P table stands frame)) (λ base hb. record { holds = tt }))
       (record { holds = tt })
 
   pub type_checked_answers : (place : Place) (frame : Frame) → P (At place) → FrameStands P frame → Answers P (WalkedStands P) (type_checked table place frame)

@@ -34,9 +34,9 @@ module _ (P : Written → Type 0) (table : Table) (stands : TableStands P table)
   base_stands (Ok base) h = h.holds
   base_stands (Err broken) h = tt
 
-  first_base_stands : (frame : Frame) (clauses : List Clause) → FrameStands P frame → Every (ClauseStands P) clauses → BaseStands (first_base table frame clauses)
-  first_base_stands frame [] hf h = hf
-  first_base_stands frame (clause ∷ clauses) hf h = base_stands (base_frame_of table frame clause) (base_frame_of_stands P table stands frame clause hf h.0)
+  pub first_base_answers : (frame : Frame) (clauses : List Clause) → FrameStands P frame → Every (ClauseStands P) clauses → Answers P (FrameStands P) (first_base table frame clauses)
+  first_base_answers frame [] hf h = record { holds = hf }
+  first_base_answers frame (clause ∷ clauses) hf h = base_frame_of_stands P table stands frame clause hf h.0
 
   leaf_base_stands : (frame : Frame) (clauses : List Clause) → FrameStands P frame → Every (ClauseStands P) clauses → IfAny (FrameStands P) (leaf_base table frame clauses)
   leaf_base_stands frame [] hf h = tt
@@ -65,7 +65,7 @@ module _ (P : Written → Type 0) (table : Table) (stands : TableStands P table)
   form_sizes_stand : (next : Frame → List Sizes) (frame : Frame) (form : Form) → NextStands next → FrameStands P frame → FormStands P form → Every (SizesStand P) (sizes_of_form table next frame form)
   form_sizes_stand next frame (Short_class causal subs) hn hf h =
       short_sizes_stand next (sizes_if subs (record { frame = frame; iterations = [] })) (first_base table frame (clauses_of table frame)) hn
-      (sizes_if_stand P subs (record { frame = frame; iterations = [] }) (subs_values P subs h) hf) (first_base_stands frame (clauses_of table frame) hf (clauses_of_stand frame))
+      (sizes_if_stand P subs (record { frame = frame; iterations = [] }) (subs_values P subs h) hf) (base_stands (first_base table frame (clauses_of table frame)) (first_base_answers frame (clauses_of table frame) hf (clauses_of_stand frame)))
   form_sizes_stand next frame Long_class hn hf h =
       if_list (SizesStand P) (is_leaf (walk_of table frame)) _ _ (base_sizes_stand next (leaf_base table frame (clauses_of table frame)) hn (leaf_base_stands frame (clauses_of table frame) hf (clauses_of_stand frame))) tt
   form_sizes_stand next frame (Enumeration_class literals) hn hf h = tt
