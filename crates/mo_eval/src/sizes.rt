@@ -161,6 +161,9 @@ pub(crate) fn all_sizes<'t>(
     Ok(made)
 }
 
+/// How many dimensions a component may have: its elements are gone through a call for each of them.
+const MOST_DIMENSIONS: usize = 256;
+
 /// How many dimensions there are.
 pub(crate) fn count_of(sizes: &[Sizes]) -> Result<usize, NoMemory>
     ensures { IfOk result (λ count. (frames : Seq Frame) → count ≡ count_sizes (sizes_seen frames sizes.now)) }
@@ -168,6 +171,9 @@ pub(crate) fn count_of(sizes: &[Sizes]) -> Result<usize, NoMemory>
     let mut count = 0usize;
     for one in sizes {
         count = count.checked_add(one.subscripts.len()).ok_or(NoMemory)?;
+    }
+    if count > MOST_DIMENSIONS {
+        return Err(NoMemory);
     }
     Ok(count)
 }

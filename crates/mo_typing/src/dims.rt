@@ -11,9 +11,13 @@ use crate::extents::{
 use crate::operands::{
     chained, raised, related, scalar, with_alike, with_factor, with_scalar, with_term,
 };
+use crate::shapes::is_scalar;
 use mo_flat::{ArrayExpr, ArrayNode};
-use mo_syntax::{Broken, List, Place, Stop, broken, rules};
+use mo_syntax::{Broken, List, NoMemory, Place, Stop, broken, rules};
 use std::alloc::Global;
+
+/// How many vectors and matrices a product may have: its elements are two calls deeper for each of them.
+const MOST_ARRAYS: u32 = 48;
 
 /// The dimensions of an expression, the first one first, or the first rule that they break: 33 where another number of
 /// dimensions is wanted, 31 where the sizes differ, at a range with step 0 or more than 4,294,967,295 numbers, and at a size
@@ -97,6 +101,17 @@ fn of_terms(
     answer(chained(alloc, all))
 }
 
+/// How many factors of a product are arrays, with one more factor of these dimensions.
+fn with_array(arrays: u32, dims: &[u32]) -> Result<u32, NoMemory> {
+    if is_scalar(dims) {
+        return Ok(arrays);
+    }
+    if arrays >= MOST_ARRAYS {
+        return Err(NoMemory);
+    }
+    Ok(arrays + 1)
+}
+
 #[cycle(dims)]
 fn of_factors(
     alloc: Global,
@@ -106,8 +121,10 @@ fn of_factors(
     ensures { Gives result (and_then (operands_of (signed_parts factors.now)) (chain (multiplied place))) }
 {
     let mut all = Ok(None);
+    let mut arrays = 0;
     for factor in factors {
         let shape = dims(alloc, &factor.2)?;
+        arrays = with_array(arrays, shape.as_slice())?;
         all = with_factor(alloc, place, all, (factor.0, factor.1, shape))?;
     }
     answer(chained(alloc, all))

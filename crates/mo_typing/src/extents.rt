@@ -201,10 +201,16 @@ fn size(n: &(Place, i64)) -> Result<u32, Broken>
     Ok(n.1 as u32)
 }
 
+/// How many sizes a call may have: the elements of an array are gone through a call for each dimension.
+const MOST_SIZES: usize = 256;
+
 /// All sizes that are given as arguments: rule 31 at the first one that is negative or above 4,294,967,295.
 pub fn sizes_of(alloc: Global, sizes: &[(Place, i64)]) -> Result<List<u32>, Stop>
     ensures { Gives result (sizes_of sizes.now) }
 {
+    if sizes.len() > MOST_SIZES {
+        return Err(Stop::NoMemory);
+    }
     let mut made = List::new(alloc);
     for n in sizes {
         match size(n) {
