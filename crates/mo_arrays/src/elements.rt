@@ -13,7 +13,7 @@ use crate::indices::{behind_last, constant, of_range, of_size, variable};
 use mo_flat::{ArrayExpr, ArrayNode, FlatExpr};
 use mo_syntax::{Boxed, List, NoMemory, RelOp, both};
 use mo_tables::functions;
-use mo_typing::indexing::{first_number, first_of, located, owned, rest_of, rows_of};
+use mo_typing::indexing::{first_number, first_of, has_none, located, owned, rest_of, rows_of};
 use mo_typing::shapes::{Signed, is_scalar, joined_lists, multiplied, shape, swapped};
 use std::alloc::Global;
 
@@ -339,6 +339,9 @@ fn elements_of_rows(
     ensures { IfOk result (λ made. made ≡ map (λ index. plain (element_of e.now (begun.now ++ index))) (indices (n ∷ more.now))) }
 {
     let mut made = List::new(alloc);
+    if has_none(more) {
+        return Ok(made);
+    }
     for k in 0..n {
         let index = joined_lists(alloc, begun, &[k + 1])?;
         made.append(elements_below(alloc, e, index.as_slice(), more)?)?;

@@ -12,6 +12,7 @@ use crate::elements::element_at;
 use mo_flat::{ArrayExpr, FlatEquation, FlatExpr};
 use mo_syntax::{Broken, Kind, List, NoMemory, Place, Stop, both, broken, rules};
 use mo_typing::agree::is_number;
+use mo_typing::indexing::has_none;
 use mo_typing::shapes::joined_lists;
 use mo_typing::{dims_of, kind_of, matched, subscripts};
 use std::alloc::Global;
@@ -164,6 +165,9 @@ fn equations_of_rows(
     ensures { IfOk result (λ made. made ≡ map (λ index. equation left.now right.now place (begun.now ++ index)) (indices (n ∷ more.now))) }
 {
     let mut made = List::new(alloc);
+    if has_none(more) {
+        return Ok(made);
+    }
     for k in 0..n {
         let index = joined_lists(alloc, begun, &[k + 1])?;
         made.append(equations_below(alloc, left, right, place, index.as_slice(), more)?)?;

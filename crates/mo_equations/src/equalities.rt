@@ -27,6 +27,7 @@ use mo_eval::{MOST_REFERENCES, Sides, Virtual};
 use mo_flat::ArrayExpr;
 use mo_scope::{ScopeAt, Scopes};
 use mo_syntax::{Expr, Place, Stop};
+use mo_typing::indexing::has_none;
 use mo_typing::shapes::joined_lists;
 use std::alloc::Global;
 
@@ -162,6 +163,9 @@ fn put_rows<'i, 't>(
     ensures replaced { OnOk result (AreReplaced (of_variable (replacing_in s.old desk.old.leaves most_references) (virtuals_at s.old sides.now.virtuals)) row.new.replaced.items) }
     ensures exact { PutsEquations result row.old.made row.new.made (each (replaced_sides (tree_in s.old desk.old.leaves) (virtuals_at s.old sides.now.virtuals)) (map (λ index. equation_of sides.now.left sides.now.right below.entry.place (below.entry.begun.now ++ index)) (indices (n.now ∷ below.entry.dims.now)))) }
 {
+    if has_none(below.dims) {
+        return Ok(());
+    }
     for k in 0..*n {
         let index = joined_lists(alloc, below.begun, &[k + 1])?;
         let next = Below {

@@ -1,6 +1,6 @@
 -- The walk over components, one step after another.
-use Rattle.std.proofs.Common.{◌≡◌, ℕ, zero, suc, ◌+◌, ◌-◌, ◌<◌, ◌≤◌, Bool, true, false, List, [], ◌∷◌, ◌++◌, length, map, flat_map, drop, get_or, Option, Ok, Err, refl, ap, sym, subst, ◌∙◌, arith, append_assoc, eqb-true}
-use Rattle.std.specs.Prelude.{◌||◌, if◌then◌else◌, nat_eq}
+use Rattle.std.proofs.Common.{◌≡◌, ℕ, zero, suc, ◌+◌, ◌-◌, ◌<◌, ◌≤◌, Bool, true, false, List, [], ◌∷◌, ◌++◌, length, map, flat_map, drop, get_or, Option, Ok, Err, refl, ap, sym, subst, ◌∙◌, arith, append_assoc}
+use Rattle.std.specs.Prelude.{if◌then◌else◌, nat_eq}
 use Rattle.std.specs.List.{list_any}
 use Rattle.std.proofs.lemmas.List.{map-append}
 use Rattle.std.proofs.lemmas.Grind.{flat_map-append}
@@ -21,6 +21,7 @@ use Rattle.mo_names.specs.Sights.{IsMember, inherited_seen, member_of}
 use Rattle.mo_names.proofs.Later.{member_later, table_later}
 use Rattle.mo_syntax.specs.declared.rules.TheConstants.{INSTANCE_TOO_DEEP}
 use Rattle.mo_typing.specs.Dims.{Dims}
+use Rattle.mo_typing.proofs.Empty.{no_indices}
 use Rattle.mo_typing.specs.Indices.{Index, indices, numbers_to}
 use Rattle.mo_eval.specs.Values.{most_references, there_of, component_dims}
 use Rattle.mo_instance.specs.Checks.{type_checked}
@@ -111,20 +112,6 @@ some_depth table left around member so_far asked is some =
     )
 
 -- ---- indices
-
-nothing_gathered : (ns : List ℕ) (none : List Index) → none ≡ [] → flat_map (λ k. map (λ index. k ∷ index) none) ns ≡ []
-nothing_gathered [] none is = refl
-nothing_gathered (n ∷ ns) none is =
-    ap (λ xs. map (λ index. n ∷ index) xs ++ flat_map (λ k. map (λ index. k ∷ index) none) ns) is ∙ nothing_gathered ns none is
-
-pub no_indices : (dims : Dims) → list_any (λ n. nat_eq n 0) dims ≡ true → indices dims ≡ []
-no_indices [] none = cc
-no_indices (zero ∷ dims) none = refl
-no_indices (suc n ∷ dims) none = nothing_gathered (numbers_to (suc n)) (indices dims) (no_indices dims (behind (nat_eq (suc n) 0) refl none))
-  where
-    behind : (b : Bool) → nat_eq (suc n) 0 ≡ b → (b || list_any (λ m. nat_eq m 0) dims) ≡ true → list_any (λ m. nat_eq m 0) dims ≡ true
-    behind true is some = absurd (let same : suc n ≡ 0 = eqb-true (suc n) 0 is in omega arith)
-    behind false is rest = rest
 
 -- where all numbers are there
 pub whole_index : (before : Index) (dims : Dims) → length dims ≤ length before → map (λ index. before ++ index) (indices (drop (length before) dims)) ≡ before ∷ []

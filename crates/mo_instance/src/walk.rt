@@ -1,8 +1,7 @@
 //! The walk over components, the parts of an element before the next one: one circle of calls, one level for each name of a path.
 #![tactic(auto, using(crate::proofs::Later::later))]
 
-ghost use Rattle.std.specs.Prelude.{◌≡◌, ◌++◌, ◌∷◌, [], drop, length, map, nat_eq, IfOk, OnOk};
-ghost use Rattle.std.specs.List.{list_any};
+ghost use Rattle.std.specs.Prelude.{◌≡◌, ◌++◌, ◌∷◌, [], drop, length, map, IfOk, OnOk};
 ghost use Rattle.mo_scope.specs.Sights.{member_at};
 ghost use Rattle.mo_scope.specs.Outcome.{Gives};
 ghost use Rattle.mo_scope.specs.Places.{Every};
@@ -21,6 +20,7 @@ use mo_eval::Reader;
 use mo_names::Inherited;
 use mo_scope::{Instance, Member, Scopes, copied};
 use mo_syntax::{List, NoMemory, Stop, rules, stop};
+use mo_typing::indexing::has_none;
 use std::alloc::Global;
 
 /// What is read on the way, and the instances so far.
@@ -44,24 +44,6 @@ fn with_number(alloc: Global, numbers: &[u32], number: u32) -> Result<List<u32>,
     let mut made = copied(alloc, numbers)?;
     made.push(number)?;
     Ok(made)
-}
-
-fn is_none(size: u32) -> bool
-    ensures { result ≡ nat_eq size 0 }
-{
-    size == 0
-}
-
-/// Whether one of these dimensions is 0.
-fn has_none(dims: &[u32]) -> bool
-    ensures { result ≡ list_any (λ n. nat_eq n 0) dims.now }
-{
-    for size in dims {
-        if is_none(*size) {
-            return true;
-        }
-    }
-    false
 }
 
 /// Enters an element of a component, then its parts.

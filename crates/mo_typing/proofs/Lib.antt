@@ -1,6 +1,7 @@
 pub mod Agreeing
 pub mod Calls
 pub mod Checking
+pub mod Empty
 pub mod Gathering
 pub mod Lists
 pub mod Loops

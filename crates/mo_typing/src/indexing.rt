@@ -1,5 +1,6 @@
 //! Indices of array expressions, and the elements that they mean. Indices count from 1.
-ghost use Rattle.std.specs.Prelude.{◌≡◌, ◌-◌, ◌++◌, IfOk, OnOk, length, take, drop};
+ghost use Rattle.std.specs.Prelude.{◌≡◌, ◌-◌, ◌++◌, IfOk, OnOk, length, take, drop, nat_eq};
+ghost use Rattle.std.specs.List.{list_any};
 ghost use Rattle.mo_typing.specs.Shape.{or_scalar};
 ghost use Rattle.mo_typing.specs.Indices.{own, first_number, located, offset, variable_at, number_at, range_element, is_diagonal};
 
@@ -7,6 +8,24 @@ use crate::shapes::{is_scalar, joined_lists, size_of};
 use mo_flat::Subscript;
 use mo_syntax::{List, NoMemory};
 use std::alloc::Global;
+
+fn is_none(size: u32) -> bool
+    ensures { result ≡ nat_eq size 0 }
+{
+    size == 0
+}
+
+/// Whether one of these dimensions is 0, so that there is no index, however large the others are.
+pub fn has_none(dims: &[u32]) -> bool
+    ensures { result ≡ list_any (λ n. nat_eq n 0) dims.now }
+{
+    for size in dims {
+        if is_none(*size) {
+            return true;
+        }
+    }
+    false
+}
 
 /// The first number of an index; 0 where it has none.
 pub fn first_number(index: &[u32]) -> u32

@@ -22,7 +22,7 @@ use crate::halt::Told;
 use crate::value::{Reckoned, Scalar};
 use mo_flat::{ArrayExpr, ArrayNode};
 use mo_tables::functions;
-use mo_typing::indexing::{first_number, first_of, owned, rest_of, rows_of};
+use mo_typing::indexing::{first_number, first_of, has_none, owned, rest_of, rows_of};
 use mo_typing::shapes::{Signed, joined_lists, multiplied, shape, swapped};
 use std::alloc::Global;
 
@@ -358,6 +358,9 @@ fn gathered_rows(
     ensures { (variable : ℕ → Outcome Known) → AreRead read.now variable → (so_far : Outcome Reckoned) → Tells read.now before.so_far so_far → Tells read.now result (gathered before.multiplies so_far (map (λ index. read_as of_known (known_by variable e.now (begun.now ++ index))) (indices (n ∷ more.now)))) }
 {
     let mut all = before.so_far;
+    if has_none(more) {
+        return all;
+    }
     for k in 0..n {
         let index = joined_lists(alloc, begun, &[k + 1])?;
         let row = Gathering {

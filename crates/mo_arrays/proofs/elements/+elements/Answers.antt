@@ -1,4 +1,5 @@
 use Rattle.std.proofs.Common.{rules, ◌≡◌, ◌<◌, ◌≤◌, ◌∷◌, [], ◌++◌, length, map, flat_map, ◌+◌, arith, refl, ap, sym, ◌∙◌}
+use Rattle.mo_typing.proofs.Empty.{no_rows}
 use Rattle.mo_typing.specs.Indices.{indices, numbers_to}
 use Rattle.mo_arrays.specs.Elements.{plain, element_of}
 use Rattle.mo_arrays.proofs.Forms.{at_expression, at_Whole, at_Decimal, at_Str, at_Truth, at_Literal, at_Time, at_Vars, at_Sum, at_Product, at_Power, at_Relation, at_Not, at_All, at_Any, at_If, at_Call, at_Der, at_Array, at_Range, at_Size, at_Sized, at_many}
@@ -81,6 +82,10 @@ acting-loop-j-preserved t c =
     let small : c.loop-j.j < length c.args.factors.now = omega arith in
     let pushed : c.push.new.self ≡ c.loop-j.made ++ (c.index-factors-j.result.0, c.in_ok-at.field-0) ∷ [] = search rules in
     rw (pushed, c.loop-j.invariant, c.in_ok-at.ensures) (sym (acting_more c.args.factors.now c.args.from c.loop-j.j c.index-factors-j.result c.args.index.now low small c.index-factors-j.is))
+
+pub elements_of_rows-returns-then-has_none : goal.elements_of_rows-returns-then-has_none
+elements_of_rows-returns-then-has_none t c =
+    c.new-made.ensures ∙ sym (ap (map (λ i. plain (element_of c.args.e.now (c.args.begun.now ++ i)))) (no_rows c.args.n c.args.more.now (sym c.has_none.ensures ∙ c.if-has_none.true)))
 
 pub elements_of_rows-loop-k-preserved : goal.elements_of_rows-loop-k-preserved
 elements_of_rows-loop-k-preserved t c =

@@ -1,8 +1,13 @@
 use Rattle.std.proofs.Common.{rules, ◌≡◌, ◌+◌, ◌∷◌, [], ◌++◌, map, flat_map, arith, ap, sym, ◌∙◌}
+use Rattle.mo_typing.proofs.Empty.{no_rows}
 use Rattle.mo_typing.specs.Indices.{indices, numbers_to}
 use Rattle.mo_arrays.specs.Equations.{equation}
 use Rattle.mo_arrays.proofs.Numbers.{flat_map_more, begun_more, begun_whole}
 use Rattle.mo_arrays.proofs.equations.+rows.Goals as goal
+
+pub equations_of_rows-returns-then-has_none : goal.equations_of_rows-returns-then-has_none
+equations_of_rows-returns-then-has_none t c =
+    c.new-made.ensures ∙ sym (ap (map (λ i. equation c.args.left.now c.args.right.now c.args.place (c.args.begun.now ++ i))) (no_rows c.args.n c.args.more.now (sym c.has_none.ensures ∙ c.if-has_none.true)))
 
 pub equations_of_rows-loop-k-preserved : goal.equations_of_rows-loop-k-preserved
 equations_of_rows-loop-k-preserved t c =

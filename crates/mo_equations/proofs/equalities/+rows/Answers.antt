@@ -1,9 +1,10 @@
 -- Row after row.
-use Rattle.std.proofs.Common.{◌≡◌, ℕ, ◌+◌, ◌≤◌, [], ◌∷◌, ◌++◌, ◌-◌, Ok, Err, map, length, take, drop, ap, sym, subst, arith, rules}
+use Rattle.std.proofs.Common.{◌≡◌, ℕ, ◌+◌, ◌≤◌, [], ◌∷◌, ◌++◌, ◌-◌, Ok, Err, map, length, List, take, drop, ap, sym, ◌∙◌, subst, arith, rules}
 use Rattle.mo_flat.specs.declared.expr.FlatExpr.{FlatExpr}
 use Rattle.mo_flat.specs.declared.model.FlatEquation.{FlatEquation}
 use Rattle.mo_scope.specs.Worlds.{frames_of}
 use Rattle.mo_syntax.specs.Outcome.{Outcome}
+use Rattle.mo_typing.proofs.Empty.{no_rows}
 use Rattle.mo_typing.specs.Indices.{Index, indices}
 use Rattle.mo_typing.specs.Outcome.{each}
 use Rattle.mo_arrays.specs.Equations.{equation}
@@ -47,6 +48,15 @@ put_rows-loop-k-init t c = record {
   replaced = c.requires.replaced;
   put = puts_nothing c.args.row.now.made;
 }
+
+pub put_rows-returns-then-has_none-clause-exact : goal.put_rows-returns-then-has_none-clause-exact
+put_rows-returns-then-has_none-clause-exact t c =
+    let sides = c.args.sides.now in
+    let replaced = replaced_sides (tree_in c.args.s.now c.args.desk.now.leaves) (virtuals_seen (frames_of c.args.s.now) sides.virtuals) in
+    let none = no_rows c.args.n.now c.args.below.dims.now (sym c.has_none.ensures ∙ c.if-has_none.true) in
+    puts_as (Ok tt) _ _ _ _
+    (ap (λ (is : List Index). each replaced (map (λ (i : Index). equation sides.left sides.right c.args.below.place (c.args.below.begun.now ++ i)) is)) (sym none))
+    (puts_nothing c.args.row.now.made)
 
 pub put_rows-put_below-requires : goal.put_rows-put_below-requires
 put_rows-put_below-requires t c =

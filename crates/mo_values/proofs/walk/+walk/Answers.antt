@@ -1,6 +1,7 @@
 use Rattle.std.proofs.Common.{rules, ◌≡◌, ◌<◌, ◌≤◌, ◌+◌, ◌∷◌, [], ◌++◌, length, get_or, map, flat_map, Ok, arith, refl, ap, sym, ◌∙◌}
 use Rattle.std.specs.Prelude.{slice_get}
 use Rattle.std.proofs.lemmas.Option.{slice_get-get_or}
+use Rattle.mo_typing.proofs.Empty.{no_rows}
 use Rattle.mo_typing.specs.Indices.{indices, numbers_to}
 use Rattle.mo_values.specs.Scalars.{of_known}
 use Rattle.mo_values.specs.Walk.{at, number, sum_at, part_of, signed_of, branch_of, branch_reads, known_by, read_as}
@@ -141,6 +142,12 @@ pub gathered-returns-in-empty : goal.gathered-returns-in-empty
 gathered-returns-in-empty t c = λ variable read so_far h.
     told_as _ _ _ (gathered_one c.args.before.multiplies so_far (λ i. read_as of_known (known_by variable c.args.e.now i)) c.args.begun.now c.args.dims.now c.in-empty.len_below)
     (c.gather.ensures _ _ _ h (c.reckon.ensures _ _ (c.known.ensures variable read)))
+
+pub gathered_rows-returns-then-has_none : goal.gathered_rows-returns-then-has_none
+gathered_rows-returns-then-has_none t c = λ variable read so_far h.
+    told_as _ _ _
+    (ap (λ is. gathered c.args.before.multiplies so_far (map (λ i. read_as of_known (known_by variable c.args.e.now (c.args.begun.now ++ i))) is)) (sym (no_rows c.args.n c.args.more.now (sym c.has_none.ensures ∙ c.if-has_none.true))))
+    h
 
 pub gathered_rows-loop-k-preserved : goal.gathered_rows-loop-k-preserved
 gathered_rows-loop-k-preserved t c = λ variable read so_far h.
