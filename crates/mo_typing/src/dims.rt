@@ -101,9 +101,9 @@ fn of_terms(
     answer(chained(alloc, all))
 }
 
-/// How many factors of a product are arrays, with one more factor of these dimensions.
-fn with_array(arrays: u32, dims: &[u32]) -> Result<u32, NoMemory> {
-    if is_scalar(dims) {
+/// How many factors of a product are arrays that are not multiplied element by element, with one more factor of these dimensions.
+fn with_array(arrays: u32, dotted: bool, dims: &[u32]) -> Result<u32, NoMemory> {
+    if dotted || is_scalar(dims) {
         return Ok(arrays);
     }
     if arrays >= MOST_ARRAYS {
@@ -124,7 +124,7 @@ fn of_factors(
     let mut arrays = 0;
     for factor in factors {
         let shape = dims(alloc, &factor.2)?;
-        arrays = with_array(arrays, shape.as_slice())?;
+        arrays = with_array(arrays, factor.1, shape.as_slice())?;
         all = with_factor(alloc, place, all, (factor.0, factor.1, shape))?;
     }
     answer(chained(alloc, all))
