@@ -29,7 +29,7 @@ use crate::layers::{Fit, Layers, Want, layered};
 use mo_arrays::element_at;
 use mo_eval::{Element, Resolved, Scalar, Virtual, literal_text};
 use mo_flat::FlatExpr;
-use mo_names::child_of_member;
+use mo_lookup::child_of_member;
 use mo_scope::{Member, ScopeAt, Scopes, copied, pick_here};
 use mo_syntax::{Expr, InstancePath, Kind, List, NoMemory, Stop, Text, pushed, rules, stop};
 use std::alloc::Global;

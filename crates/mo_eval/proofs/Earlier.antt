@@ -14,7 +14,7 @@ use Rattle.mo_names.specs.Sights.{IsMember, member_of}
 use Rattle.mo_names.proofs.Later.{frame_later, is_member_later, member_later, table_later}
 use Rattle.mo_typing.specs.Indices.{Index}
 use Rattle.mo_typing.specs.Outcome.{Gives}
-use Rattle.mo_eval.proofs.Written.{every_later}
+use Rattle.mo_lookup.proofs.Written.{every_later}
 use Rattle.mo_eval.specs.steps.Selecting.{elements_seen}
 
 pub of_member : {X : Type 0} (f : Table → Member → X) (u v : World) → Grows u v → (m : MemberAt) → IsMember u m → f (table_in v) (member_of (frames_of v) m) ≡ f (table_in u) (member_of (frames_of u) m)

@@ -13,9 +13,7 @@ pub mod Prefixes
 mod SamePicks
 pub mod Telling
 pub mod Sizing
-pub mod TypeSizes
 pub mod Subscripting
-pub mod Written
 pub mod Naming
 pub mod Chosen
 pub mod Handing

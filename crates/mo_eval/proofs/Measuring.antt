@@ -22,9 +22,9 @@ use Rattle.mo_eval.specs.declared.dimensions.Measured.{Measured}
 use Rattle.mo_eval.specs.Values.{reading}
 use Rattle.mo_eval.specs.Virtuals.{Ask}
 use Rattle.mo_eval.specs.Components.{binding_dims, dim_at, dims_from, dims_of_component, each_dim}
-use Rattle.mo_eval.specs.declared.sizes.Sizes.{Sizes as SizesAt}
+use Rattle.mo_lookup.specs.declared.sizes.Sizes.{Sizes as SizesAt}
 use Rattle.mo_eval.specs.steps.Measuring.{GoesOn, bound_in, dims_more, dims_of_binding, scoped}
-use Rattle.mo_eval.specs.steps.Sizing.{AreSized, all_sizes, sizes_seen}
+use Rattle.mo_lookup.specs.Sizing.{AreSized, all_sizes, sizes_seen}
 use Rattle.mo_eval.proofs.Earlier.{every_at, of_member}
 use Rattle.mo_eval.proofs.Subscripting.{behind_nothing}
 

@@ -26,7 +26,7 @@ use Rattle.mo_typing.proofs.Gathering.{opened}
 use Rattle.mo_eval.specs.declared.names.Name.{Name}
 use Rattle.mo_eval.specs.Contexts.{Part}
 use Rattle.mo_eval.specs.References.{Named, Components, Found_at, counted_subscripts, identifier, named, named_before, named_from, named_last, number_of_dims}
-use Rattle.mo_eval.proofs.Written.{every_later}
+use Rattle.mo_lookup.proofs.Written.{every_later}
 use Rattle.mo_eval.specs.steps.Measuring.{GoesOn}
 use Rattle.mo_eval.specs.steps.Naming.{AreNames, counted_in, name_seen, named_behind, named_on, names_seen}
 use Rattle.mo_eval.specs.steps.Parts.{as_identifier}

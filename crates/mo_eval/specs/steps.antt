@@ -10,7 +10,5 @@ pub mod Naming
 pub mod Parts
 pub mod Selecting
 pub mod Sites
-pub mod Sizing
 pub mod Spelling
 pub mod Subscripting
-pub mod Types

@@ -14,7 +14,8 @@ ghost use Rattle.mo_eval.specs.steps.Sites.{part_in, scope_of};
 ghost use Rattle.mo_eval.specs.steps.Parts.{as_identifier, as_reference, made_argument, made_arguments};
 
 use crate::resolve::Site;
-use mo_names::{Found, find_path};
+use mo_lookup::find_path;
+use mo_names::Found;
 use mo_scope::Scopes;
 use mo_syntax::{Arg, Args, Broken, Part, Place, Reference, Stop, broken, rules};
 use mo_values::layers::answer;

@@ -20,7 +20,7 @@ use crate::reader::{Bound, Reader};
 use crate::resolve::Site;
 use crate::variables::{is_replaced, known_in};
 use crate::virtuals::Element;
-use mo_names::child_of_member;
+use mo_lookup::child_of_member;
 use mo_scope::{Member, Picked, ScopeAt, Scopes, Sort, pick_here};
 use mo_syntax::{Broken, Expr, FrameId, Kind, List, Place, Stop, broken, rules};
 use mo_values::layers::{answer, must_be_truth};

@@ -13,15 +13,14 @@ ghost use Rattle.mo_eval.specs.Components.{dim_at, dims_behind, each_dim, writte
 ghost use Rattle.mo_values.specs.Asked.{any_kind, layered};
 ghost use Rattle.mo_eval.specs.Values.{reading, component_dims};
 ghost use Rattle.mo_eval.specs.steps.Measuring.{GoesOn, bound_in, dims_more, dims_of_binding, scoped};
-ghost use Rattle.mo_eval.specs.steps.Sizing.{AreSized, sizes_seen};
+ghost use Rattle.mo_lookup.specs.Sizing.{AreSized, sizes_seen};
 
 use crate::alone::{alone, whole_of};
 use crate::kept::{dims_kept, keep_dims};
 use crate::reader::Reader;
 use crate::resolve::Site;
-use crate::sizes::{Sizes, all_sizes, count_of};
 use mo_flat::ArrayExpr;
-use mo_names::child_of_member;
+use mo_lookup::{Sizes, all_sizes, child_of_member, count_of};
 use mo_scope::{Member, Picked, ScopeAt, Scopes, copied, pick_here};
 use mo_syntax::{Broken, Expr, List, Place, Stop, broken, rules};
 use mo_typing::{dims_of, kind_of, subscripts};

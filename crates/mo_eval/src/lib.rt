@@ -45,7 +45,6 @@ mod resolve;
 mod selections;
 mod sizes;
 mod subscripts;
-mod types;
 mod variables;
 mod virtuals;
 

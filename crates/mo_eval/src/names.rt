@@ -19,7 +19,8 @@ ghost use Rattle.mo_eval.specs.steps.Naming.{AreNames, IsReferred, counted_in, n
 
 use crate::resolve::Site;
 use crate::sizes::count_of_dims;
-use mo_names::{Found, find_behind, find_first};
+use mo_lookup::{find_behind, find_first};
+use mo_names::Found;
 use mo_scope::{Member, Scopes};
 use mo_syntax::{List, NoMemory, Part, Place, Reference, Stop, broken, rules};
 use std::alloc::Global;

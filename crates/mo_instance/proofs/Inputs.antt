@@ -1,40 +1,48 @@
 -- Whether a type is declared `input`, class after class.
-use Rattle.std.proofs.Common.{◌≡◌, ℕ, zero, suc, ◌-◌, ◌<◌, Bool, true, false, Option, Some, None, Ok, Err, refl, ap, sym, ◌∙◌, arith}
+use Rattle.std.proofs.Common.{◌≡◌, ℕ, zero, suc, ◌-◌, ◌<◌, Bool, true, false, List, Option, Some, None, Ok, Err, refl, ap, sym, ◌∙◌, arith}
 use Rattle.std.specs.Prelude.{◌||◌, if◌then◌else◌}
+use Rattle.mo_syntax.specs.Outcome.{Outcome}
+use Rattle.mo_syntax.specs.declared.expr.Expr.{Expr}
 use Rattle.mo_scope.specs.Rows.{Table, Row, row_at, Form, Short_class, Long_class, Enumeration_class, Other_class}
 use Rattle.mo_scope.specs.Frames.{Frame, class_of}
 use Rattle.mo_scope.specs.Names.{clauses_of, walk_of}
 use Rattle.mo_scope.specs.Sizes.{first_base, is_leaf, leaf_base}
+use Rattle.mo_lookup.specs.Types.{Step, step_of, step_of_short, step_on, step_to, way_of_form, way_of_row}
 use Rattle.mo_instance.specs.Prefixes.{input_by, input_from, input_of_base, input_of_form, input_of_short, is_input}
-use Rattle.mo_instance.specs.steps.Ways.{Is_input, Is_none, On_base, input_by_step, input_way, step_on, step_to, way_of_form, way_of_row, way_taken}
-use Rattle.mo_syntax.specs.Outcome.{Outcome}
+use Rattle.mo_instance.specs.steps.Ways.{is_input_form, is_input_row}
+
+-- what a step leads to
+abbrev pub input_behind : (Frame → Bool) → Step → Bool
+input_behind next None = false
+input_behind next (Some step) = next step.1
 
 module _ (table : Table) (next : Frame → Bool) (frame : Frame) where
-  form_is : (form : Form) → input_by_step next (way_taken table frame (way_of_form form)) ≡ input_of_form table next frame form
-  form_is (Short_class causal subs) = by (is_input causal) (first_base table frame (clauses_of table frame))
+  form_is : (form : Form) → (is_input_form form || input_behind next (step_on table frame (way_of_form form))) ≡ input_of_form table next frame form
+  form_is (Short_class causal subs) = by (first_base table frame (clauses_of table frame))
     where
-      by : (b : Bool) (o : Outcome Frame) → input_by_step next (if b then Is_input else step_on o) ≡ (b || input_of_short next o)
-      by true o = refl
-      by false (Ok base) = refl
-      by false (Err broken) = refl
+      by : (o : Outcome Frame) → (is_input causal || input_behind next (step_of_short subs o)) ≡ (is_input causal || input_of_short next o)
+      by (Ok base) = refl
+      by (Err broken) = refl
   form_is Long_class = by (is_leaf (walk_of table frame)) (leaf_base table frame (clauses_of table frame))
     where
-      by : (b : Bool) (o : Option Frame) → input_by_step next (if b then step_to o else Is_none) ≡ (if b then input_of_base next o else false)
+      by : (b : Bool) (o : Option Frame) → input_behind next (if b then step_to o else None) ≡ (if b then input_of_base next o else false)
       by true None = refl
       by true (Some base) = refl
       by false o = refl
   form_is (Enumeration_class literals) = refl
   form_is Other_class = refl
 
-  row_is : (row : Option Row) → input_by_step next (way_taken table frame (way_of_row row)) ≡ input_by table next frame row
+  row_is : (row : Option Row) → (is_input_row row || input_behind next (step_on table frame (way_of_row row))) ≡ input_by table next frame row
   row_is None = refl
   row_is (Some row) = form_is row.form
 
-pub input_further : (table : Table) (left : ℕ) (frame : Frame) → 0 < left → input_from table left frame ≡ input_by_step (input_from table (left - 1)) (input_way table frame)
+pub input_further : (table : Table) (left : ℕ) (frame : Frame) → 0 < left →
+    input_from table left frame ≡ (is_input_row (row_at table (class_of frame)) || input_behind (input_from table (left - 1)) (step_of table frame))
 unfolding input_from
 input_further table zero frame some = absurd (omega (arith, some))
 input_further table (suc left) frame some =
-    sym (row_is table (input_from table left) frame (row_at table (class_of frame))) ∙ ap (λ n. input_by_step (input_from table n) (input_way table frame)) less
+    sym (row_is table (input_from table left) frame (row_at table (class_of frame)))
+    ∙ ap (λ n. is_input_row (row_at table (class_of frame)) || input_behind (input_from table n) (step_of table frame)) less
   where
     less : left ≡ suc left - 1
     less = omega arith
@@ -44,13 +52,18 @@ unfolding input_from
 input_none table zero frame none = refl
 input_none table (suc left) frame none = absurd (omega (arith, none))
 
-pub input_is : (table : Table) (left : ℕ) (frame : Frame) → 0 < left → Is_input ≡ input_way table frame → input_from table left frame ≡ true
-input_is table left frame some is = input_further table left frame some ∙ ap (input_by_step (input_from table (left - 1))) (sym is)
+pub input_is : (table : Table) (left : ℕ) (frame : Frame) → 0 < left → is_input_row (row_at table (class_of frame)) ≡ true → input_from table left frame ≡ true
+input_is table left frame some is =
+    input_further table left frame some ∙ ap (λ b. b || input_behind (input_from table (left - 1)) (step_of table frame)) is
 
-pub input_ends : (table : Table) (left : ℕ) (frame : Frame) → 0 < left → Is_none ≡ input_way table frame → input_from table left frame ≡ false
-input_ends table left frame some is = input_further table left frame some ∙ ap (input_by_step (input_from table (left - 1))) (sym is)
+pub input_ends : (table : Table) (left : ℕ) (frame : Frame) → 0 < left → is_input_row (row_at table (class_of frame)) ≡ false → None ≡ step_of table frame →
+    input_from table left frame ≡ false
+input_ends table left frame some is none =
+    input_further table left frame some
+    ∙ (ap (λ b. b || input_behind (input_from table (left - 1)) (step_of table frame)) is ∙ ap (input_behind (input_from table (left - 1))) (sym none))
 
-pub input_on : (table : Table) (left : ℕ) (frame base : Frame) → 0 < left → On_base base ≡ input_way table frame → input_from table (left - 1) base ≡ input_from table left frame
-input_on table left frame base some is = ap (input_by_step (input_from table (left - 1))) is ∙ sym (input_further table left frame some)
-
-pub ruleset giving = (input_none, input_is, input_ends, input_on)
+pub input_on : (table : Table) (left : ℕ) (frame base : Frame) (subs : List (Option Expr)) → 0 < left → is_input_row (row_at table (class_of frame)) ≡ false →
+    Some (subs, base) ≡ step_of table frame → input_from table (left - 1) base ≡ input_from table left frame
+input_on table left frame base subs some is on =
+    sym (input_further table left frame some
+    ∙ (ap (λ b. b || input_behind (input_from table (left - 1)) (step_of table frame)) is ∙ ap (input_behind (input_from table (left - 1))) (sym on)))

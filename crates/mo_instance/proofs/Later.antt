@@ -12,7 +12,7 @@ use Rattle.mo_names.proofs.Later.{grows_refl, grows_trans, table_later, frame_la
 use Rattle.mo_names.specs.declared.found.Child.{Child as ChildAt}
 use Rattle.mo_names.specs.declared.walk.Walk.{Walk}
 use Rattle.mo_names.specs.Children.{IsChild, child_seen}
-use Rattle.mo_names.proofs.Children.{wins_later, wins_stand_later, sources_later}
+use Rattle.mo_lookup.proofs.Children.{wins_later, wins_stand_later, sources_later}
 use Rattle.mo_scope.specs.Sights.{redeclaration_in, source_seen}
 use Rattle.mo_eval.proofs.Grown.{kept_still}
 use Rattle.mo_scope.specs.declared.instance.Chosen.{Chosen as ChosenAt}

@@ -17,7 +17,7 @@ use crate::given::is_given;
 use crate::outer::outer_checked;
 use crate::prefixes::{Around, in_profile, joined_vary};
 use mo_eval::Reader;
-use mo_names::child_of_member;
+use mo_lookup::child_of_member;
 use mo_redeclare::prefix_of;
 use mo_scope::{Member, Scopes, is_class};
 use mo_syntax::{Causal, FrameId, List, NoMemory, Stop};

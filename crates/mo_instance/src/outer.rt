@@ -20,7 +20,8 @@ ghost use Rattle.mo_instance.specs.steps.Outer.{compared_frames as frames_compar
 
 use crate::prefixes::is_left_out;
 use crate::spoken::{Spoken, all_spoken};
-use mo_names::{Child, child_of_member, enter_child, inner_of};
+use mo_lookup::{child_of_member, enter_child, inner_of};
+use mo_names::Child;
 use mo_redeclare::{compatible, dimension_count, prefix_of};
 use mo_scope::{Declares, Member, Modifiers, Scopes, component_of};
 use mo_syntax::{NoMemory, Place, Stop, Text, rules, stop};

@@ -1,6 +1,4 @@
 pub mod Asked
-pub mod Chains
-pub mod Children
 pub mod Circling
 pub mod Counting
 pub mod Ends
@@ -15,9 +13,7 @@ pub mod Outwards
 pub mod OwnedWalks
 pub mod OwnElements
 pub mod OwnFirst
-pub mod Owners
 pub mod OwnNamed
-pub mod Paths
 pub mod Reading
 pub mod Redeclaring
 pub mod Settling

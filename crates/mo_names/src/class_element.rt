@@ -77,8 +77,8 @@ fn entered_redeclared<'t>(
     )?)
 }
 
-/// The frame of an element that is a class: the outermost source that redeclares it decides.
-pub(crate) fn entered_class<'t>(
+/// The frame of an element that is a class: the outermost source that redeclares it decides. Breaks 13 where that declares a component.
+pub fn entered_class<'t>(
     alloc: Global,
     s: &mut Scopes<'t>,
     member: &Member<'t>,

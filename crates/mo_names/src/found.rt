@@ -41,14 +41,14 @@ pub struct Child<'t> {
 
 /// What a name finds, and whether it is an element of the frame that the text stands in.
 #[derive(Clone, Copy)]
-pub(crate) struct Met<'t> {
+pub struct Met<'t> {
     pub found: Found<'t>,
     pub near: bool,
 }
 
 /// A class that a name finds, and whether its element is replaceable.
 #[derive(Clone, Copy)]
-pub(crate) struct Classed {
+pub struct Classed {
     pub frame: FrameId,
     pub replaceable: bool,
 }

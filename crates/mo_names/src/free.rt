@@ -7,6 +7,7 @@ ghost use Rattle.mo_scope.specs.Outcome.{Gives};
 ghost use Rattle.mo_scope.specs.Rows.{number_of_classes};
 ghost use Rattle.mo_scope.specs.Worlds.{Grows, IsFrame, frame_at, frames_of, table_in};
 ghost use Rattle.mo_scope.specs.Sights.{scope_at};
+ghost use Rattle.mo_names.specs.Calls.{reached_in};
 ghost use Rattle.mo_names.specs.Past.{first_met};
 ghost use Rattle.mo_names.specs.Sights.{IsFound, IsReached, IsWalk, classed_seen, met_seen, reached_seen, found_at, walk_at};
 
@@ -67,8 +68,9 @@ pub(crate) fn elements_at<'t>(
     }
 }
 
-/// The same; the elements are kept, if none are.
-pub(crate) fn elements_kept_at<'t>(
+/// The elements of a frame, asked for at a place, where rule 18 is broken if it is; they are kept, if none are. Breaks what `walk_of`
+/// breaks.
+pub fn elements_kept_at<'t>(
     alloc: Global,
     s: &mut Scopes<'t>,
     frame: FrameId,
@@ -112,8 +114,9 @@ fn reached_by_lookup<'t>(
     reached(alloc, s, &ask, frame, name)
 }
 
-/// What a name reaches among the elements of a frame.
-pub(crate) fn reached_at<'t>(
+/// What a name reaches among the elements of a frame: the own ones come first, and its bases are found only where none of them
+/// has the name. Where rule 18 is broken, it is at this place.
+pub fn find_element<'t>(
     alloc: Global,
     s: &mut Scopes<'t>,
     frame: FrameId,
@@ -122,7 +125,7 @@ pub(crate) fn reached_at<'t>(
 ) -> Result<Reached<'t>, Stop>
     requires { IsFrame s.old frame.0 }
     ensures grows { Grows s.old s.new }
-    ensures value { Gives (reached_seen (frames_of s.new)) result (reached_of (table_in s.old) (asking_of (table_in s.old)) place (frame_at s.old frame.0) name.now) }
+    ensures value { Gives (reached_seen (frames_of s.new)) result (reached_in s.old place frame.0 name.now) }
     ensures stand { IfOk result (IsReached s.new) }
 {
     keep_ahead(alloc, s, frame, name)?;
@@ -151,8 +154,9 @@ fn behind_by_lookup<'t>(
     behind_class(alloc, s, &ask, place, None, frame, name)
 }
 
-/// What stands behind a class.
-pub(crate) fn behind_class_at<'t>(
+/// What a name behind a dot finds in a class, as it is declared there. Breaks 12, 17, 18 and 19 at this place, and 12 to 14, 16 to 19, 24
+/// and 34 at the names of bases.
+pub fn behind_class_at<'t>(
     alloc: Global,
     s: &mut Scopes<'t>,
     frame: FrameId,
@@ -191,8 +195,8 @@ fn first_by_lookup<'t>(
     found_first(alloc, s, &ask, false, top, at, name)
 }
 
-/// What the first identifier of a name finds; a leading dot starts at the top.
-pub(crate) fn first_at<'t>(
+/// What the first identifier of a name finds, as it is declared; a leading dot starts at the top. Breaks 12 to 14, 16 to 19, 24 and 34.
+pub fn first_at<'t>(
     alloc: Global,
     s: &mut Scopes<'t>,
     at: &ScopeAt,
@@ -308,8 +312,9 @@ fn class_by_lookup(
     class_named(alloc, s, &ask, false, at, reference)
 }
 
-/// The class that the name of a type or a constraining class finds in a scope.
-pub(crate) fn class_named_at(
+/// The class that the name of a type or a constraining class finds in a scope. Breaks 12 to 14, 16 to 19, 24 and 34, at the identifier
+/// that breaks it or at the name of a base.
+pub fn class_named_at(
     alloc: Global,
     s: &mut Scopes,
     at: &ScopeAt,

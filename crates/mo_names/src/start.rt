@@ -171,7 +171,7 @@ pub(crate) fn walk_checked<'t>(
 }
 
 /// A copy of the names of an instance path.
-pub(crate) fn names_copied(
+pub fn names_copied(
     alloc: Global,
     names: &[(Text, List<u32>)],
 ) -> Result<List<(Text, List<u32>)>, NoMemory>
@@ -184,11 +184,8 @@ pub(crate) fn names_copied(
     Ok(made)
 }
 
-pub(crate) fn name_copied(
-    alloc: Global,
-    name: &Text,
-    index: &[u32],
-) -> Result<(Text, List<u32>), NoMemory>
+/// A copy of a name with its index.
+pub fn name_copied(alloc: Global, name: &Text, index: &[u32]) -> Result<(Text, List<u32>), NoMemory>
     ensures { IfOk result (λ made. (made.0 ≡ name.now) × (made.1 ≡ index.now)) }
 {
     let index = index.to_vec(alloc)?;

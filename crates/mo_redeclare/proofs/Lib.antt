@@ -1,5 +1,4 @@
 pub mod Checking
-pub mod Counting
 pub mod Kept
 pub mod Later
 pub mod Matching

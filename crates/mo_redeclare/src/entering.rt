@@ -12,7 +12,8 @@ ghost use Rattle.mo_redeclare.specs.steps.Comparing.{children_of as both_childre
 
 use crate::dims::same_counts;
 use crate::prefix::{prefix_of, same_prefixes};
-use mo_names::{Child, child_of_member, enter_child};
+use mo_lookup::{child_of_member, enter_child};
+use mo_names::Child;
 use mo_scope::{Member, Scopes};
 use mo_syntax::{FrameId, NoMemory, Place, Stop, rules, stop};
 use std::alloc::Global;

@@ -8,7 +8,8 @@ ghost use Rattle.mo_scope.specs.Worlds.{Grows, IsFrame, frame_at, table_in};
 ghost use Rattle.mo_scope.specs.Sights.{scope_at, member_at};
 ghost use Rattle.mo_redeclare.specs.steps.Comparing.{class_at as class_found};
 
-use mo_names::{Found, find_path};
+use mo_lookup::find_path;
+use mo_names::Found;
 use mo_scope::{Member, ScopeAt, Scopes};
 use mo_syntax::{FrameId, List, Reference, Stop};
 use std::alloc::Global;

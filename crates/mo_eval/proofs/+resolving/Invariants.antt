@@ -18,7 +18,7 @@ use Rattle.mo_eval.specs.steps.Measuring.{bound_in, dims_more, scoped}
 use Rattle.mo_eval.specs.steps.Naming.{names_seen}
 use Rattle.mo_eval.specs.steps.Parts.{as_branch, as_factor, as_term, made_factor, made_term}
 use Rattle.mo_eval.specs.steps.Selecting.{each_below, elements_more, elements_seen, reading_in, selections_seen}
-use Rattle.mo_eval.specs.steps.Sizing.{sizes_seen}
+use Rattle.mo_lookup.specs.Sizing.{sizes_seen}
 use Rattle.mo_names.specs.Sights.{IsMember, member_of}
 use Rattle.mo_scope.specs.Frames.{Scope}
 use Rattle.mo_scope.specs.Places.{Every}

@@ -13,7 +13,7 @@ use Rattle.mo_eval.specs.steps.Sites.{elements_in}
 use Rattle.mo_eval.specs.Values.{component_dims, reading}
 use Rattle.mo_eval.specs.declared.dimensions.Measured.{Measured}
 use Rattle.mo_eval.specs.steps.Measuring.{bound_in as bound_in_of_measuring, dims_more, dims_of_binding}
-use Rattle.mo_eval.specs.steps.Sizing.{all_sizes, sizes_seen}
+use Rattle.mo_lookup.specs.Sizing.{all_sizes, sizes_seen}
 use Rattle.mo_names.proofs.Later.{grows_refl, grows_trans, is_member_later, table_later, is_frame_later}
 use Rattle.mo_names.specs.Children.{child_seen}
 use Rattle.mo_names.specs.Sights.{member_of}
@@ -23,7 +23,7 @@ use Rattle.mo_scope.specs.Sights.{picked_in, source_seen}
 use Rattle.mo_scope.specs.Sizes.{count_sizes}
 use Rattle.mo_scope.specs.Worlds.{frames_of, scope_in, table_in, IsFrame}
 use Rattle.std.proofs.Common.{Err, List, None, Ok, Some, [], ap, arith, drop, map, refl, rules, subst, sym, ℕ, ◌++◌, ◌+◌, ◌∙◌, ◌∷◌, ◌≡◌}
-use Rattle.mo_eval.specs.declared.sizes.Sizes.{Sizes as SizesAt}
+use Rattle.mo_lookup.specs.declared.sizes.Sizes.{Sizes as SizesAt}
 use Rattle.mo_eval.proofs.+resolving.Goals as goal
 
 pub written_dim-returns-clause-exact : goal.dimensions::written_dim-returns-clause-exact

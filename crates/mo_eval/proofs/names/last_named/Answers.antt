@@ -4,7 +4,7 @@ use Rattle.std.proofs.Common.{ap}
 use Rattle.mo_names.specs.declared.found.Found.TheVariants.{Component as component_at}
 use Rattle.mo_names.specs.Sights.{IsFound, IsMember}
 use Rattle.mo_eval.proofs.Naming.{last_seen}
-use Rattle.mo_eval.proofs.Written.{every_behind}
+use Rattle.mo_lookup.proofs.Written.{every_behind}
 use Rattle.mo_eval.proofs.names.last_named.Goals as goal
 
 pub returns-in-Component-clause-there : goal.returns-in-Component-clause-there

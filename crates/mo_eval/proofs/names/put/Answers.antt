@@ -3,7 +3,7 @@ use Rattle.mo_scope.specs.Worlds.{frame_in}
 use Rattle.mo_names.specs.declared.found.Found.TheVariants.{Component as component_at}
 use Rattle.mo_names.specs.Sights.{IsFound, IsMember}
 use Rattle.mo_eval.proofs.Naming.{put_behind}
-use Rattle.mo_eval.proofs.Written.{every_behind}
+use Rattle.mo_lookup.proofs.Written.{every_behind}
 use Rattle.mo_eval.proofs.names.put.Goals as goal
 
 pub returns-in_ok-push-in-Component-clause-there : goal.returns-in_ok-push-in-Component-clause-there

@@ -1,28 +1,36 @@
 -- One class after another.
-use Rattle.std.proofs.Common.{◌≡◌, ap, subst, sym, ◌∙◌, arith}
-use Rattle.mo_scope.specs.Rows.{Table}
+use Rattle.std.proofs.Common.{◌≡◌, List, Option, Some, None, ap, sym, ◌∙◌, arith}
+use Rattle.std.specs.Prelude.{option_map}
+use Rattle.mo_syntax.specs.declared.expr.Expr.{Expr}
+use Rattle.mo_scope.specs.Frames.{Frame, class_of}
+use Rattle.mo_scope.specs.Rows.{Table, row_at}
 use Rattle.mo_scope.specs.Worlds.{frame_at, frames_of, table_in}
 use Rattle.mo_names.proofs.Later.{grows_refl, grows_trans, table_later}
-use Rattle.mo_instance.specs.steps.Ways.{IsStep, Is_input, Is_none, On_base, input_way, step_seen}
+use Rattle.mo_lookup.specs.Types.{onward_seen, step_of}
+use Rattle.mo_instance.specs.steps.Ways.{is_input_row}
 use Rattle.mo_instance.proofs.Inputs.{input_ends, input_is, input_none, input_on}
 use Rattle.mo_instance.proofs.given.is_input_type.Goals as goal
 
-pub returns-in-IsInput-clause-value : goal.returns-in-IsInput-clause-value
-returns-in-IsInput-clause-value c =
+pub returns-then-is_input_class-clause-value : goal.returns-then-is_input_class-clause-value
+returns-then-is_input_class-clause-value c =
     let u = c.args.s.now in
     let v = c.loop-left.s in
     let f = frame_at v c.loop-left.frame.0 in
-    let way : Is_input ≡ input_way (table_in v) f = ap (step_seen (frames_of c.next_step.new.s)) (sym c.in-IsInput.is) ∙ c.in_ok-step.ensures.value in
-    sym (input_is (table_in u) c.loop-left.left f c.loop-left-test.true (way ∙ ap (λ (t : Table). input_way t f) (table_later u v c.loop-left.invariant.grows)))
+    sym (input_is (table_in u) c.loop-left.left f c.loop-left-test.true
+    (ap (λ (t : Table). is_input_row (row_at t (class_of f))) (sym (table_later u v c.loop-left.invariant.grows)) ∙ (sym c.is_input_class.ensures ∙ c.if-is_input_class.true)))
     ∙ c.loop-left.invariant.left
 
-pub returns-in-IsNone-clause-value : goal.returns-in-IsNone-clause-value
-returns-in-IsNone-clause-value c =
+pub returns-in-None-clause-value : goal.returns-in-None-clause-value
+returns-in-None-clause-value c =
     let u = c.args.s.now in
     let v = c.loop-left.s in
     let f = frame_at v c.loop-left.frame.0 in
-    let way : Is_none ≡ input_way (table_in v) f = ap (step_seen (frames_of c.next_step.new.s)) (sym c.in-IsNone.is) ∙ c.in_ok-step.ensures.value in
-    sym (input_ends (table_in u) c.loop-left.left f c.loop-left-test.true (way ∙ ap (λ (t : Table). input_way t f) (table_later u v c.loop-left.invariant.grows)))
+    let none : ◌≡◌ {A = Option (List (Option Expr) × Frame)} None (step_of (table_in u) f) =
+    sym (ap (option_map (onward_seen (frames_of c.step.new.s))) c.in-None.is) ∙ c.in_ok-on.ensures.value
+    ∙ ap (λ (t : Table). step_of t f) (table_later u v c.loop-left.invariant.grows)
+    in
+    sym (input_ends (table_in u) c.loop-left.left f c.loop-left-test.true
+    (ap (λ (t : Table). is_input_row (row_at t (class_of f))) (sym (table_later u v c.loop-left.invariant.grows)) ∙ (sym c.is_input_class.ensures ∙ c.if-is_input_class.false)) none)
     ∙ c.loop-left.invariant.left
 
 pub loop-left-preserved : goal.loop-left-preserved
@@ -30,12 +38,16 @@ loop-left-preserved c =
     let u = c.args.s.now in
     let v = c.loop-left.s in
     let f = frame_at v c.loop-left.frame.0 in
-    let base = frame_at c.next_step.new.s c.in-On.base.0 in
-    let way : On_base base ≡ input_way (table_in v) f = ap (step_seen (frames_of c.next_step.new.s)) (sym c.in-On.is) ∙ c.in_ok-step.ensures.value in
+    let base = frame_at c.step.new.s c.in-Some.on.base.0 in
+    let on : ◌≡◌ {A = Option (List (Option Expr) × Frame)} (Some (c.in-Some.on.subscripts.now, base)) (step_of (table_in u) f) =
+    sym (ap (option_map (onward_seen (frames_of c.step.new.s))) c.in-Some.is) ∙ c.in_ok-on.ensures.value
+    ∙ ap (λ (t : Table). step_of t f) (table_later u v c.loop-left.invariant.grows)
+    in
     record {
-      grows = grows_trans u v c.next_step.new.s c.loop-left.invariant.grows c.in_ok-step.ensures.grows;
-      stand = subst (IsStep c.next_step.new.s) c.in-On.is c.in_ok-step.ensures.stand;
-      left = input_on (table_in u) c.loop-left.left f base c.loop-left-test.true (way ∙ ap (λ (t : Table). input_way t f) (table_later u v c.loop-left.invariant.grows))
+      grows = grows_trans u v c.step.new.s c.loop-left.invariant.grows c.in_ok-on.ensures.grows;
+      stand = rw c.in-Some.is at c.in_ok-on.ensures.stand;
+      left = input_on (table_in u) c.loop-left.left f base c.in-Some.on.subscripts.now c.loop-left-test.true
+          (ap (λ (t : Table). is_input_row (row_at t (class_of f))) (sym (table_later u v c.loop-left.invariant.grows)) ∙ (sym c.is_input_class.ensures ∙ c.if-is_input_class.false)) on
           ∙ c.loop-left.invariant.left;
     }
 

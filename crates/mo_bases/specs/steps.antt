@@ -1,2 +1,0 @@
--- Words of the contracts inside this crate, which no public clause cites.
-pub mod Leaves

@@ -1,9 +1,0 @@
--- The frames grow by the calls on the way.
-use Rattle.mo_names.proofs.Later.{grows_refl}
-use Rattle.mo_instance.proofs.given.next_step.Goals as goal
-
-pub returns-then-is_input-clause-grows : goal.returns-then-is_input-clause-grows
-returns-then-is_input-clause-grows c = grows_refl _
-
-pub returns-in-Nowhere-clause-grows : goal.returns-in-Nowhere-clause-grows
-returns-in-Nowhere-clause-grows c = grows_refl _

@@ -1,0 +1,4 @@
+pub mod Bases
+pub mod Sizing
+pub mod Types
+pub mod steps

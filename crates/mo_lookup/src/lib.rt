@@ -1,0 +1,36 @@
+//! What names find from a scope, as what elements are entered, and which dimensions they have (Modelica Language Specification 3.5,
+//! sections 4.5.1, 5.3, 5.4, 7.2, 7.3 and 10.1).
+//!
+//! Begin with `src/lookup.rt`, `src/path.rt`, `src/outer.rt`, `src/entering.rt`, `src/bases.rt` and `src/sizes.rt`; the definitions to read
+//! first are `crates/mo_scope/specs/Names.antt` and `crates/mo_scope/specs/Sizes.antt`, and `crates/mo_names/specs/Calls.antt` for what the
+//! calls answer. What this crate may not know ends its paragraph in docs/ARCHITECTURE.md.
+//!
+//! - [`find`], [`find_first`], [`find_behind`], [`find_path`]: what a name finds, as [`Found`](mo_names::Found): a simple name, the first
+//!   identifier of a name, one behind a dot, and a whole name. [`find_declared`] gives what the first identifier finds before an inner
+//!   component is sought.
+//! - [`inner_of`], [`stands_for`]: the component that one which is declared `outer` stands for.
+//! - [`child`], [`child_of_member`]: an element of a frame, entered at an index, as [`Child`](mo_names::Child); [`enter_child`] and
+//!   [`enter_component`] make the frame of a component.
+//! - [`first_base`]: the base of the first extends clause of the class of a frame, for a short class its only one. [`is_leaf`]: whether a
+//!   frame is one of a leaf type. [`leaf_base`]: the first base of leaf type.
+//! - [`step`]: one step on the way on which the dimensions of a type are found, as [`Onward`]. [`sizes_of`], [`all_sizes`]: the dimensions
+//!   of a component and of its type as they are written, as [`Sizes`]; [`count_of`] counts them.
+//!
+//! Each call keeps the frames that exist, after a refusal too. A broken rule is the first one of the definition in `mo_scope`.
+#![tactic(auto)]
+
+mod bases;
+mod entering;
+mod lookup;
+mod outer;
+mod path;
+mod sizes;
+mod types;
+
+pub use bases::{first_base, is_leaf, leaf_base};
+pub use entering::{child, child_of_member, enter_child, enter_component};
+pub use lookup::{find, find_declared, find_first};
+pub use outer::{inner_of, stands_for};
+pub use path::{find_behind, find_path};
+pub use sizes::{Sizes, all_sizes, count_of, sizes_of};
+pub use types::{Onward, step};
