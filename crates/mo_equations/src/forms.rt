@@ -112,11 +112,17 @@ fn copied_variable(alloc: Global, variable: &(Text, i64)) -> Result<(Text, i64),
     Ok((variable.0.copy(alloc)?, variable.1))
 }
 
-/// A scope with an iteration variable inside those around it.
+/// The most iteration variables that may stand around an equation: the turns of each are calls inside those of the one before.
+const MOST_ITERATIONS: usize = 256;
+
+/// A scope with an iteration variable inside those around it. More than `MOST_ITERATIONS` are want of memory.
 fn with_iteration(alloc: Global, at: &ScopeAt, name: &Text, value: i64) -> Result<ScopeAt, NoMemory>
     ensures frame { IfOk result (λ made. made.frame ≡ at.now.frame) }
     ensures iterations { IfOk result (λ made. made.iters ≡ (name.now, value) ∷ at.now.iters) }
 {
+    if at.iters.len() >= MOST_ITERATIONS {
+        return Err(NoMemory);
+    }
     let mut iters = List::new(alloc);
     iters.push((name.copy(alloc)?, value))?;
     for variable in at.iters.as_slice() {
