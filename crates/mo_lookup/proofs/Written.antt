@@ -1,26 +1,27 @@
 -- Dimensions as they are written, in later worlds and one after another.
-use Rattle.std.proofs.Common.{◌≡◌, ℕ, ◌+◌, ◌-◌, ◌<◌, Bool, false, List, [], ◌∷◌, ◌++◌, length, take, get_or, Option, Some, None, Err, refl, ap, sym, ◌∙◌, append_assoc, arith}
-use Rattle.std.specs.Prelude.{◌↔◌, IsTrue}
+use Rattle.std.proofs.Common.{◌≡◌, ℕ, ◌+◌, ◌-◌, ◌<◌, Bool, true, false, List, [], ◌∷◌, ◌++◌, length, take, get_or, Option, Some, None, Err, refl, ap, sym, ◌∙◌, append_assoc, arith}
+use Rattle.std.specs.Prelude.{◌↔◌, IsTrue, unwrap_or}
 use Rattle.std.proofs.lemmas.List.{append-nil, map-append, take_more}
 use Rattle.std.proofs.lemmas.List.Sums.{sum_by-append}
 use Rattle.mo_syntax.specs.Outcome.{Outcome, and_then}
 use Rattle.mo_syntax.specs.declared.expr.Expr.{Expr}
 use Rattle.mo_syntax.specs.declared.place.Stop.{Stop}
 use Rattle.mo_syntax.specs.declared.place.Stop.TheVariants.{Broken as broken_by, NoMemory as no_memory}
-use Rattle.mo_scope.specs.Frames.{Frame, Scope, Member}
+use Rattle.mo_scope.specs.Frames.{Frame, Scope, Member, class_of}
+use Rattle.mo_scope.specs.Lookup.{contains, with_busy}
 use Rattle.mo_scope.specs.Names.{scope_of_home}
 use Rattle.mo_scope.specs.Outcome.{Gives}
 use Rattle.mo_scope.specs.Parts.{Redeclaration}
 use Rattle.mo_scope.specs.Places.{Every}
 use Rattle.mo_scope.specs.Rows.{component_of}
-use Rattle.mo_scope.specs.Sizes.{Sizes, count_sizes, declared_sizes, or_original, sizes_from, sizes_if, sizes_in}
+use Rattle.mo_scope.specs.Sizes.{Sizes, behind_own, count_sizes, declared_sizes, or_original, sizes_from, sizes_if, sizes_in}
 use Rattle.mo_scope.specs.Worlds.{World, Grows, IsFrame, frame_at, frames_of, scope_in, table_in}
 use Rattle.mo_names.proofs.Later.{frame_later, is_frame_later, table_later}
 use Rattle.mo_lookup.specs.declared.sizes.Sizes.{Sizes as SizesAt}
 use Rattle.mo_lookup.specs.Sizing.{AreSized, size_seen, sizes_seen}
 use Rattle.mo_lookup.specs.steps.Redeclared.{redeclared_sizes}
 use Rattle.mo_lookup.specs.Types.{step_of}
-use Rattle.mo_lookup.proofs.TypeSizes.{none_sizes, step_more, step_none}
+use Rattle.mo_lookup.proofs.TypeSizes.{back_sizes, none_sizes, step_more, step_none}
 
 -- ---- in later worlds
 
@@ -43,6 +44,10 @@ are_sized_later u v g all are = every_later _ _ (λ one is. is_frame_later u v o
 pub every_behind : {A : Type 0} (P : A → Type 0) (xs : List A) (x : A) → Every P xs → P x → Every P (xs ++ x ∷ [])
 every_behind P [] x are is = (is, tt)
 every_behind P (y ∷ xs) x are is = (are.0, every_behind P xs x are.1 is)
+
+pub every_append : {A : Type 0} (P : A → Type 0) (xs ys : List A) → Every P xs → Every P ys → Every P (xs ++ ys)
+every_append P [] ys are behind = behind
+every_append P (x ∷ xs) ys are behind = (are.0, every_append P xs ys are.1 behind)
 
 -- ---- declared dimensions
 
@@ -83,35 +88,51 @@ original member (Some redeclaration) is = ap (λ own. or_original own (sizes_in 
 
 -- ---- the dimensions of a type
 
-pub type_step : (initial now later : World) (made more : List SizesAt) (frame base left : ℕ) (subs : List (Option Expr)) (whole : List Sizes) →
-    Grows initial now → Grows now later → IsFrame now frame → AreSized now made → 0 < left →
+own_behind : (own more : List Sizes) (sizes : Option (List Sizes)) → behind_own (own ++ more) sizes ≡ behind_own own (behind_own more sizes)
+own_behind own more None = refl
+own_behind own more (Some sizes) = ap (λ (xs : List Sizes). Some xs) (append_assoc own more sizes)
+
+pub type_begins : (sizes : Option (List Sizes)) → behind_own [] sizes ≡ sizes
+type_begins None = refl
+type_begins (Some sizes) = refl
+
+pub type_step : (initial now later : World) (made more : List SizesAt) (busy : List ℕ) (frame base left : ℕ) (subs : List (Option Expr)) (whole : Option (List Sizes)) →
+    Grows initial now → Grows now later → IsFrame now frame → AreSized now made → 0 < left → contains busy (class_of (frame_at now frame)) ≡ false →
     Some (subs, frame_at later base) ≡ step_of (table_in now) (frame_at now frame) →
     ((frames : List Frame) → sizes_seen frames more ≡ sizes_seen frames made ++ sizes_if subs (scope_in frames frame [])) →
-    sizes_seen (frames_of now) made ++ sizes_from (table_in initial) left (frame_at now frame) ≡ whole →
-    sizes_seen (frames_of later) more ++ sizes_from (table_in initial) (left - 1) (frame_at later base) ≡ whole
-type_step initial now later made more frame base left subs whole g h stand sized some is put before =
+    behind_own (sizes_seen (frames_of now) made) (sizes_from (table_in initial) left busy (frame_at now frame)) ≡ whole →
+    behind_own (sizes_seen (frames_of later) more) (sizes_from (table_in initial) (left - 1) (with_busy busy (frame_at now frame)) (frame_at later base)) ≡ whole
+type_step initial now later made more busy frame base left subs whole g h stand sized some new is put before =
     let stepped : Some (subs, frame_at later base) ≡ step_of (table_in initial) (frame_at now frame) = is ∙ ap (λ t. step_of t (frame_at now frame)) (table_later initial now g) in
     let seen = put (frames_of later)
     ∙ (ap (λ xs. xs ++ sizes_if subs (scope_in (frames_of later) frame [])) (sizes_later now later h made sized)
     ∙ ap (λ (f : Frame). sizes_seen (frames_of now) made ++ sizes_if subs (record { frame = f; iterations = [] })) (frame_later now later frame h stand)) in
-    ap (λ xs. xs ++ sizes_from (table_in initial) (left - 1) (frame_at later base)) seen
-    ∙ (append_assoc (sizes_seen (frames_of now) made) _ _
-    ∙ (ap (λ xs. sizes_seen (frames_of now) made ++ xs) (step_more (table_in initial) left subs (frame_at now frame) (frame_at later base) some stepped) ∙ before))
+    let behind = sizes_from (table_in initial) (left - 1) (with_busy busy (frame_at now frame)) (frame_at later base) in
+    ap (λ xs. behind_own xs behind) seen
+    ∙ (own_behind (sizes_seen (frames_of now) made) _ behind
+    ∙ (ap (λ o. behind_own (sizes_seen (frames_of now) made) o) (step_more (table_in initial) left busy subs (frame_at now frame) (frame_at later base) some new stepped) ∙ before))
 
-pub type_done : (initial now later : World) (made : List SizesAt) (frame left : ℕ) (whole : List Sizes) → Grows initial now → Grows now later → AreSized now made → 0 < left →
+pub type_done : (initial now later : World) (made : List SizesAt) (busy : List ℕ) (frame left : ℕ) (whole : Option (List Sizes)) →
+    Grows initial now → Grows now later → AreSized now made → 0 < left → contains busy (class_of (frame_at now frame)) ≡ false →
     None ≡ step_of (table_in now) (frame_at now frame) →
-    sizes_seen (frames_of now) made ++ sizes_from (table_in initial) left (frame_at now frame) ≡ whole → sizes_seen (frames_of later) made ≡ whole
-type_done initial now later made frame left whole g h sized some is before =
+    behind_own (sizes_seen (frames_of now) made) (sizes_from (table_in initial) left busy (frame_at now frame)) ≡ whole →
+    sizes_seen (frames_of later) made ≡ unwrap_or whole []
+type_done initial now later made busy frame left whole g h sized some new is before =
     let stepped : None ≡ step_of (table_in initial) (frame_at now frame) = is ∙ ap (λ t. step_of t (frame_at now frame)) (table_later initial now g) in
     sizes_later now later h made sized
     ∙ (sym (append-nil (sizes_seen (frames_of now) made))
-    ∙ (ap (λ xs. sizes_seen (frames_of now) made ++ xs) (sym (step_none (table_in initial) left (frame_at now frame) some stepped)) ∙ before))
+    ∙ ap (λ (o : Option (List Sizes)). unwrap_or o [])
+    (ap (λ o. behind_own (sizes_seen (frames_of now) made) o) (sym (step_none (table_in initial) left busy (frame_at now frame) some new stepped)) ∙ before))
 
-pub type_ended : (initial now : World) (made : List SizesAt) (frame left : ℕ) (whole : List Sizes) → left ≡ 0 →
-    sizes_seen (frames_of now) made ++ sizes_from (table_in initial) left (frame_at now frame) ≡ whole → sizes_seen (frames_of now) made ≡ whole
-type_ended initial now made frame left whole none before =
-    sym (append-nil (sizes_seen (frames_of now) made))
-    ∙ (ap (λ xs. sizes_seen (frames_of now) made ++ xs) (sym (none_sizes (table_in initial) left (frame_at now frame) none)) ∙ before)
+pub type_back : (initial : World) (sizes : List Sizes) (busy : List ℕ) (frame : Frame) (left : ℕ) (whole : Option (List Sizes)) → contains busy (class_of frame) ≡ true →
+    behind_own sizes (sizes_from (table_in initial) left busy frame) ≡ whole → [] ≡ unwrap_or whole []
+type_back initial sizes busy frame left whole back before =
+    ap (λ (o : Option (List Sizes)). unwrap_or o []) (ap (λ o. behind_own sizes o) (sym (back_sizes (table_in initial) left busy frame back)) ∙ before)
+
+pub type_ended : (initial : World) (sizes : List Sizes) (busy : List ℕ) (frame : Frame) (left : ℕ) (whole : Option (List Sizes)) → left ≡ 0 →
+    behind_own sizes (sizes_from (table_in initial) left busy frame) ≡ whole → [] ≡ unwrap_or whole []
+type_ended initial sizes busy frame left whole none before =
+    ap (λ (o : Option (List Sizes)). unwrap_or o []) (ap (λ o. behind_own sizes o) (sym (none_sizes (table_in initial) left busy frame none)) ∙ before)
 
 -- ---- how many there are
 

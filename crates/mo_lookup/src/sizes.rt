@@ -13,7 +13,7 @@ ghost use Rattle.mo_lookup.specs.steps.Redeclared.{redeclared_sizes};
 
 use crate::entering::child_of_member;
 use crate::types::step;
-use mo_names::Child;
+use mo_names::{Child, is_busy};
 use mo_scope::{Declares, Member, Redeclaration, ScopeAt, Scopes, Sort, copied_scope};
 use mo_syntax::{Expr, FrameId, List, NoMemory, Stop};
 use std::alloc::Global;
@@ -115,34 +115,39 @@ fn declared<'t>(
     Ok(made)
 }
 
-/// Puts the dimensions of a type at the end.
-fn put_type<'t>(
+/// The dimensions of a type: none where the way to them comes back to a class. `NoMemory` is the only other answer.
+fn sizes_of_type<'t>(
     alloc: Global,
     s: &mut Scopes<'t>,
     class: FrameId,
-    made: &mut List<Sizes<'t>>,
-) -> Result<(), NoMemory>
-    requires class { IsFrame s.old class.0 }
-    requires there { AreSized s.old made.old }
+) -> Result<List<Sizes<'t>>, NoMemory>
+    requires { IsFrame s.old class.0 }
     ensures grows { Grows s.old s.new }
-    ensures there { OnOk result (AreSized s.new made.new) }
-    ensures exact { OnOk result (sizes_seen (frames_of s.new) made.new ≡ sizes_seen (frames_of s.old) made.old ++ type_sizes (table_in s.old) (frame_at s.old class.0)) }
+    ensures there { IfOk result (AreSized s.new) }
+    ensures exact { IfOk result (λ made. sizes_seen (frames_of s.new) made ≡ type_sizes (table_in s.old) (frame_at s.old class.0)) }
 {
     let mut left = s.class_count().checked_add(6).ok_or(NoMemory)?;
+    let mut busy = List::new(alloc);
+    let mut made = List::new(alloc);
     let mut frame = class;
     while left > 0 {
+        let class = s.class_of(frame);
+        if is_busy(busy.as_slice(), class) {
+            return Ok(List::new(alloc));
+        }
+        busy.push(class.0)?;
         let Some(onward) = step(alloc, s, frame)? else {
-            return Ok(());
+            return Ok(made);
         };
         let scope = ScopeAt {
             frame,
             iters: List::new(alloc),
         };
-        put_sizes(alloc, made, onward.subscripts, &scope)?;
+        put_sizes(alloc, &mut made, onward.subscripts, &scope)?;
         frame = onward.base;
         left -= 1;
     }
-    Ok(())
+    Ok(List::new(alloc))
 }
 
 /// The dimensions that a component with this child declares, then those of the child's class.
@@ -159,7 +164,8 @@ pub fn sizes_of<'t>(
     ensures exact { IfOk result (λ made. sizes_seen (frames_of s.new) made ≡ sizes_of_child (table_in s.old) (member_at s.old member.now) (child_at s.old child.now)) }
 {
     let mut made = declared(alloc, member, &child.redeclared)?;
-    put_type(alloc, s, child.class, &mut made)?;
+    let behind = sizes_of_type(alloc, s, child.class)?;
+    made.append(behind)?;
     Ok(made)
 }
 

@@ -48,6 +48,7 @@ pub use found::{Child, Classed, Found, Met, Reached};
 pub use free::{behind_class_at, class_named_at, elements_kept_at, find_element, first_at};
 pub use literals::literal_name;
 pub use own::own_named;
+pub use reach::is_busy;
 pub use start::{name_copied, names_copied};
 pub use top::type_name;
 pub use walk::{Inherited, Walk};

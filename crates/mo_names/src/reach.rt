@@ -23,7 +23,7 @@ use mo_syntax::{ClassId, FrameId, NoMemory, Place, Stop, Text, rules, stop};
 use std::alloc::Global;
 
 /// Whether the bases of a class are being found.
-pub(crate) fn is_busy(busy: &[u32], class: ClassId) -> bool
+pub fn is_busy(busy: &[u32], class: ClassId) -> bool
     ensures { result ≡ contains busy.now class.0 }
 {
     busy.iter().any(|other| *other == class.0)

@@ -1,5 +1,5 @@
 -- The declared dimensions of a component, and those of its type (Modelica Language Specification 3.5, sections 4.5.1, 7.3 and 10.1).
-use Rattle.std.specs.Prelude.{ℕ, zero, suc, Bool, true, false, ◌||◌, List, [], ◌∷◌, ◌++◌, length, sum_by, Option, Some, None, Ok, Err, is_some, if◌then◌else◌}
+use Rattle.std.specs.Prelude.{ℕ, zero, suc, Bool, true, false, ◌||◌, List, [], ◌∷◌, ◌++◌, length, sum_by, Option, Some, None, Ok, Err, is_some, unwrap_or, if◌then◌else◌}
 use Rattle.mo_syntax.specs.Outcome.{Outcome}
 use Rattle.mo_syntax.specs.declared.expr.Expr.{Expr}
 use Rattle.mo_syntax.specs.declared.class.Causal.{Causal}
@@ -12,7 +12,7 @@ use Rattle.mo_syntax.specs.declared.class.Vary.TheVariants.{Free}
 use Rattle.mo_scope.specs.Rows.{Table, Row, row_at, number_of_classes, Form, Short_class, Long_class, component_of, Clause}
 use Rattle.mo_scope.specs.Frames.{Frame, Scope, Member, class_of}
 use Rattle.mo_scope.specs.Parts.{Redeclaration}
-use Rattle.mo_scope.specs.Lookup.{Walked}
+use Rattle.mo_scope.specs.Lookup.{Walked, contains, with_busy}
 use Rattle.mo_scope.specs.Names.{walk_of, clauses_of, base_frame_of, scope_of_home}
 
 -- dimensions with the scope of their text, None for `:`
@@ -58,38 +58,47 @@ leaf_base table frame (clause ∷ clauses) = base_or (leaf_base table frame clau
     base_or others (Ok base) = if is_leaf (walk_of table base) then Some base else others
     base_or others (Err broken) = others
 
-abbrev pub sizes_of_base : (Frame → List Sizes) → Option Frame → List Sizes
-sizes_of_base next None = []
+-- those of a class, then those behind its base
+abbrev pub behind_own : List Sizes → Option (List Sizes) → Option (List Sizes)
+behind_own own None = None
+behind_own own (Some sizes) = Some (own ++ sizes)
+
+abbrev pub sizes_of_base : (Frame → Option (List Sizes)) → Option Frame → Option (List Sizes)
+sizes_of_base next None = Some []
 sizes_of_base next (Some base) = next base
 
 -- Where the base of a short class breaks a rule the class adds no dimensions.
-abbrev pub sizes_of_short : (Frame → List Sizes) → List Sizes → Outcome Frame → List Sizes
-sizes_of_short next own (Ok base) = own ++ next base
-sizes_of_short next own (Err broken) = []
+abbrev pub sizes_of_short : (Frame → Option (List Sizes)) → List Sizes → Outcome Frame → Option (List Sizes)
+sizes_of_short next own (Ok base) = behind_own own (next base)
+sizes_of_short next own (Err broken) = Some []
 
 abbrev pub first_base : Table → Frame → List Clause → Outcome Frame
 first_base table frame [] = Ok frame
 first_base table frame (clause ∷ clauses) = base_frame_of table frame clause
 
 -- The way goes through a short class to its base, and through a long class of leaf type to its first base of leaf type.
-abbrev pub sizes_of_form : Table → (Frame → List Sizes) → Frame → Form → List Sizes
+abbrev pub sizes_of_form : Table → (Frame → Option (List Sizes)) → Frame → Form → Option (List Sizes)
 sizes_of_form table next frame (Short_class causal subs) =
     sizes_of_short next (sizes_if subs (record { frame = frame; iterations = [] })) (first_base table frame (clauses_of table frame))
 sizes_of_form table next frame Long_class =
-    if is_leaf (walk_of table frame) then sizes_of_base next (leaf_base table frame (clauses_of table frame)) else []
-sizes_of_form table next frame other = []
+    if is_leaf (walk_of table frame) then sizes_of_base next (leaf_base table frame (clauses_of table frame)) else Some []
+sizes_of_form table next frame other = Some []
 
-abbrev pub sizes_by : Table → (Frame → List Sizes) → Frame → Option Row → List Sizes
-sizes_by table next frame None = []
+abbrev pub sizes_by : Table → (Frame → Option (List Sizes)) → Frame → Option Row → Option (List Sizes)
+sizes_by table next frame None = Some []
 sizes_by table next frame (Some row) = sizes_of_form table next frame row.form
 
--- The number tells how many classes may still be on the way.
-unfoldable pub sizes_from : Table → ℕ → Frame → List Sizes
-sizes_from table zero frame = []
-sizes_from table (suc left) frame = sizes_by table (sizes_from table left) frame (row_at table (class_of frame))
+-- None where the way comes back to a class that stands on it, which breaks rule 18. The number tells how many classes may still be on the
+-- way.
+unfoldable pub sizes_from : Table → ℕ → List ℕ → Frame → Option (List Sizes)
+sizes_from table zero busy frame = None
+sizes_from table (suc left) busy frame =
+    if contains busy (class_of frame) then None else
+    sizes_by table (sizes_from table left (with_busy busy frame)) frame (row_at table (class_of frame))
 
+-- Where the way comes back the type adds no dimensions.
 abbrev pub type_sizes : Table → Frame → List Sizes
-type_sizes table frame = sizes_from table (number_of_classes table) frame
+type_sizes table frame = unwrap_or (sizes_from table (number_of_classes table) [] frame) []
 
 abbrev pub count_sizes : List Sizes → ℕ
 count_sizes sizes = sum_by (λ one. length one.subscripts) sizes

@@ -1,15 +1,17 @@
 -- The dimensions of types stand where the class table and the frame of the type do.
 use Rattle.std.proofs.Common.{◌≡◌, ℕ, zero, suc, Bool, true, false, List, [], ◌∷◌, Option, Some, None, Ok, Err, refl, if◌then◌else◌}
+use Rattle.std.specs.Prelude.{unwrap_or}
 use Rattle.mo_scope.specs.Frames.{Frame, class_of}
 use Rattle.mo_scope.specs.Names.{base_frame_of, clauses_of, walk_of}
 use Rattle.mo_scope.specs.Rows.{Base_of, Clause, Element_of, Enumeration_class, Form, Long_class, Other_class, Part, Row, Short_class, Table, clauses_in, number_of_classes, row_at}
-use Rattle.mo_scope.specs.Sizes.{Sizes, first_base, is_leaf, leaf_base, sizes_by, sizes_from, sizes_if, sizes_of_base, sizes_of_form, sizes_of_short}
+use Rattle.mo_scope.specs.Lookup.{contains, with_busy}
+use Rattle.mo_scope.specs.Sizes.{Sizes, behind_own, first_base, is_leaf, leaf_base, sizes_by, sizes_from, sizes_if, sizes_of_base, sizes_of_form, sizes_of_short}
 use Rattle.mo_places.specs.Stands.{Answers, ClauseStands, Every, FormStands, FrameStands, IfAny, PartStands, RowStands, TableStands}
 use Rattle.mo_places.specs.Written.{Written}
 use Rattle.mo_places.proofs.laws.Measuring.{SizesStand, TypeSizesStand, sizes_if_stand, subs_values}
 use Rattle.mo_places.proofs.laws.Naming.{base_frame_of_stands}
 use Rattle.mo_places.proofs.laws.Sources.{row_stands}
-use Rattle.mo_places.proofs.laws.Standing.{every_append, if_list}
+use Rattle.mo_places.proofs.laws.Standing.{every_append}
 use Rattle.mo_syntax.specs.Outcome.{Outcome}
 
 clauses_in_stand : (P : Written → Type 0) (parts : List Part) → Every (PartStands P) parts → Every (ClauseStands P) (clauses_in parts)
@@ -51,34 +53,53 @@ module _ (P : Written → Type 0) (table : Table) (stands : TableStands P table)
       by (Ok base) is hb ho = rw is (either (is_leaf (walk_of table base)) base (leaf_base table frame clauses) hb ho)
       by (Err broken) is hb ho = rw is ho
 
-  abbrev NextStands : (Frame → List Sizes) → Type 0
-  NextStands next = (frame : Frame) → FrameStands P frame → Every (SizesStand P) (next frame)
+  -- the dimensions on a way, where it does not come back
+  abbrev WayStands : Option (List Sizes) → Type 0
+  WayStands None = Unit {0}
+  WayStands (Some sizes) = Every (SizesStand P) sizes
 
-  base_sizes_stand : (next : Frame → List Sizes) (base : Option Frame) → NextStands next → IfAny (FrameStands P) base → Every (SizesStand P) (sizes_of_base next base)
+  abbrev NextStands : (Frame → Option (List Sizes)) → Type 0
+  NextStands next = (frame : Frame) → FrameStands P frame → WayStands (next frame)
+
+  if_way : (b : Bool) (way other : Option (List Sizes)) → WayStands way → WayStands other → WayStands (if b then way else other)
+  if_way true way other h ho = h
+  if_way false way other h ho = ho
+
+  own_way : (own : List Sizes) (way : Option (List Sizes)) → Every (SizesStand P) own → WayStands way → WayStands (behind_own own way)
+  own_way own None ho h = tt
+  own_way own (Some sizes) ho h = every_append (SizesStand P) own sizes ho h
+
+  base_sizes_stand : (next : Frame → Option (List Sizes)) (base : Option Frame) → NextStands next → IfAny (FrameStands P) base → WayStands (sizes_of_base next base)
   base_sizes_stand next None hn h = tt
   base_sizes_stand next (Some base) hn h = hn base h
 
-  short_sizes_stand : (next : Frame → List Sizes) (own : List Sizes) (base : Outcome Frame) → NextStands next → Every (SizesStand P) own → BaseStands base → Every (SizesStand P) (sizes_of_short next own base)
-  short_sizes_stand next own (Ok base) hn ho h = every_append (SizesStand P) own (next base) ho (hn base h)
+  short_sizes_stand : (next : Frame → Option (List Sizes)) (own : List Sizes) (base : Outcome Frame) → NextStands next → Every (SizesStand P) own → BaseStands base → WayStands (sizes_of_short next own base)
+  short_sizes_stand next own (Ok base) hn ho h = own_way own (next base) ho (hn base h)
   short_sizes_stand next own (Err broken) hn ho h = tt
 
-  form_sizes_stand : (next : Frame → List Sizes) (frame : Frame) (form : Form) → NextStands next → FrameStands P frame → FormStands P form → Every (SizesStand P) (sizes_of_form table next frame form)
+  form_sizes_stand : (next : Frame → Option (List Sizes)) (frame : Frame) (form : Form) → NextStands next → FrameStands P frame → FormStands P form → WayStands (sizes_of_form table next frame form)
   form_sizes_stand next frame (Short_class causal subs) hn hf h =
       short_sizes_stand next (sizes_if subs (record { frame = frame; iterations = [] })) (first_base table frame (clauses_of table frame)) hn
       (sizes_if_stand P subs (record { frame = frame; iterations = [] }) (subs_values P subs h) hf) (base_stands (first_base table frame (clauses_of table frame)) (first_base_answers frame (clauses_of table frame) hf (clauses_of_stand frame)))
   form_sizes_stand next frame Long_class hn hf h =
-      if_list (SizesStand P) (is_leaf (walk_of table frame)) _ _ (base_sizes_stand next (leaf_base table frame (clauses_of table frame)) hn (leaf_base_stands frame (clauses_of table frame) hf (clauses_of_stand frame))) tt
+      if_way (is_leaf (walk_of table frame)) _ (Some []) (base_sizes_stand next (leaf_base table frame (clauses_of table frame)) hn (leaf_base_stands frame (clauses_of table frame) hf (clauses_of_stand frame))) tt
   form_sizes_stand next frame (Enumeration_class literals) hn hf h = tt
   form_sizes_stand next frame Other_class hn hf h = tt
 
-  row_sizes_stand : (next : Frame → List Sizes) (frame : Frame) (row : Option Row) → NextStands next → FrameStands P frame → IfAny (RowStands P) row → Every (SizesStand P) (sizes_by table next frame row)
+  row_sizes_stand : (next : Frame → Option (List Sizes)) (frame : Frame) (row : Option Row) → NextStands next → FrameStands P frame → IfAny (RowStands P) row → WayStands (sizes_by table next frame row)
   row_sizes_stand next frame None hn hf h = tt
   row_sizes_stand next frame (Some row) hn hf h = form_sizes_stand next frame row.form hn hf h.form
 
-  sizes_from_stand : (left : ℕ) → NextStands (sizes_from table left)
+  sizes_from_stand : (left : ℕ) (busy : List ℕ) → NextStands (sizes_from table left busy)
   unfolding sizes_from
-  sizes_from_stand zero = λ frame hf. tt
-  sizes_from_stand (suc left) = λ frame hf. row_sizes_stand (sizes_from table left) frame (row_at table (class_of frame)) (sizes_from_stand left) hf (row_stands P table stands (class_of frame))
+  sizes_from_stand zero busy = λ frame hf. tt
+  sizes_from_stand (suc left) busy = λ frame hf.
+      if_way (contains busy (class_of frame)) None _ tt
+      (row_sizes_stand (sizes_from table left (with_busy busy frame)) frame (row_at table (class_of frame)) (sizes_from_stand left (with_busy busy frame)) hf (row_stands P table stands (class_of frame)))
+
+  way_or_none : (way : Option (List Sizes)) → WayStands way → Every (SizesStand P) (unwrap_or way [])
+  way_or_none None h = tt
+  way_or_none (Some sizes) h = h
 
   pub type_sizes_stand : TypeSizesStand P table
-  type_sizes_stand = λ frame hf. sizes_from_stand (number_of_classes table) frame hf
+  type_sizes_stand = λ frame hf. way_or_none (sizes_from table (number_of_classes table) [] frame) (sizes_from_stand (number_of_classes table) [] frame hf)
