@@ -17,7 +17,7 @@ pub mod trees;
 pub use names::{name, name_behind_dot, type_specifier};
 pub use starts::{begins_argument, begins_expression, literal};
 pub use trees::{
-    Given, args_of, callee_of, expr_at, factor_of, index_of, iterated, joined, literal_node,
-    named_only, no_arguments, outputs_of, part_of, partial, plain_parts, product_of, relation_of,
-    signed_sum_of, sum_of, term_of,
+    Given, InBraces, args_of, array_of, callee_of, expr_at, factor_of, if_of, index_of, iterated,
+    joined, literal_node, named_list_of, named_of, named_only, no_arguments, outputs_of, part_of,
+    partial, plain_parts, product_of, range_of, relation_of, signed_sum_of, sum_of, term_of,
 };

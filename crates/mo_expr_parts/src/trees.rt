@@ -2,19 +2,22 @@
 ghost use Rattle.std.specs.Prelude.{◌≡◌, ◌≤◌, ◌+◌, ◌*◌, ◌==◌, [], ◌∷◌, ◌^◌, ◌-◌, None, Some, IfOk, map, min, pos, true, false};
 ghost use Rattle.mo_grammar.specs.Lexeme.{lexeme, lexemes};
 ghost use Rattle.mo_expr_parts.specs.Literals.{literal_tree};
-ghost use Rattle.mo_grammar.specs.Trees.{expr_at as tree_at, digits_after, part_of as part_tree, plain_part, index_of as index_tree, callee_of as callee_tree, relation_of as relation_tree, is_minus as minus_tree, term_of as term_tree, sum_tree, terms_tree, factor_of as factor_tree, product_tree, outputs_tree, args_of as args_tree, args_or_none, args_given, args_from, args_iterated, given_named, given_more, given_or_none, partial_argument};
+ghost use Rattle.mo_grammar.specs.Trees.{expr_at as tree_at, digits_after, part_of as part_tree, plain_part, index_of as index_tree, callee_of as callee_tree, relation_of as relation_tree, is_minus as minus_tree, term_of as term_tree, sum_tree, terms_tree, factor_of as factor_tree, product_tree, outputs_tree, args_of as args_tree, args_or_none, args_given, args_from, args_iterated, given_named, given_more, given_or_none, partial_argument, named_argument, named_arguments, if_tree, range_tree, array_tree};
 
 use mo_grammar::is;
 use mo_syntax::TokenKind::{Decimal, Keyword, Operator, Str, Whole};
 use mo_syntax::{
-    Arg, Args, Boxed, Callee, Expr, Factor, Index, List, NoMemory, Node, Part, Place, Reference,
-    RelOp, Term, Text, Token,
+    Arg, Args, Boxed, Branch, Callee, Expr, Factor, Index, List, NoMemory, Node, Part, Place,
+    Reference, RelOp, Term, Text, Token,
 };
 use mo_tables::{keywords, operators};
 use std::alloc::Global;
 
 /// Plain arguments, and the named ones behind them.
 pub type Given = (List<Arg>, List<(Text, Arg)>);
+
+/// What may follow the first expression in braces: iteration variables, or more elements.
+pub type InBraces = (Option<List<Index>>, List<Expr>);
 
 /// The node at that place.
 pub fn expr_at(alloc: Global, place: Place, node: Node) -> Result<Expr, NoMemory>
@@ -224,6 +227,50 @@ pub fn product_of(
     expr_at(alloc, place, Node::Product(joined(alloc, first, more)?))
 }
 
+/// An if-expression from its first branch, the branches behind `elseif` and the value of `else`.
+pub fn if_of(
+    alloc: Global,
+    place: Place,
+    condition: Expr,
+    value: Expr,
+    more: List<Branch>,
+    last: Expr,
+) -> Result<Expr, NoMemory>
+    ensures { IfOk result (λ e. e ≡ if_tree (place, (condition, (value, (more, last))))) }
+{
+    let branches = joined(alloc, Branch { condition, value }, more)?;
+    expr_at(alloc, place, Node::If(branches, last))
+}
+
+/// A value alone, or a range that begins with it.
+pub fn range_of(
+    alloc: Global,
+    place: Place,
+    first: Expr,
+    more: Option<(Expr, Option<Expr>)>,
+) -> Result<Expr, NoMemory>
+    ensures { IfOk result (λ e. e ≡ range_tree (place, (first, more))) }
+{
+    let Some((second, third)) = more else {
+        return Ok(first);
+    };
+    match third {
+        None => expr_at(alloc, place, Node::Range(first, None, second)),
+        Some(third) => expr_at(alloc, place, Node::Range(first, Some(second), third)),
+    }
+}
+
+/// An array from its first element and what follows that in braces.
+pub fn array_of(alloc: Global, place: Place, first: Expr, more: InBraces) -> Result<Expr, NoMemory>
+    ensures { IfOk result (λ e. e ≡ array_tree (place, (first, more))) }
+{
+    let (iterators, more) = more;
+    match iterators {
+        Some(iterators) => expr_at(alloc, place, Node::ArrayFor(first, iterators)),
+        None => expr_at(alloc, place, Node::Array(joined(alloc, first, more)?)),
+    }
+}
+
 /// What stands in parentheses: one expression for itself, all else as a list of outputs.
 pub fn outputs_of(
     alloc: Global,
@@ -289,6 +336,25 @@ pub fn iterated(alloc: Global, value: Expr, iters: List<Index>) -> Result<Args, 
         named: List::new(alloc),
         iters,
     })
+}
+
+/// An argument that is given by name.
+pub fn named_of(alloc: Global, name: &Token, value: Arg) -> Result<(Text, Arg), NoMemory>
+    ensures { IfOk result (λ named. named ≡ named_argument (lexeme name.now, value)) }
+{
+    Ok((Text::from_str(alloc, name.text)?, value))
+}
+
+/// An argument that is given by name, and those behind it.
+pub fn named_list_of(
+    alloc: Global,
+    name: &Token,
+    value: Arg,
+    more: List<(Text, Arg)>,
+) -> Result<List<(Text, Arg)>, NoMemory>
+    ensures { IfOk result (λ all. all ≡ named_arguments (lexeme name.now, (value, more))) }
+{
+    joined(alloc, named_of(alloc, name, value)?, more)
 }
 
 /// A function, with some of its arguments given by name.

@@ -1,18 +1,19 @@
 //! Arguments of calls, and iteration variables.
 ghost use Rattle.std.specs.Prelude.{◌≡◌, ◌<◌, ◌≤◌, [], ◌∷◌, length, IfOk};
 ghost use Rattle.mo_grammar.specs.Lexeme.{lexemes};
-ghost use Rattle.mo_grammar.specs.Codes.{comma, equals, open_paren, close_paren};
-ghost use Rattle.mo_grammar.specs.Grammar.{many, symbol};
+ghost use Rattle.mo_grammar.specs.Codes.{comma, equals, open_paren, close_paren, for_word};
+ghost use Rattle.mo_grammar.specs.Grammar.{seq, either, made, many, symbol};
 ghost use Rattle.mo_grammar.specs.Forms.{behind, between, optional};
-ghost use Rattle.mo_grammar.specs.Symbols.{CallArguments, Arguments, MoreArguments, OneArgument, Indices};
+ghost use Rattle.mo_grammar.specs.Symbols.{Expressions, CallArguments, Arguments, MoreArguments, OneArgument, Indices};
+ghost use Rattle.mo_grammar.specs.Trees.{args_from, args_given, following_iters, following_more, given_more};
 ghost use Rattle.mo_grammar.specs.Expressions.{function_argument as function_argument_form, named as named_form, named_list as named_list_form, index as index_form};
 ghost use Rattle.mo_grammar.specs.Language.{limits_inside, reads};
 ghost use Rattle.mo_grammar.specs.Answers.{Gives, with_rest, reads_inside};
 
 use crate::expressions::{expression, expression_behind};
 use mo_expr_parts::{
-    Given, args_of, begins_argument, index_of, iterated, joined, named_only, no_arguments, partial,
-    type_specifier,
+    Given, args_of, begins_argument, index_of, iterated, joined, named_list_of, named_of,
+    named_only, no_arguments, partial, type_specifier,
 };
 use mo_grammar::{Reading, are_next, is_next, none_yet, past_limit, take};
 use mo_syntax::TokenKind::{Ident, Keyword, Operator};
@@ -57,19 +58,44 @@ fn arguments<'t, 'a>(alloc: Global, left: u32, tokens: &'t [Token<'a>]) -> Readi
         let (named, rest) = named_list(alloc, left, tokens)?;
         Ok((named_only(alloc, named), rest))
     } else if is_next(tokens, Keyword(keywords::FUNCTION)) {
-        let (first, rest) = function_argument(alloc, left, tokens)?;
-        let (more, rest) = optional_arguments(alloc, left, rest)?;
-        Ok((args_of(alloc, first, more)?, rest))
+        function_first(alloc, left, tokens)
     } else {
-        let (first, rest) = expression(alloc, left, tokens)?;
-        if is_next(rest, Keyword(keywords::FOR)) {
-            let (_, rest) = take(rest, Keyword(keywords::FOR))?;
-            let (iterators, rest) = indices(alloc, left, rest)?;
-            Ok((iterated(alloc, first, iterators)?, rest))
-        } else {
-            let (more, rest) = optional_arguments(alloc, left, rest)?;
-            Ok((args_of(alloc, Arg::Value(first), more)?, rest))
-        }
+        expression_first(alloc, left, tokens)
+    }
+}
+
+/// Arguments of which the first is a function.
+#[cycle(readers)]
+fn function_first<'t, 'a>(
+    alloc: Global,
+    left: u32,
+    tokens: &'t [Token<'a>],
+) -> Reading<'t, 'a, Args>
+    ensures reads { Gives with_rest result (reads_inside (made args_given (made given_more (seq function_argument_form (optional (behind comma (symbol MoreArguments)))))) left tokens.now) }
+    ensures shorter { IfOk result (λ x. length x.1.now < length tokens.now) }
+{
+    let (first, rest) = function_argument(alloc, left, tokens)?;
+    let (more, rest) = optional_arguments(alloc, left, rest)?;
+    Ok((args_of(alloc, first, more)?, rest))
+}
+
+/// Arguments of which the first is an expression, or one with iterators.
+#[cycle(readers)]
+fn expression_first<'t, 'a>(
+    alloc: Global,
+    left: u32,
+    tokens: &'t [Token<'a>],
+) -> Reading<'t, 'a, Args>
+    ensures reads { Gives with_rest result (reads_inside (made args_from (seq (symbol Expressions) (either (made following_iters (behind for_word (symbol Indices))) (made following_more (optional (behind comma (symbol MoreArguments))))))) left tokens.now) }
+    ensures shorter { IfOk result (λ x. length x.1.now < length tokens.now) }
+{
+    let (first, rest) = expression(alloc, left, tokens)?;
+    if is_next(rest, Keyword(keywords::FOR)) {
+        let (iterators, rest) = indices_behind_for(alloc, left, rest)?;
+        Ok((iterated(alloc, first, iterators)?, rest))
+    } else {
+        let (more, rest) = optional_arguments(alloc, left, rest)?;
+        Ok((args_of(alloc, Arg::Value(first), more)?, rest))
     }
 }
 
@@ -187,8 +213,7 @@ fn named_list<'t, 'a>(
     let (name, rest) = take(tokens, Ident)?;
     let (value, rest) = argument_behind_equals(alloc, left, rest)?;
     let (more, rest) = further_named(alloc, left, rest)?;
-    let first = (Text::from_str(alloc, name.text)?, value);
-    Ok((joined(alloc, first, more)?, rest))
+    Ok((named_list_of(alloc, &name, value, more)?, rest))
 }
 
 /// Named arguments behind commas.
@@ -223,7 +248,7 @@ fn named_behind_comma<'t, 'a>(
     let (_, rest) = take(tokens, Operator(operators::COMMA))?;
     let (name, rest) = take(rest, Ident)?;
     let (value, rest) = argument_behind_equals(alloc, left, rest)?;
-    Ok(((Text::from_str(alloc, name.text)?, value), rest))
+    Ok((named_of(alloc, &name, value)?, rest))
 }
 
 /// `=` and an argument.
@@ -238,6 +263,20 @@ fn argument_behind_equals<'t, 'a>(
 {
     let (_, rest) = take(tokens, Operator(operators::EQUALS))?;
     argument(alloc, left, rest)
+}
+
+/// `for` and iteration variables.
+#[cycle(readers)]
+pub(crate) fn indices_behind_for<'t, 'a>(
+    alloc: Global,
+    left: u32,
+    tokens: &'t [Token<'a>],
+) -> Reading<'t, 'a, List<Index>>
+    ensures reads { Gives with_rest result (reads_inside (behind for_word (symbol Indices)) left tokens.now) }
+    ensures shorter { IfOk result (λ x. length x.1.now < length tokens.now) }
+{
+    let (_, rest) = take(tokens, Keyword(keywords::FOR))?;
+    indices(alloc, left, rest)
 }
 
 /// Iteration variables with their ranges.

@@ -1,7 +1,7 @@
 //! Expressions, from if-expressions down to powers.
 ghost use Rattle.std.specs.Prelude.{◌≡◌, ◌<◌, ◌≤◌, [], ◌∷◌, length, IfOk};
 ghost use Rattle.mo_grammar.specs.Lexeme.{lexemes, code_of_kind};
-ghost use Rattle.mo_grammar.specs.Codes.{or_word, and_word};
+ghost use Rattle.mo_grammar.specs.Codes.{colon, or_word, and_word, then_word, else_word};
 ghost use Rattle.mo_grammar.specs.Grammar.{seq, many, symbol};
 ghost use Rattle.mo_grammar.specs.Forms.{behind, optional};
 ghost use Rattle.mo_grammar.specs.Symbols.{Expressions, Simples, Logicals, Conjunctions, Negations, Relations, Sums, Products, Powers};
@@ -12,8 +12,8 @@ ghost use Rattle.mo_grammar.specs.Answers.{Gives, with_rest, reads_inside};
 use crate::primaries::primary;
 use mo_expr_parts::marks::{FACTOR_MARKS, POWER_MARKS, RELATIONS, SIGNS};
 use mo_expr_parts::{
-    begins_expression, expr_at, factor_of, joined, product_of, relation_of, signed_sum_of, sum_of,
-    term_of,
+    begins_expression, expr_at, factor_of, if_of, joined, product_of, range_of, relation_of,
+    signed_sum_of, sum_of, term_of,
 };
 use mo_grammar::{
     Reading, flag, is, is_next, is_next_any, none_yet, past_limit, place_of, take, take_any,
@@ -54,14 +54,25 @@ fn if_expression<'t, 'a>(alloc: Global, left: u32, tokens: &'t [Token<'a>]) -> R
     let inner = left - 1;
     let (_, rest) = take(tokens, Keyword(keywords::IF))?;
     let (condition, rest) = expression(alloc, inner, rest)?;
-    let (value, rest) = expression_behind(alloc, inner, rest, Keyword(keywords::THEN))?;
-    let (more, rest) = further_branches(alloc, inner, rest)?;
-    let (last, rest) = expression_behind(alloc, inner, rest, Keyword(keywords::ELSE))?;
-    let branches = joined(alloc, Branch { condition, value }, more)?;
-    Ok((
-        expr_at(alloc, place_of(tokens), Node::If(branches, last))?,
-        rest,
-    ))
+    let ((value, (more, last)), rest) = choices(alloc, inner, rest)?;
+    let e = if_of(alloc, place_of(tokens), condition, value, more, last)?;
+    Ok((e, rest))
+}
+
+/// What follows the first condition: its value, the branches behind `elseif` and the value of `else`.
+#[cycle(readers)]
+fn choices<'t, 'a>(
+    alloc: Global,
+    left: u32,
+    tokens: &'t [Token<'a>],
+) -> Reading<'t, 'a, (Expr, (List<Branch>, Expr))>
+    ensures reads { Gives with_rest result (reads_inside (seq (behind then_word (symbol Expressions)) (seq (many further_branch_form) (behind else_word (symbol Expressions)))) left tokens.now) }
+    ensures shorter { IfOk result (λ x. length x.1.now < length tokens.now) }
+{
+    let (value, rest) = expression_behind(alloc, left, tokens, Keyword(keywords::THEN))?;
+    let (more, rest) = further_branches(alloc, left, rest)?;
+    let (last, rest) = expression_behind(alloc, left, rest, Keyword(keywords::ELSE))?;
+    Ok(((value, (more, last)), rest))
 }
 
 /// Conditions behind `elseif`, with their values.
@@ -142,25 +153,46 @@ pub fn simple_expression<'t, 'a>(
     ensures reads { Gives with_rest result (reads Simples (limits_inside left) (lexemes tokens.now)) }
     ensures shorter { IfOk result (λ x. length x.1.now < length tokens.now) }
 {
-    let place = place_of(tokens);
     let (first, rest) = logical(alloc, left, tokens)?;
-    if !is_next(rest, Operator(operators::COLON)) {
-        return Ok((first, rest));
+    let (more, rest) = range_behind(alloc, left, rest)?;
+    Ok((range_of(alloc, place_of(tokens), first, more)?, rest))
+}
+
+/// One or two values behind colons, None where there is none.
+#[cycle(readers)]
+fn range_behind<'t, 'a>(
+    alloc: Global,
+    left: u32,
+    tokens: &'t [Token<'a>],
+) -> Reading<'t, 'a, Option<(Expr, Option<Expr>)>>
+    ensures reads { Gives with_rest result (reads_inside (optional (behind colon (seq (symbol Logicals) (optional (behind colon (symbol Logicals)))))) left tokens.now) }
+    ensures no_longer { IfOk result (λ x. length x.1.now ≤ length tokens.now) }
+{
+    if !is_next(tokens, Operator(operators::COLON)) {
+        return Ok((None, tokens));
     }
-    let (_, rest) = take(rest, Operator(operators::COLON))?;
+    let (_, rest) = take(tokens, Operator(operators::COLON))?;
     let (second, rest) = logical(alloc, left, rest)?;
-    if !is_next(rest, Operator(operators::COLON)) {
-        return Ok((
-            expr_at(alloc, place, Node::Range(first, None, second))?,
-            rest,
-        ));
+    let (third, rest) = logical_behind(alloc, left, rest)?;
+    Ok((Some((second, third)), rest))
+}
+
+/// A value behind a colon, None where there is none.
+#[cycle(readers)]
+fn logical_behind<'t, 'a>(
+    alloc: Global,
+    left: u32,
+    tokens: &'t [Token<'a>],
+) -> Reading<'t, 'a, Option<Expr>>
+    ensures reads { Gives with_rest result (reads_inside (optional (behind colon (symbol Logicals))) left tokens.now) }
+    ensures no_longer { IfOk result (λ x. length x.1.now ≤ length tokens.now) }
+{
+    if !is_next(tokens, Operator(operators::COLON)) {
+        return Ok((None, tokens));
     }
-    let (_, rest) = take(rest, Operator(operators::COLON))?;
-    let (third, rest) = logical(alloc, left, rest)?;
-    Ok((
-        expr_at(alloc, place, Node::Range(first, Some(second), third))?,
-        rest,
-    ))
+    let (_, rest) = take(tokens, Operator(operators::COLON))?;
+    let (value, rest) = logical(alloc, left, rest)?;
+    Ok((Some(value), rest))
 }
 
 /// A chain of `or`.

@@ -6,15 +6,15 @@ ghost use Rattle.mo_grammar.specs.Grammar.{seq, many, made, placed, symbol};
 ghost use Rattle.mo_grammar.specs.Forms.{behind, optional, separated};
 ghost use Rattle.mo_grammar.specs.Trees.{reference_tree};
 ghost use Rattle.mo_grammar.specs.Symbols.{Expressions, Primaries, References, CallArguments};
-ghost use Rattle.mo_grammar.specs.Expressions.{word_call as word_call_form, output_list as output_list_form, outputs as outputs_form, matrix as matrix_form, exprs, array as array_form};
+ghost use Rattle.mo_grammar.specs.Expressions.{word_call as word_call_form, output_list as output_list_form, outputs as outputs_form, matrix as matrix_form, exprs, array as array_form, array_args as array_args_form};
 ghost use Rattle.mo_grammar.specs.Language.{limits_inside, reads};
 ghost use Rattle.mo_grammar.specs.Answers.{Gives, with_rest, reads_inside};
 
-use crate::arguments::{call_arguments, indices};
+use crate::arguments::{call_arguments, indices_behind_for};
 use crate::expressions::{expression, expression_behind, optional_expression};
 use crate::references::reference;
 use mo_expr_parts::marks::{CALLED_WORDS, LITERALS, REFERENCE_STARTS};
-use mo_expr_parts::{callee_of, expr_at, joined, literal, outputs_of};
+use mo_expr_parts::{InBraces, array_of, callee_of, expr_at, joined, literal, outputs_of};
 use mo_grammar::{
     Reading, is, is_next, is_next_any, none_yet, past_limit, place_of, take, take_any,
 };
@@ -259,20 +259,28 @@ fn array<'t, 'a>(alloc: Global, left: u32, tokens: &'t [Token<'a>]) -> Reading<'
         return Err(past_limit(tokens, Operator(operators::OPEN_BRACE)));
     }
     let inner = left - 1;
-    let place = place_of(tokens);
     let (_, rest) = take(tokens, Operator(operators::OPEN_BRACE))?;
-    let (first, rest) = expression(alloc, inner, rest)?;
-    if is_next(rest, Keyword(keywords::FOR)) {
-        let (_, rest) = take(rest, Keyword(keywords::FOR))?;
-        let (iterators, rest) = indices(alloc, inner, rest)?;
-        let (_, rest) = take(rest, Operator(operators::CLOSE_BRACE))?;
-        return Ok((
-            expr_at(alloc, place, Node::ArrayFor(first, iterators))?,
-            rest,
-        ));
-    }
-    let (more, rest) = further_expressions(alloc, inner, rest)?;
+    let ((first, more), rest) = array_arguments(alloc, inner, rest)?;
     let (_, rest) = take(rest, Operator(operators::CLOSE_BRACE))?;
-    let all = joined(alloc, first, more)?;
-    Ok((expr_at(alloc, place, Node::Array(all))?, rest))
+    Ok((array_of(alloc, place_of(tokens), first, more)?, rest))
+}
+
+/// An expression, and the iteration variables or the elements behind it.
+#[cycle(readers)]
+fn array_arguments<'t, 'a>(
+    alloc: Global,
+    left: u32,
+    tokens: &'t [Token<'a>],
+) -> Reading<'t, 'a, (Expr, InBraces)>
+    ensures reads { Gives with_rest result (reads_inside array_args_form left tokens.now) }
+    ensures shorter { IfOk result (λ x. length x.1.now < length tokens.now) }
+{
+    let (first, rest) = expression(alloc, left, tokens)?;
+    if is_next(rest, Keyword(keywords::FOR)) {
+        let (iterators, rest) = indices_behind_for(alloc, left, rest)?;
+        Ok(((first, (Some(iterators), List::new(alloc))), rest))
+    } else {
+        let (more, rest) = further_expressions(alloc, left, rest)?;
+        Ok(((first, (None, more)), rest))
+    }
 }

@@ -212,71 +212,86 @@ decreases-expressions::further_conjunctions l = l.left * 64 + 23
 abbrev pub decreases-expressions::logical : goal.decreases-expressions::logical
 decreases-expressions::logical l = l.left * 64 + 24
 
+abbrev pub decreases-expressions::logical_behind : goal.decreases-expressions::logical_behind
+decreases-expressions::logical_behind l = l.left * 64 + 25
+
+abbrev pub decreases-expressions::range_behind : goal.decreases-expressions::range_behind
+decreases-expressions::range_behind l = l.left * 64 + 26
+
 abbrev pub decreases-expressions::simple_expression : goal.decreases-expressions::simple_expression
-decreases-expressions::simple_expression l = l.left * 64 + 25
+decreases-expressions::simple_expression l = l.left * 64 + 27
 
 abbrev pub decreases-expressions::if_expression : goal.decreases-expressions::if_expression
 decreases-expressions::if_expression l = l.left * 64 + 1
 
 abbrev pub decreases-expressions::expression : goal.decreases-expressions::expression
-decreases-expressions::expression l = l.left * 64 + 26
+decreases-expressions::expression l = l.left * 64 + 28
 
 abbrev pub decreases-expressions::expression_behind : goal.decreases-expressions::expression_behind
-decreases-expressions::expression_behind l = l.left * 64 + 27
+decreases-expressions::expression_behind l = l.left * 64 + 29
 
 abbrev pub decreases-expressions::further_branch : goal.decreases-expressions::further_branch
-decreases-expressions::further_branch l = l.left * 64 + 28
+decreases-expressions::further_branch l = l.left * 64 + 30
 
 abbrev pub decreases-expressions::further_branches : goal.decreases-expressions::further_branches
-decreases-expressions::further_branches l = l.left * 64 + 29
+decreases-expressions::further_branches l = l.left * 64 + 31
+
+abbrev pub decreases-expressions::choices : goal.decreases-expressions::choices
+decreases-expressions::choices l = l.left * 64 + 32
 
 abbrev pub decreases-expressions::optional_expression : goal.decreases-expressions::optional_expression
-decreases-expressions::optional_expression l = l.left * 64 + 27
+decreases-expressions::optional_expression l = l.left * 64 + 29
 
 abbrev pub decreases-references::subscript : goal.decreases-references::subscript
-decreases-references::subscript l = l.left * 64 + 27
+decreases-references::subscript l = l.left * 64 + 29
 
 abbrev pub decreases-references::subscript_behind_comma : goal.decreases-references::subscript_behind_comma
-decreases-references::subscript_behind_comma l = l.left * 64 + 28
+decreases-references::subscript_behind_comma l = l.left * 64 + 30
 
 abbrev pub decreases-references::further_subscripts : goal.decreases-references::further_subscripts
-decreases-references::further_subscripts l = l.left * 64 + 29
+decreases-references::further_subscripts l = l.left * 64 + 31
 
 abbrev pub decreases-arguments::index : goal.decreases-arguments::index
-decreases-arguments::index l = l.left * 64 + 28
+decreases-arguments::index l = l.left * 64 + 30
 
 abbrev pub decreases-arguments::index_behind_comma : goal.decreases-arguments::index_behind_comma
-decreases-arguments::index_behind_comma l = l.left * 64 + 29
+decreases-arguments::index_behind_comma l = l.left * 64 + 31
 
 abbrev pub decreases-arguments::further_indices : goal.decreases-arguments::further_indices
-decreases-arguments::further_indices l = l.left * 64 + 30
+decreases-arguments::further_indices l = l.left * 64 + 32
 
 abbrev pub decreases-arguments::indices : goal.decreases-arguments::indices
-decreases-arguments::indices l = l.left * 64 + 31
+decreases-arguments::indices l = l.left * 64 + 33
+
+abbrev pub decreases-arguments::indices_behind_for : goal.decreases-arguments::indices_behind_for
+decreases-arguments::indices_behind_for l = l.left * 64 + 34
 
 abbrev pub decreases-primaries::output_behind_comma : goal.decreases-primaries::output_behind_comma
-decreases-primaries::output_behind_comma l = l.left * 64 + 28
+decreases-primaries::output_behind_comma l = l.left * 64 + 30
 
 abbrev pub decreases-primaries::further_outputs : goal.decreases-primaries::further_outputs
-decreases-primaries::further_outputs l = l.left * 64 + 29
+decreases-primaries::further_outputs l = l.left * 64 + 31
 
 abbrev pub decreases-primaries::outputs : goal.decreases-primaries::outputs
-decreases-primaries::outputs l = l.left * 64 + 30
+decreases-primaries::outputs l = l.left * 64 + 32
 
 abbrev pub decreases-primaries::further_expressions : goal.decreases-primaries::further_expressions
-decreases-primaries::further_expressions l = l.left * 64 + 28
+decreases-primaries::further_expressions l = l.left * 64 + 30
 
 abbrev pub decreases-primaries::expressions : goal.decreases-primaries::expressions
-decreases-primaries::expressions l = l.left * 64 + 29
+decreases-primaries::expressions l = l.left * 64 + 31
 
 abbrev pub decreases-primaries::row_behind_semicolon : goal.decreases-primaries::row_behind_semicolon
-decreases-primaries::row_behind_semicolon l = l.left * 64 + 30
+decreases-primaries::row_behind_semicolon l = l.left * 64 + 32
 
 abbrev pub decreases-primaries::further_rows : goal.decreases-primaries::further_rows
-decreases-primaries::further_rows l = l.left * 64 + 31
+decreases-primaries::further_rows l = l.left * 64 + 33
 
 abbrev pub decreases-primaries::rows : goal.decreases-primaries::rows
-decreases-primaries::rows l = l.left * 64 + 32
+decreases-primaries::rows l = l.left * 64 + 34
+
+abbrev pub decreases-primaries::array_arguments : goal.decreases-primaries::array_arguments
+decreases-primaries::array_arguments l = l.left * 64 + 35
 
 abbrev pub decreases-arguments::enclosed_named : goal.decreases-arguments::enclosed_named
 decreases-arguments::enclosed_named l = l.left * 64 + 1
@@ -285,25 +300,31 @@ abbrev pub decreases-arguments::function_argument : goal.decreases-arguments::fu
 decreases-arguments::function_argument l = l.left * 64 + 2
 
 abbrev pub decreases-arguments::argument : goal.decreases-arguments::argument
-decreases-arguments::argument l = l.left * 64 + 27
+decreases-arguments::argument l = l.left * 64 + 29
 
 abbrev pub decreases-arguments::argument_behind_equals : goal.decreases-arguments::argument_behind_equals
-decreases-arguments::argument_behind_equals l = l.left * 64 + 28
+decreases-arguments::argument_behind_equals l = l.left * 64 + 30
 
 abbrev pub decreases-arguments::named_behind_comma : goal.decreases-arguments::named_behind_comma
-decreases-arguments::named_behind_comma l = l.left * 64 + 29
+decreases-arguments::named_behind_comma l = l.left * 64 + 31
 
 abbrev pub decreases-arguments::further_named : goal.decreases-arguments::further_named
-decreases-arguments::further_named l = l.left * 64 + 30
+decreases-arguments::further_named l = l.left * 64 + 32
 
 abbrev pub decreases-arguments::named_list : goal.decreases-arguments::named_list
-decreases-arguments::named_list l = l.left * 64 + 31
+decreases-arguments::named_list l = l.left * 64 + 33
 
 abbrev pub decreases-arguments::more_arguments : goal.decreases-arguments::more_arguments
-decreases-arguments::more_arguments l = l.left * 64 + 32
+decreases-arguments::more_arguments l = l.left * 64 + 34
 
 abbrev pub decreases-arguments::optional_arguments : goal.decreases-arguments::optional_arguments
-decreases-arguments::optional_arguments l = l.left * 64 + 33
+decreases-arguments::optional_arguments l = l.left * 64 + 35
+
+abbrev pub decreases-arguments::function_first : goal.decreases-arguments::function_first
+decreases-arguments::function_first l = l.left * 64 + 36
+
+abbrev pub decreases-arguments::expression_first : goal.decreases-arguments::expression_first
+decreases-arguments::expression_first l = l.left * 64 + 36
 
 abbrev pub decreases-arguments::arguments : goal.decreases-arguments::arguments
-decreases-arguments::arguments l = l.left * 64 + 34
+decreases-arguments::arguments l = l.left * 64 + 37
