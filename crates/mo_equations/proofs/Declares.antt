@@ -1,7 +1,7 @@
 -- The variables of the flat model, one after another.
-use Rattle.std.proofs.Common.{◌≡◌, ℕ, suc, zero, ◌+◌, ◌-◌, ◌<◌, ◌≤◌, Bool, true, false, ◌&&◌, List, [], ◌∷◌, ◌++◌, drop, flat_map, length, map, take, Option, Some, None, Ok, Err, if◌then◌else◌, refl, ap, sym, ◌∙◌, subst, arith}
+use Rattle.std.proofs.Common.{◌≡◌, ℕ, suc, ◌+◌, ◌-◌, ◌<◌, ◌≤◌, Bool, true, false, ◌&&◌, List, [], ◌∷◌, ◌++◌, drop, flat_map, length, map, Option, Some, None, Ok, Err, if◌then◌else◌, refl, ap, sym, ◌∙◌, subst, arith}
 use Rattle.std.specs.Prelude.{option_map}
-use Rattle.std.proofs.lemmas.List.{append-nil, append_assoc, map-append, take_all}
+use Rattle.std.proofs.lemmas.List.{append-nil, append_assoc, map-append}
 use Rattle.std.proofs.lemmas.List.Sums.{sum_by-append, sum_by-cons}
 use Rattle.mo_syntax.specs.Outcome.{Outcome, and_then}
 use Rattle.mo_syntax.specs.declared.meaning.Kind.{Kind}
@@ -41,8 +41,8 @@ use Rattle.mo_equations.specs.Gathering.{Made, beside, made_equations, nothing}
 use Rattle.mo_equations.specs.Leaves.{Tree, Variable}
 use Rattle.mo_equations.specs.Replacing.{flat_at, value_or}
 use Rattle.mo_equations.specs.Size.{most_nodes, nodes_of_option, nodes_of_variable}
-use Rattle.mo_equations.specs.Variables.{Declared, binding_equation, declared_with, fits_leaf, flat_binding, flat_of_leaf, is_parameter, known_of_leaf, pending_sizes, variable_with}
-use Rattle.mo_equations.specs.steps.Declaring.{AreAttributes, AreDeclared, HasOneMore, IsAskedSo, IsBound, IsOneOf, built_held, equation_of, equation_part, equation_with, fits_these, known_of_binding, known_of_leaf_at, nodes_held, nodes_of_attributes, nodes_of_declared, place_of_option, printed_part, unknowns_with, variable_in}
+use Rattle.mo_equations.specs.Variables.{Declared, binding_equation, declared_with, fits_along, fits_leaf, flat_binding, flat_of_leaf, is_parameter, known_of_leaf, variable_with}
+use Rattle.mo_equations.specs.steps.Declaring.{AreAttributes, AreDeclared, HasOneMore, IsAskedSo, IsBound, IsOneOf, built_held, equation_of, equation_part, equation_with, known_of_binding, known_of_leaf_at, nodes_held, nodes_of_attributes, nodes_of_declared, place_of_option, printed_part, unknowns_with, variable_in}
 use Rattle.mo_equations.specs.steps.Desks.{Goes, IsDesk, replacing_in, tree_in}
 use Rattle.mo_equations.specs.steps.Flats.{IsFlat, capped}
 use Rattle.mo_equations.specs.steps.Layers.{fit_of, wanted_of}
@@ -52,36 +52,29 @@ use Rattle.mo_equations.proofs.Staying.{chosen_later, instance_later, is_instanc
 
 -- ---- sizes
 
--- no index is pending
-pub none_pending : (sizes pending : List ℕ) → pending ≡ [] → [] ≡ drop (length sizes - length pending) sizes
-none_pending sizes pending none = sym (ap (λ n. drop n sizes) (all (length sizes) (length pending) (ap length none)) ∙ dropped sizes)
+-- where no index is pending it does not matter what stands on the path
+pub none_fit : (place : Place) (pending indices sizes others ranges : List ℕ) → pending ≡ [] → fits_along place pending indices sizes ≡ fits_along place pending others ranges
+none_fit place [] indices sizes others ranges none = refl
+none_fit place (index ∷ pending) indices sizes others ranges none = absurd (no_cons none)
   where
-    all : (m n : ℕ) → n ≡ 0 → m - n ≡ m
-    all m n h = omega (arith, h)
+    no_cons : index ∷ pending ≡ [] → ⊥
+    no_cons is = let lengths = ap length is in omega (arith, lengths)
 
-    dropped : {A : Type 0} (xs : List A) → drop (length xs) xs ≡ []
-    dropped [] = refl
-    dropped (x ∷ xs) = dropped xs
+pub ranges_fit : (place : Place) (pending : List ℕ) (before : ℕ) (around indices found sizes all : List ℕ) → before ≡ length around → indices ≡ found → sizes ≡ all →
+    fits_along place pending (drop before indices) (drop before sizes) ≡ fits_along place pending (drop (length around) found) (drop (length around) all)
+ranges_fit place pending before around indices found sizes all many same ranged =
+    ap (λ n. fits_along place pending (drop n indices) (drop n sizes)) many
+    ∙ ap (λ xs. fits_along place pending (drop (length around) xs) (drop (length around) sizes)) same
+    ∙ ap (λ xs. fits_along place pending (drop (length around) found) (drop (length around) xs)) ranged
 
 -- ---- what is asked
 
-length_drop : (k : ℕ) (xs : List ℕ) → length (drop k xs) ≤ length xs - k
-length_drop zero xs = omega arith
-length_drop (suc k) [] = omega arith
-length_drop (suc k) (x ∷ xs) = let rest = length_drop k xs in omega (arith, rest)
-
-pub last_ones : (result seen found sizes pending : List ℕ) (before a b : ℕ) → result ≡ take (length seen - before) (drop before seen) → seen ≡ found → before ≡ a - b → a ≡ length found → b ≡ length pending →
-    found ≡ sizes → result ≡ drop (length sizes - length pending) sizes
-last_ones result seen found sizes pending before a b is same less one two all =
-    is ∙ take_all (length seen - before) (drop before seen) (length_drop before seen) ∙ ap (drop before) (same ∙ all)
-    ∙ ap (λ n. drop n sizes) (less ∙ ap (λ n. n - b) (one ∙ ap length all) ∙ ap (λ n. length sizes - n) two)
-
-pub leaf_asked : (world : World) (leaves : Leaves) (asked : Asked) (chosen : ChosenAt) (kind : Kind) (sizes : Dims) (variable : Variable) → IsAskedSo asked chosen kind sizes →
-    sizes ≡ pending_sizes (tree_in world leaves) variable (chosen_in (frames_of world) chosen) →
+pub leaf_asked : (world : World) (leaves : Leaves) (asked : Asked) (chosen : ChosenAt) (kind : Kind) (indices sizes : List ℕ) (variable : Variable) → IsAskedSo asked chosen kind indices sizes →
+    fits_along chosen.value.now.place chosen.pending indices sizes ≡ fits_leaf (tree_in world leaves) variable (chosen_in (frames_of world) chosen) →
     flat_at (table_in world) asked.left (replacing_in world leaves asked.left) (wanted_of asked.layers.want asked.layers.place) (fit_of asked.layers.fit asked.layers.place)
     (scope_in (frames_of world) asked.at.now.frame.0 asked.at.now.iters) asked.value.now asked.index.now
     ≡ flat_of_leaf (tree_in world leaves) variable kind (chosen_in (frames_of world) chosen)
-leaf_asked world leaves asked chosen kind sizes variable is same =
+leaf_asked world leaves asked chosen kind indices sizes variable is same =
     let table = table_in world in
     let F = frames_of world in
     let place = chosen.value.now.place in
@@ -89,16 +82,16 @@ leaf_asked world leaves asked chosen kind sizes variable is same =
     ∙ ap (λ want. flat_at table most_references (replacing_in world leaves most_references) (wanted_of want asked.layers.place) (fit_of asked.layers.fit asked.layers.place) (scope_in F asked.at.now.frame.0 asked.at.now.iters) asked.value.now asked.index.now) is.want
     ∙ ap (λ (p : Place). flat_at table most_references (replacing_in world leaves most_references) (wanted_of (Accepted kind) p) (fit_of asked.layers.fit p) (scope_in F asked.at.now.frame.0 asked.at.now.iters) asked.value.now asked.index.now) is.place
     ∙ ap (λ (fit : Place → Dims → Checked). flat_at table most_references (replacing_in world leaves most_references) (wanted_of (Accepted kind) place) (fit place) (scope_in F asked.at.now.frame.0 asked.at.now.iters) asked.value.now asked.index.now) is.fit
-    ∙ ap (λ (ds : Dims). flat_at table most_references (replacing_in world leaves most_references) (wanted_of (Accepted kind) place) (fits_these ds place) (scope_in F asked.at.now.frame.0 asked.at.now.iters) asked.value.now asked.index.now) same
-    ∙ ap (λ (at : ScopeAt). flat_at table most_references (replacing_in world leaves most_references) (wanted_of (Accepted kind) place) (fits_these (pending_sizes (tree_in world leaves) variable (chosen_in F chosen)) place) (scope_in F at.frame.0 at.iters) asked.value.now asked.index.now) is.at
-    ∙ ap (λ (e : Expr). flat_at table most_references (replacing_in world leaves most_references) (wanted_of (Accepted kind) place) (fits_these (pending_sizes (tree_in world leaves) variable (chosen_in F chosen)) place) (scope_in F chosen.scope.frame.0 chosen.scope.iters) e asked.index.now) is.value
-    ∙ ap (flat_at table most_references (replacing_in world leaves most_references) (wanted_of (Accepted kind) place) (fits_these (pending_sizes (tree_in world leaves) variable (chosen_in F chosen)) place) (scope_in F chosen.scope.frame.0 chosen.scope.iters) chosen.value.now) is.index
+    ∙ ap (λ (fit : Dims → Checked). flat_at table most_references (replacing_in world leaves most_references) (wanted_of (Accepted kind) place) fit (scope_in F asked.at.now.frame.0 asked.at.now.iters) asked.value.now asked.index.now) same
+    ∙ ap (λ (at : ScopeAt). flat_at table most_references (replacing_in world leaves most_references) (wanted_of (Accepted kind) place) (fits_leaf (tree_in world leaves) variable (chosen_in F chosen)) (scope_in F at.frame.0 at.iters) asked.value.now asked.index.now) is.at
+    ∙ ap (λ (e : Expr). flat_at table most_references (replacing_in world leaves most_references) (wanted_of (Accepted kind) place) (fits_leaf (tree_in world leaves) variable (chosen_in F chosen)) (scope_in F chosen.scope.frame.0 chosen.scope.iters) e asked.index.now) is.value
+    ∙ ap (flat_at table most_references (replacing_in world leaves most_references) (wanted_of (Accepted kind) place) (fits_leaf (tree_in world leaves) variable (chosen_in F chosen)) (scope_in F chosen.scope.frame.0 chosen.scope.iters) chosen.value.now) is.index
 
-pub known_asked : (world : World) (leaves : Leaves) (asked : Asked) (chosen : ChosenAt) (sizes : Dims) (variable : Variable) → IsAskedSo asked chosen variable.leaf.kind sizes →
-    sizes ≡ pending_sizes (tree_in world leaves) variable (chosen_in (frames_of world) chosen) →
+pub known_asked : (world : World) (leaves : Leaves) (asked : Asked) (chosen : ChosenAt) (indices sizes : List ℕ) (variable : Variable) → IsAskedSo asked chosen variable.leaf.kind indices sizes →
+    fits_along chosen.value.now.place chosen.pending indices sizes ≡ fits_leaf (tree_in world leaves) variable (chosen_in (frames_of world) chosen) →
     known_so (table_in world) (wanted_of asked.layers.want asked.layers.place) (fit_of asked.layers.fit asked.layers.place) (scope_in (frames_of world) asked.at.now.frame.0 asked.at.now.iters) asked.value.now asked.index.now
     ≡ known_of_leaf_at (tree_in world leaves) variable (chosen_in (frames_of world) chosen)
-known_asked world leaves asked chosen sizes variable is same =
+known_asked world leaves asked chosen indices sizes variable is same =
     let table = table_in world in
     let F = frames_of world in
     let place = chosen.value.now.place in
@@ -106,10 +99,10 @@ known_asked world leaves asked chosen sizes variable is same =
     ap (λ want. known_so table (wanted_of want asked.layers.place) (fit_of asked.layers.fit asked.layers.place) (scope_in F asked.at.now.frame.0 asked.at.now.iters) asked.value.now asked.index.now) is.want
     ∙ ap (λ (p : Place). known_so table (wanted_of (Accepted kind) p) (fit_of asked.layers.fit p) (scope_in F asked.at.now.frame.0 asked.at.now.iters) asked.value.now asked.index.now) is.place
     ∙ ap (λ (fit : Place → Dims → Checked). known_so table (wanted_of (Accepted kind) place) (fit place) (scope_in F asked.at.now.frame.0 asked.at.now.iters) asked.value.now asked.index.now) is.fit
-    ∙ ap (λ (ds : Dims). known_so table (wanted_of (Accepted kind) place) (fits_these ds place) (scope_in F asked.at.now.frame.0 asked.at.now.iters) asked.value.now asked.index.now) same
-    ∙ ap (λ (at : ScopeAt). known_so table (wanted_of (Accepted kind) place) (fits_these (pending_sizes (tree_in world leaves) variable (chosen_in F chosen)) place) (scope_in F at.frame.0 at.iters) asked.value.now asked.index.now) is.at
-    ∙ ap (λ (e : Expr). known_so table (wanted_of (Accepted kind) place) (fits_these (pending_sizes (tree_in world leaves) variable (chosen_in F chosen)) place) (scope_in F chosen.scope.frame.0 chosen.scope.iters) e asked.index.now) is.value
-    ∙ ap (known_so table (wanted_of (Accepted kind) place) (fits_these (pending_sizes (tree_in world leaves) variable (chosen_in F chosen)) place) (scope_in F chosen.scope.frame.0 chosen.scope.iters) chosen.value.now) is.index
+    ∙ ap (λ (fit : Dims → Checked). known_so table (wanted_of (Accepted kind) place) fit (scope_in F asked.at.now.frame.0 asked.at.now.iters) asked.value.now asked.index.now) same
+    ∙ ap (λ (at : ScopeAt). known_so table (wanted_of (Accepted kind) place) (fits_leaf (tree_in world leaves) variable (chosen_in F chosen)) (scope_in F at.frame.0 at.iters) asked.value.now asked.index.now) is.at
+    ∙ ap (λ (e : Expr). known_so table (wanted_of (Accepted kind) place) (fits_leaf (tree_in world leaves) variable (chosen_in F chosen)) (scope_in F chosen.scope.frame.0 chosen.scope.iters) e asked.index.now) is.value
+    ∙ ap (known_so table (wanted_of (Accepted kind) place) (fits_leaf (tree_in world leaves) variable (chosen_in F chosen)) (scope_in F chosen.scope.frame.0 chosen.scope.iters) chosen.value.now) is.index
 
 -- ---- later worlds
 

@@ -1,7 +1,7 @@
 -- The variables of the flat model (Modelica Language Specification 3.5, sections 4.4, 4.8 and 7.2.5).
 --
 -- Leaf by leaf the attributes that are given come in their order, then the binding. The binding of an unknown is an equation.
-use Rattle.std.specs.Prelude.{ℕ, ◌-◌, Bool, true, false, ◌&&◌, List, [], ◌∷◌, drop, length, Option, Some, None, Ok, if◌then◌else◌, nat_eq}
+use Rattle.std.specs.Prelude.{ℕ, Bool, true, false, ◌&&◌, List, [], ◌∷◌, drop, flat_map, length, Option, Some, None, Ok, if◌then◌else◌, nat_eq}
 use Rattle.mo_syntax.specs.Outcome.{Outcome, and_then, breaks}
 use Rattle.mo_syntax.specs.declared.meaning.Kind.{Kind}
 use Rattle.mo_syntax.specs.declared.meaning.Kind.TheVariants.{Real, Whole, Truth, Str, Enumeration}
@@ -13,10 +13,11 @@ use Rattle.mo_flat.specs.declared.expr.FlatExpr as flat
 use Rattle.mo_flat.specs.declared.model.FlatEquation.{FlatEquation}
 use Rattle.mo_flat.specs.declared.model.FlatVar.{FlatVar}
 use Rattle.mo_scope.specs.Rows.{Table}
+use Rattle.mo_scope.specs.Frames.{Indexed, Scope, at_of}
 use Rattle.mo_scope.specs.Instances.{Chosen}
 use Rattle.mo_syntax.specs.declared.rules.TheConstants.{WRONG_EACH, WRONG_SIZE, WRONG_TYPE}
 use Rattle.mo_typing.specs.Outcome.{each}
-use Rattle.mo_typing.specs.Dims.{Dims, are_equal}
+use Rattle.mo_typing.specs.Dims.{Dims}
 use Rattle.mo_typing.specs.Kinds.{accepts, is_among}
 use Rattle.mo_typing.specs.Subscripts.{Checked, fine}
 use Rattle.mo_values.specs.Scalars.{Known, has_values, if_it_has}
@@ -54,22 +55,40 @@ attribute_kind kind number =
 
 -- ---- how bindings and attributes fit
 
--- The sizes of the components whose indices are pending: these are the last ones of a path.
-abbrev pub pending_sizes : Tree → Variable → Chosen → Dims
-pending_sizes tree variable chosen = drop (length sizes - length chosen.pending) sizes
-  where
-    sizes : Dims
-    sizes = sizes_along tree variable.instance.path
+-- the indices of a path
+abbrev pub indices_of : Indexed → List ℕ
+indices_of path = flat_map (λ step. step.1) path
 
--- An expression has these sizes: a scalar breaks rule 23 where there are some, another number of dimensions rule 33, another size
--- rule 31.
-abbrev pub fits_sizes : Place → Dims → Dims → Checked
-fits_sizes place (size ∷ sizes) [] = breaks WRONG_EACH place
-fits_sizes place sizes dims =
-    if nat_eq (length sizes) (length dims) then (if are_equal sizes dims then fine else breaks WRONG_SIZE place) else breaks WRONG_TYPE place
+abbrev pub indices_if : Option Indexed → List ℕ
+indices_if None = []
+indices_if (Some path) = indices_of path
 
+-- What stands behind the indices of the frame that an expression is written in.
+abbrev pub behind_frame : Scope → List ℕ → List ℕ
+behind_frame scope all = drop (length (indices_if (at_of scope.frame))) all
+
+-- Whether these indices, each with a size, stand in their order among those of a path, each with the size that it ranges over.
+abbrev pub are_among : List ℕ → Dims → List ℕ → Dims → Bool
+are_among [] dims indices sizes = true
+are_among (index ∷ pending) [] indices sizes = false
+are_among (index ∷ pending) (n ∷ dims) [] sizes = false
+are_among (index ∷ pending) (n ∷ dims) (other ∷ indices) [] = false
+are_among (index ∷ pending) (n ∷ dims) (other ∷ indices) (m ∷ sizes) =
+    if nat_eq index other && nat_eq n m then are_among pending dims indices sizes else are_among (index ∷ pending) (n ∷ dims) indices sizes
+
+-- An expression has the sizes of the components whose indices are pending. A scalar breaks rule 23 where some are, another number of
+-- dimensions rule 33, another size rule 31.
+abbrev pub fits_along : Place → List ℕ → List ℕ → Dims → Dims → Checked
+fits_along place (index ∷ pending) indices sizes [] = breaks WRONG_EACH place
+fits_along place pending indices sizes dims =
+    if nat_eq (length pending) (length dims) then (if are_among pending dims indices sizes then fine else breaks WRONG_SIZE place) else breaks WRONG_TYPE place
+
+-- Not all indices of the leaf's path are pending: `each` drops those before it, and what a list says of a class gets no index of the
+-- components of that class.
 abbrev pub fits_leaf : Tree → Variable → Chosen → Dims → Checked
-fits_leaf tree variable chosen dims = fits_sizes (place_of chosen.value) (pending_sizes tree variable chosen) dims
+fits_leaf tree variable chosen dims =
+    fits_along (place_of chosen.value) chosen.pending (behind_frame chosen.scope (indices_of variable.instance.path))
+    (behind_frame chosen.scope (sizes_along tree variable.instance.path)) dims
 
 -- ---- attributes and bindings
 

@@ -1,10 +1,9 @@
 //! The layers behind resolving, with what is wanted of the kind and of the dimensions.
 ghost use Rattle.std.specs.Prelude.{◌≡◌};
-ghost use Rattle.mo_typing.specs.Dims.{are_equal as are_equal_dims};
 ghost use Rattle.mo_typing.specs.Outcome.{Gives};
 ghost use Rattle.mo_values.specs.Asked.{layered as layered_by, only_whole as only_whole_by};
 ghost use Rattle.mo_equations.specs.Equations.{vector_size as size_of_vector};
-ghost use Rattle.mo_equations.specs.Variables.{fits_sizes as sizes_fit};
+ghost use Rattle.mo_equations.specs.Variables.{are_among as stand_among, fits_along as fit_along};
 ghost use Rattle.mo_equations.specs.steps.Layers.{HasRule, fit_of, wanted_of};
 
 use mo_eval::fitted;
@@ -28,8 +27,12 @@ pub(crate) enum Want {
 pub(crate) enum Fit<'a> {
     /// A scalar; others break the rule of that number.
     Scalar(u8),
-    /// These sizes.
-    Sizes(&'a [u32]),
+    /// The sizes of the components whose indices are pending, among the indices of a path and the sizes that these range over.
+    Along {
+        pending: &'a [u32],
+        indices: &'a [u32],
+        sizes: &'a [u32],
+    },
     /// Those in which these pending indices lie.
     Pending(&'a [u32]),
 }
@@ -51,33 +54,52 @@ fn wanted(want: Want, place: Place, got: Kind) -> Result<(), Broken>
     }
 }
 
-fn are_equal(a: &[u32], b: &[u32]) -> bool
-    ensures { result ≡ are_equal_dims a.now b.now }
+/// Whether these indices, each with a size, stand in their order among those of a path, each with the size that it ranges over.
+fn are_among(pending: &[u32], dims: &[u32], indices: &[u32], sizes: &[u32]) -> bool
+    ensures { result ≡ stand_among pending.now dims.now indices.now sizes.now }
 {
-    match a {
-        [] => b.is_empty(),
-        [m, more @ ..] => match b {
+    match pending {
+        [] => true,
+        [index, more @ ..] => match dims {
             [] => false,
-            [n, rest @ ..] => *m == *n && are_equal(more, rest),
+            [n, rest @ ..] => match indices {
+                [] => false,
+                [other, indices @ ..] => match sizes {
+                    [] => false,
+                    [m, sizes @ ..] => {
+                        if *index == *other && *n == *m {
+                            are_among(more, rest, indices, sizes)
+                        } else {
+                            are_among(pending, dims, indices, sizes)
+                        }
+                    }
+                },
+            },
         },
     }
 }
 
-/// Whether an expression has these sizes.
-fn fits_sizes(place: Place, sizes: &[u32], dims: &[u32]) -> Result<(), Broken>
-    ensures { result ≡ sizes_fit place sizes.now dims.now }
+/// Whether an expression has the sizes of the components whose indices are pending.
+fn fits_along(
+    place: Place,
+    pending: &[u32],
+    indices: &[u32],
+    sizes: &[u32],
+    dims: &[u32],
+) -> Result<(), Broken>
+    ensures { result ≡ fit_along place pending.now indices.now sizes.now dims.now }
 {
     if dims.is_empty() {
-        return if sizes.is_empty() {
+        return if pending.is_empty() {
             Ok(())
         } else {
             Err(broken(rules::WRONG_EACH, place))
         };
     }
-    if sizes.len() != dims.len() {
+    if pending.len() != dims.len() {
         return Err(broken(rules::WRONG_TYPE, place));
     }
-    if are_equal(sizes, dims) {
+    if are_among(pending, dims, indices, sizes) {
         Ok(())
     } else {
         Err(broken(rules::WRONG_SIZE, place))
@@ -90,7 +112,11 @@ fn fits(fit: Fit, place: Place, dims: &[u32]) -> Result<(), Broken>
 {
     match fit {
         Fit::Scalar(rule) => only_scalar(rule, place, dims),
-        Fit::Sizes(sizes) => fits_sizes(place, sizes, dims),
+        Fit::Along {
+            pending,
+            indices,
+            sizes,
+        } => fits_along(place, pending, indices, sizes, dims),
         Fit::Pending(index) => fitted(place, index, dims),
     }
 }

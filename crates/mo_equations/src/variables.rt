@@ -1,15 +1,16 @@
 //! The variables of the flat model, with the equations of the bindings of unknowns.
 #![tactic(auto, using(crate::proofs::Staying::staying))]
 
-ghost use Rattle.std.specs.Prelude.{◌≡◌, ◌++◌, ◌∷◌, [], ℕ, List as Seq, Option, Ok, Err, IfOk, OnOk};
+ghost use Rattle.std.specs.Prelude.{◌≡◌, ◌++◌, ◌∷◌, [], ℕ, List as Seq, Option, Ok, Err, IfOk, OnOk, drop, length};
 ghost use Rattle.mo_flat.specs.declared.expr.FlatExpr.{FlatExpr as Expression};
+ghost use Rattle.mo_scope.specs.Frames.{at_of};
 ghost use Rattle.mo_scope.specs.Trees.{IsChosen, chosen_in};
-ghost use Rattle.mo_scope.specs.Worlds.{frames_of, table_in};
+ghost use Rattle.mo_scope.specs.Worlds.{IsFrame, frame_at, frames_of, table_in};
 ghost use Rattle.mo_syntax.specs.Outcome.{IfBroken};
 ghost use Rattle.mo_typing.specs.Outcome.{Gives, each};
 ghost use Rattle.mo_equations.specs.Gathering.{Made as Gathered, beside, made_equations};
 ghost use Rattle.mo_equations.specs.Leaves.{Tree as TreeOf, Variable as VariableOf, sizes_along as sizes_along_path};
-ghost use Rattle.mo_equations.specs.Variables.{Declared as DeclaredOne, all_declared as all_of_tree, declared as declared_one, declared_with, flat_attribute, flat_binding as binding_of_leaf, flat_of_leaf as expression_of_leaf, flat_option as option_of_leaf, pending_sizes as sizes_pending, variable_with};
+ghost use Rattle.mo_equations.specs.Variables.{Declared as DeclaredOne, all_declared as all_of_tree, declared as declared_one, declared_with, flat_attribute, flat_binding as binding_of_leaf, flat_of_leaf as expression_of_leaf, flat_option as option_of_leaf, fits_along, fits_leaf, indices_if, indices_of as indices_of_path, variable_with};
 ghost use Rattle.mo_equations.specs.steps.Declaring.{AreAttributes, AreDeclared, HasOneMore, IsAskedSo, IsBound, IsOneOf, attributes_in, binding_in, built_held, dims_found, equation_part, equation_with, known_of_binding, known_of_leaf_at, nodes_held, place_of_option, printed_part, unknowns_with, variable_in};
 ghost use Rattle.mo_equations.specs.steps.Desks.{IsDesk, Stays, tree_in};
 ghost use Rattle.mo_equations.specs.steps.Flats.{Answers, IsFlat};
@@ -27,8 +28,8 @@ use crate::standing::{Asked, flat_at, flat_value, has_values};
 use crate::values::known_at;
 use mo_eval::{MOST_REFERENCES, Scalar};
 use mo_flat::{FlatExpr, FlatVar};
-use mo_scope::{Chosen, Instance, Leaf, Scopes, copied, extend};
-use mo_syntax::{Kind, List, NoMemory, Place, Role, Stop, Text};
+use mo_scope::{Chosen, Instance, Leaf, Scopes, extend};
+use mo_syntax::{FrameId, Kind, List, NoMemory, Place, Role, Stop, Text};
 use std::alloc::Global;
 
 /// A leaf with the number of its variable.
@@ -57,6 +58,15 @@ pub(crate) struct Declared {
 }
 
 // ---- sizes
+
+/// The indices of a path and the sizes that they range over, of which the first stand before a frame.
+#[derive(Drop)]
+struct Ranges {
+    indices: List<u32>,
+    sizes: List<u32>,
+    /// How many of them stand before the frame.
+    before: usize,
+}
 
 /// Puts the dimensions of the instance that is found at the end.
 fn push_dims<'i, 't>(
@@ -93,30 +103,73 @@ fn sizes_along<'i, 't>(
     Ok(sizes)
 }
 
-/// The sizes of the components whose indices are pending: the last ones of the path.
-fn pending_sizes<'i, 't>(
+/// The indices of a path.
+fn indices_of(alloc: Global, path: &[Step]) -> Result<List<u32>, NoMemory>
+    ensures { IfOk result (λ indices. indices ≡ indices_of_path path.now) }
+{
+    let mut indices = List::new(alloc);
+    for step in path {
+        extend(&mut indices, step.1.as_slice())?;
+    }
+    Ok(indices)
+}
+
+/// How many indices the path of a frame has, none where it has no path.
+fn index_count<'t>(alloc: Global, s: &Scopes<'t>, frame: FrameId) -> Result<usize, NoMemory>
+    requires { IsFrame s.now frame.0 }
+    ensures { IfOk result (λ count. count ≡ length (indices_if (at_of (frame_at s.now frame.0)))) }
+{
+    match s.path(frame) {
+        Some(path) => Ok(indices_of(alloc, path.0.as_slice())?.len()),
+        None => Ok(0),
+    }
+}
+
+/// What stands behind so many.
+fn behind(all: &[u32], count: usize) -> &[u32]
+    ensures { result.now ≡ drop count all.now }
+{
+    if count < all.len() {
+        &all[count..]
+    } else {
+        &[]
+    }
+}
+
+/// The indices of a leaf's path and the sizes that they range over, of which so many stand before the frame that an expression is written in.
+fn ranges_of<'i, 't>(
     alloc: Global,
     s: &Scopes<'t>,
     leaves: &Leaves<'i, 't>,
     instance: &Instance<'t>,
     chosen: &Chosen<'t>,
-) -> Result<List<u32>, NoMemory>
-    requires { AreLeaves s.now leaves.now }
-    ensures { IfOk result (λ sizes. (variable : VariableOf) → variable.instance.path ≡ instance.now.path.0 → sizes ≡ sizes_pending (tree_in s.now leaves.now) variable (chosen_in (frames_of s.now) chosen.now)) }
+) -> Result<Ranges, NoMemory>
+    requires leaves { AreLeaves s.now leaves.now }
+    requires chosen { IsChosen s.now chosen.now }
+    ensures { IfOk result (λ ranges. (variable : VariableOf) → variable.instance.path ≡ instance.now.path.0 → fits_along chosen.now.value.now.place chosen.now.pending (drop ranges.before ranges.indices) (drop ranges.before ranges.sizes) ≡ fits_leaf (tree_in s.now leaves.now) variable (chosen_in (frames_of s.now) chosen.now)) }
 {
     if chosen.pending.is_empty() {
-        return Ok(List::new(alloc));
+        return Ok(Ranges {
+            indices: List::new(alloc),
+            sizes: List::new(alloc),
+            before: 0,
+        });
     }
+    let before = index_count(alloc, s, chosen.scope.frame)?;
+    let indices = indices_of(alloc, instance.path.0.as_slice())?;
     let sizes = sizes_along(alloc, s, leaves, instance.path.0.as_slice())?;
-    let before = sizes.len().saturating_sub(chosen.pending.len());
-    copied(alloc, &sizes.as_slice()[before..])
+    Ok(Ranges {
+        indices,
+        sizes,
+        before,
+    })
 }
 
 // ---- what is chosen for leaves
 
 /// What is asked of what is chosen for a leaf, of a kind.
-fn asked_of<'a, 't>(chosen: &'a Chosen<'t>, kind: Kind, sizes: &'a [u32]) -> Asked<'a>
-    ensures { IsAskedSo result chosen.now kind sizes.now }
+fn asked_of<'a, 't>(chosen: &'a Chosen<'t>, kind: Kind, ranges: &'a Ranges) -> Asked<'a>
+    ensures { IsAskedSo result chosen.now kind (drop ranges.now.before ranges.now.indices) (drop ranges.now.before ranges.now.sizes) }
 {
     Asked {
         left: MOST_REFERENCES,
@@ -125,7 +178,11 @@ fn asked_of<'a, 't>(chosen: &'a Chosen<'t>, kind: Kind, sizes: &'a [u32]) -> Ask
         index: chosen.pending.as_slice(),
         layers: Layers {
             want: Want::Accepted(kind),
-            fit: Fit::Sizes(sizes),
+            fit: Fit::Along {
+                pending: chosen.pending.as_slice(),
+                indices: behind(ranges.indices.as_slice(), ranges.before),
+                sizes: behind(ranges.sizes.as_slice(), ranges.before),
+            },
             place: chosen.value.place,
         },
     }
@@ -146,8 +203,8 @@ fn flat_of_leaf<'i, 't>(
     ensures stays { Stays s.old s.new desk.old desk.new }
     ensures exact { Answers IsFlat result (expression_of_leaf (tree_in s.old desk.old.leaves) (variable_in (frames_of s.old) variable.now) kind (chosen_in (frames_of s.old) chosen.now)) }
 {
-    let sizes = pending_sizes(alloc, s, &desk.leaves, variable.instance, chosen)?;
-    let asked = asked_of(chosen, kind, sizes.as_slice());
+    let ranges = ranges_of(alloc, s, &desk.leaves, variable.instance, chosen)?;
+    let asked = asked_of(chosen, kind, &ranges);
     flat_at(alloc, s, desk, &asked)
 }
 
@@ -165,8 +222,8 @@ fn known_of_leaf<'i, 't>(
     ensures stays { Stays s.old s.new desk.old desk.new }
     ensures exact { Gives result (known_of_leaf_at (tree_in s.old desk.old.leaves) (variable_in (frames_of s.old) variable.now) (chosen_in (frames_of s.old) chosen.now)) }
 {
-    let sizes = pending_sizes(alloc, s, &desk.leaves, variable.instance, chosen)?;
-    let asked = asked_of(chosen, variable.leaf.kind, sizes.as_slice());
+    let ranges = ranges_of(alloc, s, &desk.leaves, variable.instance, chosen)?;
+    let asked = asked_of(chosen, variable.leaf.kind, &ranges);
     known_at(alloc, s, desk, &asked)
 }
 

@@ -15,7 +15,7 @@ use Rattle.mo_typing.specs.Kinds.{accepts}
 use Rattle.mo_values.specs.Asked.{for_flat, for_value}
 use Rattle.mo_equations.specs.Leaves.{Tree}
 use Rattle.mo_equations.specs.Replacing.{of_variable}
-use Rattle.mo_equations.specs.Variables.{declared, fits_sizes, replacing}
+use Rattle.mo_equations.specs.Variables.{declared, fits_along, replacing}
 use Rattle.mo_scope.proofs.rows.Notation.{byte, row}
 use Rattle.mo_equations.proofs.Scalars.{known_whole, layers, replaced_whole, unfit, whole_element, whole_has}
 use Rattle.mo_equations.proofs.rows.Notation.{root, root_instance, number, in_class, asking, made_number}
@@ -121,5 +121,5 @@ with_element = record {
 pub scalar_is_refused : declared with_element (record { number = 1; instance = of_element; leaf = element }) ≡ breaks WRONG_EACH (byte 55)
 scalar_is_refused = rw (
   made_number with_element.classes (asking with_element) (in_class 6).scope 1 55 for_flat,
-  unfit (λ got. accepts Real got (byte 55)) (fits_sizes (byte 55) (2 ∷ [])) (breach WRONG_EACH (byte 55)) (whole_has (byte 55) (pos 1)) refl refl,
+  unfit (λ got. accepts Real got (byte 55)) (fits_along (byte 55) (1 ∷ []) (1 ∷ []) (2 ∷ [])) (breach WRONG_EACH (byte 55)) (whole_has (byte 55) (pos 1)) refl refl,
 ) refl

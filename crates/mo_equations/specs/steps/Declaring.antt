@@ -29,7 +29,7 @@ use Rattle.mo_equations.specs.Leaves.{Tree, Variable}
 use Rattle.mo_equations.specs.Size.{most_nodes, nodes_of_variable}
 use Rattle.mo_equations.specs.declared.layers.Want.TheVariants.{Accepted}
 use Rattle.mo_equations.specs.declared.standing.Asked.{Asked}
-use Rattle.mo_equations.specs.Variables.{Declared, fits_leaf, fits_sizes, is_parameter}
+use Rattle.mo_equations.specs.Variables.{Declared, fits_along, fits_leaf, is_parameter}
 use Rattle.mo_equations.specs.steps.Flats.{capped}
 use Rattle.mo_equations.specs.steps.Layers.{HasRule, fit_of}
 use Rattle.mo_equations.specs.steps.Makings.{IsMade}
@@ -64,8 +64,8 @@ abbrev pub known_of_leaf_at : Tree → Variable → Chosen → Outcome Known
 known_of_leaf_at tree variable chosen =
     known_so tree.classes (λ got. accepts variable.leaf.kind got (place_of chosen.value)) (fits_leaf tree variable chosen) chosen.scope chosen.value chosen.pending
 
-abbrev pub fits_these : Dims → Place → Dims → Checked
-fits_these sizes place dims = fits_sizes place sizes dims
+abbrev pub fits_these : List ℕ → List ℕ → Dims → Place → Dims → Checked
+fits_these pending indices sizes place dims = fits_along place pending indices sizes dims
 
 -- what is known of the binding of a parameter whose kind has values
 abbrev pub known_of_binding : Tree → Variable → Chosen → Outcome Known
@@ -73,13 +73,13 @@ known_of_binding tree variable chosen =
     if is_parameter variable.leaf.role && has_values variable.leaf.kind then known_of_leaf_at tree variable chosen else Ok None
 
 -- what is asked of what is chosen for a leaf
-pub record IsAskedSo (asked : Asked) (chosen : ChosenAt) (kind : Kind) (sizes : List ℕ) : Type 0 where
+pub record IsAskedSo (asked : Asked) (chosen : ChosenAt) (kind : Kind) (indices sizes : List ℕ) : Type 0 where
   pub left : asked.left ≡ most_references
   pub at : asked.at.now ≡ chosen.scope
   pub value : asked.value.now ≡ chosen.value.now
   pub index : asked.index.now ≡ chosen.pending
   pub want : asked.layers.want ≡ Accepted kind
-  pub fit : fit_of asked.layers.fit ≡ fits_these sizes
+  pub fit : fit_of asked.layers.fit ≡ fits_these chosen.pending indices sizes
   pub rule : HasRule asked.layers.fit
   pub place : asked.layers.place ≡ chosen.value.now.place
 

@@ -8,10 +8,10 @@ use Rattle.mo_typing.specs.Kinds.{accepts}
 use Rattle.mo_typing.specs.Subscripts.{Checked}
 use Rattle.mo_values.specs.Asked.{only_scalar, only_truth, fitted}
 use Rattle.mo_equations.specs.declared.layers.Fit.{Fit}
-use Rattle.mo_equations.specs.declared.layers.Fit.TheVariants.{Scalar, Sizes, Pending}
+use Rattle.mo_equations.specs.declared.layers.Fit.TheVariants.{Scalar, Along, Pending}
 use Rattle.mo_equations.specs.declared.layers.Want.{Want}
 use Rattle.mo_equations.specs.declared.layers.Want.TheVariants.{Accepted, Condition}
-use Rattle.mo_equations.specs.Variables.{fits_sizes}
+use Rattle.mo_equations.specs.Variables.{fits_along}
 
 abbrev pub wanted_of : Want → Place → Kind → Checked
 wanted_of (Accepted kind) place got = accepts kind got place
@@ -19,7 +19,7 @@ wanted_of Condition place got = only_truth CONDITION_NOT_BOOLEAN place got
 
 abbrev pub fit_of : Fit → Place → Dims → Checked
 fit_of (Scalar rule) place dims = only_scalar rule place dims
-fit_of (Sizes sizes) place dims = fits_sizes place sizes.now dims
+fit_of (Along pending indices sizes) place dims = fits_along place pending.now indices.now sizes.now dims
 fit_of (Pending index) place dims = fitted place index.now dims
 
 -- the rule that is broken where no scalar stands is one

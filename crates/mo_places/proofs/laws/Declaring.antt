@@ -9,7 +9,7 @@ use Rattle.mo_syntax.specs.declared.place.Place.{Place}
 use Rattle.mo_flat.specs.declared.expr.FlatExpr.{FlatExpr}
 use Rattle.mo_scope.specs.Instances.{Chosen}
 use Rattle.mo_syntax.specs.declared.rules.TheConstants.{WRONG_SIZE, WRONG_TYPE}
-use Rattle.mo_typing.specs.Dims.{Dims, are_equal}
+use Rattle.mo_typing.specs.Dims.{Dims}
 use Rattle.mo_typing.specs.Kinds.{accepts}
 use Rattle.mo_typing.specs.Outcome.{each}
 use Rattle.mo_typing.specs.Subscripts.{fine}
@@ -18,7 +18,7 @@ use Rattle.mo_values.specs.Asked.{layered}
 use Rattle.mo_values.specs.Scalars.{Known, has_values, if_it_has}
 use Rattle.mo_eval.specs.Values.{known_of, most_references, resolved_for_value}
 use Rattle.mo_equations.specs.Leaves.{Tree, Variable, number_of, variables_of}
-use Rattle.mo_equations.specs.Variables.{Declared, all_declared, attribute_kind, binding_equation, declared, declared_with, fits_leaf, fits_sizes, flat_attribute, flat_binding, flat_of_leaf, flat_option, is_parameter, known_of_leaf, pending_sizes, replacing, variable_with}
+use Rattle.mo_equations.specs.Variables.{Declared, all_declared, attribute_kind, binding_equation, declared, declared_with, are_among, fits_along, fits_leaf, flat_attribute, flat_binding, flat_of_leaf, flat_option, is_parameter, known_of_leaf, replacing, variable_with}
 use Rattle.mo_places.specs.Written.{Written, At}
 use Rattle.mo_places.specs.Stands.{Anything, Every, IfAny, Answers, PickedStands, TableStands}
 use Rattle.mo_places.specs.InFiles.{Descends}
@@ -35,16 +35,16 @@ module _ (P : Written → Type 0) where
   abbrev Sure : Unit {0} → Type 0
   Sure = Anything {A = Unit {0}}
 
-  sized_answers : (place : Place) (sizes dims : Dims) → P (At place) → Answers P Sure (if nat_eq (length sizes) (length dims) then (if are_equal sizes dims then fine else breaks WRONG_SIZE place) else breaks WRONG_TYPE place)
-  sized_answers place sizes dims hp =
-      if_answers P Sure (nat_eq (length sizes) (length dims)) (if are_equal sizes dims then fine else breaks WRONG_SIZE place) (breaks WRONG_TYPE place)
-      (if_answers P Sure (are_equal sizes dims) fine (breaks WRONG_SIZE place) (record { holds = tt }) (record { holds = hp }))
+  sized_answers : (place : Place) (pending indices sizes dims : List ℕ) → P (At place) → Answers P Sure (if nat_eq (length pending) (length dims) then (if are_among pending dims indices sizes then fine else breaks WRONG_SIZE place) else breaks WRONG_TYPE place)
+  sized_answers place pending indices sizes dims hp =
+      if_answers P Sure (nat_eq (length pending) (length dims)) (if are_among pending dims indices sizes then fine else breaks WRONG_SIZE place) (breaks WRONG_TYPE place)
+      (if_answers P Sure (are_among pending dims indices sizes) fine (breaks WRONG_SIZE place) (record { holds = tt }) (record { holds = hp }))
       (record { holds = hp })
 
-  fits_answers : (place : Place) (sizes dims : Dims) → P (At place) → Answers P Sure (fits_sizes place sizes dims)
-  fits_answers place [] dims hp = sized_answers place [] dims hp
-  fits_answers place (size ∷ sizes) [] hp = record { holds = hp }
-  fits_answers place (size ∷ sizes) (n ∷ dims) hp = sized_answers place (size ∷ sizes) (n ∷ dims) hp
+  fits_answers : (place : Place) (pending indices sizes dims : List ℕ) → P (At place) → Answers P Sure (fits_along place pending indices sizes dims)
+  fits_answers place [] indices sizes dims hp = sized_answers place [] indices sizes dims hp
+  fits_answers place (index ∷ pending) indices sizes [] hp = record { holds = hp }
+  fits_answers place (index ∷ pending) indices sizes (n ∷ dims) hp = sized_answers place (index ∷ pending) indices sizes (n ∷ dims) hp
 
   module _ (descends : Descends P) (layers : LayersStand P) (tree : Tree) (stands : TableStands P tree.classes) (reads : Reads P tree.classes) where
     abbrev pub Flat : Outcome FlatExpr → Type 0
@@ -57,7 +57,7 @@ module _ (P : Written → Type 0) where
 
     fits_leaf_answers : (variable : Variable) (chosen : Chosen) → PickedStands P chosen → (dims : Dims) → Answers P Sure (fits_leaf tree variable chosen dims)
     fits_leaf_answers variable chosen h dims =
-        fits_answers (place_of chosen.value) (pending_sizes tree variable chosen) dims (value_place P descends layers tree.classes stands reads chosen.value h.value)
+        fits_answers (place_of chosen.value) chosen.pending _ _ dims (value_place P descends layers tree.classes stands reads chosen.value h.value)
 
     leaf_answers : (variable : Variable) (kind : Kind) (chosen : Chosen) → PickedStands P chosen → Flat (flat_of_leaf tree variable kind chosen)
     leaf_answers variable kind chosen h =

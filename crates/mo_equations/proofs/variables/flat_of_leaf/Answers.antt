@@ -1,4 +1,4 @@
--- What is chosen, with the sizes that are pending.
+-- What is chosen, with the indices and sizes of its path.
 use Rattle.std.proofs.Common.{refl}
 use Rattle.mo_scope.specs.Worlds.{frames_of}
 use Rattle.mo_equations.specs.steps.Declaring.{variable_in}
@@ -13,12 +13,12 @@ returns-clause-exact c =
     let world = c.args.s.now in
     let variable = variable_in (frames_of world) c.args.variable.now in
     answers_as IsFlat c.flat_at.result _ _
-    (leaf_asked world c.args.desk.now.leaves c.asked_of-asked.result c.args.chosen.now c.args.kind c.in_ok-sizes.sizes variable (rw c.as_slice.ensures at c.asked_of-asked.ensures) (c.in_ok-sizes.ensures variable refl)) c.flat_at.ensures.exact
+    (leaf_asked world c.args.desk.now.leaves c.asked_of-asked.result c.args.chosen.now c.args.kind _ _ variable c.asked_of-asked.ensures (c.in_ok-ranges.ensures variable refl)) c.flat_at.ensures.exact
 
 -- ---- what stays
 
-pub returns-in_err-sizes-clause-stays : goal.returns-in_err-sizes-clause-stays
-returns-in_err-sizes-clause-stays c = stays_still c.args.s.now c.args.desk.now c.requires.desk
+pub returns-in_err-ranges-clause-stays : goal.returns-in_err-ranges-clause-stays
+returns-in_err-ranges-clause-stays c = stays_still c.args.s.now c.args.desk.now c.requires.desk
 
 pub returns-clause-stays : goal.returns-clause-stays
 returns-clause-stays c = c.flat_at.ensures.stays
