@@ -1,0 +1,3 @@
+-- The laws of what fits.
+pub mod Among
+pub mod Fitting
