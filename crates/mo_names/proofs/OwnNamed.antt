@@ -1,57 +1,24 @@
 -- The elements that classes declare themselves.
-use Rattle.std.proofs.Common.{◌≡◌, ℕ, ◌+◌, ◌<◌, Bool, true, false, cond, List, [], ◌∷◌, length, map, drop, get_or, Option, Some, refl, ap, sym, ◌∙◌}
-use Rattle.std.specs.Prelude.{◌&&◌}
+use Rattle.std.proofs.Common.{◌≡◌, ℕ, ◌+◌, ◌<◌, Bool, List, [], ◌∷◌, map, Option, None, Some, refl, ap, sym, subst, ◌∙◌}
+use Rattle.std.specs.Prelude.{◌&&◌, option_map, IfSome}
 use Rattle.std.specs.List.{list_all}
-use Rattle.std.specs.Str.{bytes_eq}
-use Rattle.mo_scope.specs.declared.row.Clause.{Clause}
-use Rattle.mo_scope.specs.declared.row.Row.{Row as RowAt}
-use Rattle.mo_scope.specs.declared.row.Declares.{Declares as DeclaresAt}
+use Rattle.mo_scope.specs.declared.row.Member.{Member as MemberAt}
 use Rattle.mo_scope.specs.declared.row.Part.{Part as PartAt}
-use Rattle.mo_scope.specs.declared.row.Part.TheVariants.{Element as element_at, Base as base_at}
-use Rattle.mo_scope.specs.Frames.{Frame, Member, class_of}
+use Rattle.mo_scope.specs.declared.row.Row.{Row as RowAt}
+use Rattle.mo_scope.specs.Frames.{Frame, class_of}
 use Rattle.mo_scope.specs.Lookup.{counts_in_package, members_from, named, own_members}
 use Rattle.mo_scope.specs.Open.{is_open_declares}
-use Rattle.mo_scope.specs.Rows.{Table, Row, row_at, Declares, elements_in}
-use Rattle.mo_scope.specs.Sights.{declares_seen, part_seen, row_seen}
-use Rattle.mo_names.proofs.Reading.{at_element}
+use Rattle.mo_scope.specs.Own.{own_declared}
+use Rattle.mo_scope.specs.Rows.{Table, Row, Declares, class_number, elements_in, number_of_classes, row_at}
+use Rattle.mo_scope.specs.Sights.{declares_seen, member_at, part_seen, row_seen}
+use Rattle.mo_scope.specs.Worlds.{World, IsFrame, frame_at, table_in}
+use Rattle.mo_names.specs.Sights.{IsMember}
+use Rattle.mo_names.proofs.OwnElements.{named_own}
 
 -- whether elements may stand in a package is told by what declares them
 pub open_members : (frame : Frame) (item : ℕ) (xs : List Declares) → list_all counts_in_package (members_from frame item xs) ≡ list_all is_open_declares xs
 open_members frame item [] = refl
 open_members frame item (x ∷ xs) = ap (λ (b : Bool). is_open_declares x && b) (open_members frame (item + 1) xs)
-
--- the first element of that name, from a place among the parts on
-abbrev pub named_from : List PartAt → Frame → List ℕ → ℕ → ℕ → Option Member
-named_from parts frame name i item = named name (members_from frame item (elements_in (map part_seen (drop i parts))))
-
--- an element of that name
-pub named_here : (parts : List PartAt) (frame : Frame) (name : List ℕ) (i item : ℕ) (part : PartAt) (declares : DeclaresAt) (all : Option Member) → i < length parts → part ≡ get_or parts i part →
-    part ≡ element_at declares → bytes_eq declares.name.now name ≡ true → named_from parts frame name i item ≡ all →
-    all ≡ Some (record { name = declares.name.now; home = frame; item = item; hidden = declares.flags.hidden; declares = declares_seen declares })
-named_here parts frame name i item part declares all below read is same rest =
-    sym rest
-    ∙ ap (λ (xs : List PartAt). named name (members_from frame item (elements_in (map part_seen xs)))) (at_element parts i part below read)
-    ∙ ap (λ (p : PartAt). named name (members_from frame item (elements_in (map part_seen (p ∷ drop (i + 1) parts))))) is
-    ∙ ap (λ b. cond b (Some (record { name = declares.name.now; home = frame; item = item; hidden = declares.flags.hidden; declares = declares_seen declares })) (named_from parts frame name (i + 1) (item + 1))) same
-
--- an element of another name
-pub named_step : (parts : List PartAt) (frame : Frame) (name : List ℕ) (i item next : ℕ) (part : PartAt) (declares : DeclaresAt) (all : Option Member) → i < length parts → part ≡ get_or parts i part →
-    part ≡ element_at declares → next ≡ item + 1 → bytes_eq declares.name.now name ≡ false → named_from parts frame name i item ≡ all → named_from parts frame name (i + 1) next ≡ all
-named_step parts frame name i item next part declares all below read is more other rest =
-    ap (named_from parts frame name (i + 1)) more
-    ∙ ap (λ b. cond b (Some (record { name = declares.name.now; home = frame; item = item; hidden = declares.flags.hidden; declares = declares_seen declares })) (named_from parts frame name (i + 1) (item + 1))) (sym other)
-    ∙ ap (λ (p : PartAt). named name (members_from frame item (elements_in (map part_seen (p ∷ drop (i + 1) parts))))) (sym is)
-    ∙ ap (λ (xs : List PartAt). named name (members_from frame item (elements_in (map part_seen xs)))) (sym (at_element parts i part below read))
-    ∙ rest
-
--- an extends clause
-pub named_skip : (parts : List PartAt) (frame : Frame) (name : List ℕ) (i item next : ℕ) (part : PartAt) (clause : Clause) (all : Option Member) → i < length parts → part ≡ get_or parts i part →
-    part ≡ base_at clause → next ≡ item → named_from parts frame name i item ≡ all → named_from parts frame name (i + 1) next ≡ all
-named_skip parts frame name i item next part clause all below read is more rest =
-    ap (named_from parts frame name (i + 1)) more
-    ∙ ap (λ (p : PartAt). named name (members_from frame item (elements_in (map part_seen (p ∷ drop (i + 1) parts))))) (sym is)
-    ∙ ap (λ (xs : List PartAt). named name (members_from frame item (elements_in (map part_seen xs)))) (sym (at_element parts i part below read))
-    ∙ rest
 
 own_of_row : (table : Table) (frame : Frame) (row : Row) → row_at table (class_of frame) ≡ Some row → own_members table frame ≡ members_from frame 0 (elements_in row.parts)
 own_of_row table frame row e = rw e refl
@@ -62,3 +29,21 @@ open_row table frame class row parts r is at same said =
     said ∙ ap (λ (xs : List PartAt). list_all is_open_declares (elements_in (map part_seen xs))) same
     ∙ sym (open_members frame 0 (elements_in (map part_seen row.parts)))
     ∙ ap (list_all counts_in_package) (sym (own_of_row table frame (row_seen row) (ap (row_at table) (sym is) ∙ sym at)))
+
+-- the elements that a class declares itself, in their order
+own_listed : (table : Table) (frame : Frame) → own_members table frame ≡ members_from frame 0 (own_declared table frame)
+own_listed table frame = by (row_at table (class_of frame)) refl
+  where
+    by : (o : Option Row) → row_at table (class_of frame) ≡ o → own_members table frame ≡ members_from frame 0 (own_declared table frame)
+    by None e = rw e refl
+    by (Some row) e = rw e refl
+
+pub own_stands : (world : World) (n : ℕ) (name : List ℕ) (found : Option MemberAt) → IsFrame world n → option_map (member_at world) found ≡ named name (own_members (table_in world) (frame_at world n)) →
+    IfSome found (λ member. member.home.0 ≡ n) → IfSome found (λ member. class_number (declares_seen member.declares) < number_of_classes (table_in world)) → IfSome found (IsMember world)
+own_stands world n name None stands is home class = tt
+own_stands world n name (Some member) stands is home class = record {
+  home = subst (IsFrame world) (sym home) stands;
+  class = class;
+  own = named_own (table_in world) (frame_at world n) (own_declared (table_in world) (frame_at world n)) name (member_at world member) refl (ap (frame_at world) home)
+      (ap (named name) (sym (own_listed (table_in world) (frame_at world n))) ∙ sym is);
+}

@@ -1,13 +1,13 @@
--- What the table that is kept of a frame tells, where no class is having its bases found.
-use Rattle.std.proofs.Common.{◌≡◌, ℕ, ◌<◌, Bool, true, false, cond, List, [], ◌∷◌, length, map, find, Some, None, Ok, Err, refl, ap, sym, subst, ◌∙◌, arith}
+-- What the table that is kept of a frame tells, where its elements are what they are where no class is having its bases found.
+use Rattle.std.proofs.Common.{◌≡◌, ℕ, ◌<◌, Bool, true, false, cond, List, [], ◌∷◌, length, map, find, Option, Some, None, Ok, Err, refl, ap, sym, subst, ◌∙◌, arith}
 use Rattle.std.specs.Prelude.{◌&&◌, option_map}
 use Rattle.std.specs.List.{list_all}
 use Rattle.std.specs.Str.{bytes_eq}
 use Rattle.mo_syntax.specs.Outcome.{Outcome, and_then}
 use Rattle.mo_syntax.specs.declared.place.Place.{Place}
 use Rattle.mo_scope.specs.Rows.{Table, number_of_classes}
-use Rattle.mo_scope.specs.Frames.{Frame, Member}
-use Rattle.mo_scope.specs.Lookup.{Walked, Asking, Element, Absent, asking_of, counts_in_package, is_package, members_in, named, reached}
+use Rattle.mo_scope.specs.Frames.{Frame, Member, class_of}
+use Rattle.mo_scope.specs.Lookup.{Walked, Asking, Element, Absent, asking_of, contains, counts_in_package, is_package, members_in, named, own_members, reached, reached_in}
 use Rattle.mo_scope.specs.Names.{elements_of, is_inner_for}
 use Rattle.mo_scope.specs.Open.{are_open, is_open_declares}
 use Rattle.mo_scope.specs.Worlds.{MemberEntry, member_in}
@@ -24,10 +24,10 @@ pub asks_free : (table : Table) (left : ℕ) (busy : List ℕ) → left ≡ numb
 asks_free table left busy all none = ap (asking_at table left) (no_elements busy none) ∙ ap (λ (n : ℕ). asking_at table n []) all
 
 -- the elements that are asked for are those that a table lists
-pub asked_elements : (table : Table) (asking : Asking) (place : Place) (frame : Frame) (o : Outcome Walked) → asking ≡ asking_of table → asking.elements place frame ≡ o → elements_of table frame ≡ and_then o (λ walked. Ok (members_in walked))
-asked_elements table asking place frame o free is =
+pub asked_elements : (table : Table) (asking : Asking) (place : Place) (frame : Frame) (o : Outcome Walked) → asking.elements place frame ≡ (asking_of table).elements place frame → asking.elements place frame ≡ o → elements_of table frame ≡ and_then o (λ walked. Ok (members_in walked))
+asked_elements table asking place frame o same is =
     ap (λ (w : Outcome Walked). and_then w (λ walked. Ok (members_in walked)))
-    (sym (asked_at table place frame) ∙ ap (λ (a : Asking). a.elements place frame) (sym free) ∙ is)
+    (sym (asked_at table place frame) ∙ sym same ∙ is)
 
 named_seen : (frames : List Frame) (name : List ℕ) (table : List MemberEntry) → named name (map (member_in frames) table) ≡ option_map (member_in frames) (find (λ member. bytes_eq member.name name) table)
 named_seen frames name [] = refl
@@ -38,23 +38,31 @@ named_seen frames name (x ∷ xs) = by (bytes_eq x.name name) (named_seen frames
     by true rest = refl
     by false rest = rest
 
-pub kept_element : (table : Table) (asking : Asking) (place : Place) (frame : Frame) (frames : List Frame) (entries : List MemberEntry) (name : List ℕ) (m : MemberEntry) → asking ≡ asking_of table →
+-- what a name reaches is told by the elements
+same_reached : (table : Table) (a b : Asking) (place : Place) (frame : Frame) (name : List ℕ) → a.elements place frame ≡ b.elements place frame → reached table a place frame name ≡ reached table b place frame name
+same_reached table a b place frame name same = by (named name (own_members table frame)) refl
+  where
+    by : (o : Option Member) → named name (own_members table frame) ≡ o → reached table a place frame name ≡ reached table b place frame name
+    by (Some member) e = rw e refl
+    by None e = rw e (ap (λ (w : Outcome Walked). and_then w (λ walked. Ok (reached_in table walked name))) same)
+
+pub kept_element : (table : Table) (asking : Asking) (place : Place) (frame : Frame) (frames : List Frame) (entries : List MemberEntry) (name : List ℕ) (m : MemberEntry) → asking.elements place frame ≡ (asking_of table).elements place frame →
     elements_of table frame ≡ Ok (map (member_in frames) entries) → find (λ member. bytes_eq member.name name) entries ≡ Some m → reached table asking place frame name ≡ Ok (Element (member_in frames m))
-kept_element table asking place frame frames entries name m free elements is =
-    ap (λ (a : Asking). reached table a place frame name) free
+kept_element table asking place frame frames entries name m same elements is =
+    same_reached table asking (asking_of table) place frame name same
     ∙ reached_some table place frame name (map (member_in frames) entries) (member_in frames m) elements (named_seen frames name entries ∙ ap (option_map (member_in frames)) is)
 
-pub kept_absent : (table : Table) (asking : Asking) (place : Place) (frame : Frame) (frames : List Frame) (entries : List MemberEntry) (name : List ℕ) → asking ≡ asking_of table →
+pub kept_absent : (table : Table) (asking : Asking) (place : Place) (frame : Frame) (frames : List Frame) (entries : List MemberEntry) (name : List ℕ) → asking.elements place frame ≡ (asking_of table).elements place frame →
     elements_of table frame ≡ Ok (map (member_in frames) entries) → find (λ member. bytes_eq member.name name) entries ≡ None → 0 < length entries → reached table asking place frame name ≡ Ok Absent
-kept_absent table asking place frame frames [] name free elements is some = absurd (omega arith)
-kept_absent table asking place frame frames (x ∷ xs) name free elements is some =
-    ap (λ (a : Asking). reached table a place frame name) free
+kept_absent table asking place frame frames [] name same elements is some = absurd (omega arith)
+kept_absent table asking place frame frames (x ∷ xs) name same elements is some =
+    same_reached table asking (asking_of table) place frame name same
     ∙ reached_none table place frame name (map (member_in frames) (x ∷ xs)) (member_in frames x) (map (member_in frames) xs) elements refl (named_seen frames name (x ∷ xs) ∙ ap (option_map (member_in frames)) is)
 
-pub kept_package : (table : Table) (asking : Asking) (place : Place) (frame : Frame) (members : List Member) → asking ≡ asking_of table → elements_of table frame ≡ Ok members →
-    is_package table asking place frame ≡ Ok (list_all counts_in_package members)
-kept_package table asking place frame members free elements =
-    ap (λ (a : Asking). is_package table a place frame) free
+pub kept_package : (table : Table) (asking : Asking) (place : Place) (frame : Frame) (members : List Member) → asking.elements place frame ≡ (asking_of table).elements place frame → contains asking.busy (class_of frame) ≡ false →
+    elements_of table frame ≡ Ok members → is_package table asking place frame ≡ Ok (list_all counts_in_package members)
+kept_package table asking place frame members same idle elements =
+    rw idle (ap (λ (w : Outcome Walked). and_then w (λ walked. Ok (list_all counts_in_package (members_in walked)))) same)
     ∙ by ((asking_of table).elements place frame) (sym (asked_elements table (asking_of table) place frame _ refl refl) ∙ elements)
   where
     by : (o : Outcome Walked) → and_then o (λ walked. Ok (members_in walked)) ≡ Ok members → and_then o (λ walked. Ok (list_all counts_in_package (members_in walked))) ≡ Ok (list_all counts_in_package members)

@@ -10,12 +10,12 @@ ghost use Rattle.mo_names.specs.Sights.{IsWalk, walk_at};
 use crate::found::Ask;
 use crate::free::class_count;
 use crate::kept::walk_kept;
-use crate::own::own_named;
+use crate::own::{has_base, own_named};
 use crate::reach::is_closed;
 use crate::settled::walked_once;
 use crate::walk::Walk;
-use mo_scope::{Part, Scopes};
-use mo_syntax::{ClassId, FrameId, NoMemory, Place, Text};
+use mo_scope::Scopes;
+use mo_syntax::{FrameId, NoMemory, Place, Text};
 use std::alloc::Global;
 
 /// How many frames around a frame are looked at.
@@ -53,29 +53,17 @@ fn keep_once(alloc: Global, s: &mut Scopes, frame: FrameId) -> Result<(), NoMemo
     }
 }
 
-/// Whether a class has an extends clause.
-fn has_base(s: &Scopes, class: ClassId) -> bool {
-    match s.row(class) {
-        Some(row) => row
-            .parts
-            .as_slice()
-            .iter()
-            .any(|part| matches!(part, Part::Base(_))),
-        None => false,
-    }
-}
-
 /// Whether a name may be an inherited element of a frame whose elements are not kept.
-fn may_be_inherited(s: &Scopes, frame: FrameId, name: &Text) -> Result<bool, NoMemory>
+fn may_be_inherited(s: &Scopes, frame: FrameId, name: &Text) -> bool
     requires { IsFrame s.now frame.0 }
 {
     if s.table(frame).is_some() {
-        return Ok(false);
+        return false;
     }
-    if !has_base(s, s.class_of(frame)) {
-        return Ok(false);
+    if !has_base(s, frame) {
+        return false;
     }
-    Ok(own_named(s, frame, name)?.is_none())
+    own_named(s, frame, name).is_none()
 }
 
 /// Keeps the elements of a frame before a name is looked up among them, where they are asked for.
@@ -88,22 +76,22 @@ pub(crate) fn keep_ahead(
     requires { IsFrame s.old frame.0 }
     ensures { Grows s.old s.new }
 {
-    if may_be_inherited(s, frame, name)? {
+    if may_be_inherited(s, frame, name) {
         keep_once(alloc, s, frame)?;
     }
     Ok(())
 }
 
 /// Whether a name is known to be an element of a frame, or is not looked up further outwards than in it.
-fn ends_at(s: &Scopes, frame: FrameId, name: &Text) -> Result<bool, NoMemory>
+fn ends_at(s: &Scopes, frame: FrameId, name: &Text) -> bool
     requires { IsFrame s.now frame.0 }
 {
     if is_closed(s, frame) {
-        return Ok(true);
+        return true;
     }
     match s.table(frame) {
-        Some(table) => Ok(table.find(name).is_some()),
-        None => Ok(own_named(s, frame, name)?.is_some()),
+        Some(table) => table.find(name).is_some(),
+        None => own_named(s, frame, name).is_some(),
     }
 }
 
@@ -115,7 +103,7 @@ fn keep_outwards(alloc: Global, s: &mut Scopes, first: FrameId, name: &Text) -> 
     let mut frame = first;
     for _around in 0..MOST_AROUND {
         keep_ahead(alloc, s, frame, name)?;
-        if ends_at(s, frame, name)? {
+        if ends_at(s, frame, name) {
             return Ok(());
         }
         match s.outer(frame) {

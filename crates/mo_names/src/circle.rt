@@ -59,7 +59,7 @@ pub(crate) fn walked<'t>(
     walked_class(alloc, s, &inner, frame)
 }
 
-/// The elements of a frame, which are kept where no class is having its bases found.
+/// The elements of a frame, which are kept where they are those that it has where no class is having its bases found.
 #[cycle(names)]
 pub(crate) fn walked_and_kept<'t>(
     alloc: Global,

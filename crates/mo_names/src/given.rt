@@ -137,10 +137,8 @@ pub(crate) fn own_met<'t>(
     ensures value { Gives (option_map (found_at s.new)) result (and_then (own_reached (table_in s.old) (frame_at s.old frame.0) name.now) (element_found (table_in s.old) (frame_at s.old frame.0))) }
     ensures stand { IfOk result (λ found. IfSome found (IsFound s.new)) }
 {
-    match reached_own(s, frame, name) {
-        Ok(own) => element_met(alloc, s, frame, &own),
-        Err(NoMemory) => Err(Stop::NoMemory),
-    }
+    let own = reached_own(s, frame, name);
+    element_met(alloc, s, frame, &own)
 }
 
 /// What was found, as what is met.

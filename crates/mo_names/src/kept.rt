@@ -1,6 +1,8 @@
 //! The tables that are kept of the elements of frames.
-ghost use Rattle.std.specs.Prelude.{◌≡◌, map, true, IfOk, IfSome, None, Ok};
-ghost use Rattle.mo_scope.specs.Lookup.{asking_of, is_package as is_package_frame, named, own_members, reached as reached_of, walked as walked_of};
+ghost use Rattle.std.specs.Prelude.{◌≡◌, map, true, false, IfOk, IfSome, None, Ok};
+ghost use Rattle.mo_syntax.specs.declared.place.Place.{Place as PlaceAt};
+ghost use Rattle.mo_scope.specs.Frames.{class_of};
+ghost use Rattle.mo_scope.specs.Lookup.{asking_of, contains, is_package as is_package_frame, named, own_members, reached as reached_of, walked as walked_of};
 ghost use Rattle.mo_scope.specs.Names.{elements_of};
 ghost use Rattle.mo_scope.specs.Outcome.{Gives};
 ghost use Rattle.mo_scope.specs.Places.{Every};
@@ -9,7 +11,8 @@ ghost use Rattle.mo_scope.specs.Worlds.{AreHomes, Grows, IsFrame, frame_at, fram
 ghost use Rattle.mo_names.specs.Sights.{IsMember, IsReached, IsWalk, asks, reached_seen, walk_at, member_of};
 
 use crate::found::{Ask, Reached};
-use crate::own::own_named;
+use crate::own::{has_base, own_named};
+use crate::reach::is_busy;
 use crate::walk::{Inherited, Walk};
 use mo_scope::{Member, MemberTable, Scopes};
 use mo_syntax::{FrameId, List, NoMemory, Stop, Text};
@@ -28,21 +31,47 @@ fn is_free(s: &Scopes, ask: &Ask) -> bool
     ask.busy.is_empty()
 }
 
-/// The table of a frame, where one is kept and no class is having its bases found.
+/// Whether a frame has the elements that it has where no class is having its bases found: none is, or its class is none of those that are
+/// and has no extends clause.
+fn is_unhindered(s: &Scopes, ask: &Ask, frame: FrameId) -> bool
+    requires { IsFrame s.now frame.0 }
+    ensures same { result ≡ true → (place : PlaceAt) → (asks (table_in s.now) ask.now).elements place (frame_at s.now frame.0) ≡ (asking_of (table_in s.now)).elements place (frame_at s.now frame.0) }
+    ensures idle { result ≡ true → contains ask.now.busy.now (class_of (frame_at s.now frame.0)) ≡ false }
+{
+    if is_free(s, ask) {
+        return true;
+    }
+    if ask.left == 0 {
+        return false;
+    }
+    if is_busy(ask.busy, s.class_of(frame)) {
+        return false;
+    }
+    !has_base(s, frame)
+}
+
+/// The table of a frame, where one is kept and lists what is asked for.
 fn kept<'a, 't>(s: &'a Scopes<'t>, ask: &Ask, frame: FrameId) -> Option<&'a MemberTable<'t>>
     requires { IsFrame s.now frame.0 }
-    ensures free { IfSome result (λ _. asks (table_in s.now) ask.now ≡ asking_of (table_in s.now)) }
+    ensures same { IfSome result (λ _. (place : PlaceAt) → (asks (table_in s.now) ask.now).elements place (frame_at s.now frame.0) ≡ (asking_of (table_in s.now)).elements place (frame_at s.now frame.0)) }
+    ensures idle { IfSome result (λ _. contains ask.now.busy.now (class_of (frame_at s.now frame.0)) ≡ false) }
     ensures elements { IfSome result (λ table. elements_of (table_in s.now) (frame_at s.now frame.0) ≡ Ok (map (member_in (frames_of s.now)) table.now)) }
     ensures homes { IfSome result (λ table. AreHomes s.now table.now) }
 {
-    if !is_free(s, ask) {
-        return None;
+    match s.table(frame) {
+        Some(table) => {
+            if is_unhindered(s, ask, frame) {
+                Some(table)
+            } else {
+                None
+            }
+        }
+        None => None,
     }
-    s.table(frame)
 }
 
-/// What a name reaches among the elements of a frame, where their table is kept, is not empty and no class is having its bases
-/// found; where the table is empty, there may be literals.
+/// What a name reaches among the elements of a frame, where their table is kept, lists what is asked for and is not empty; where the table
+/// is empty, there may be literals.
 pub(crate) fn kept_reached<'t>(
     s: &Scopes<'t>,
     ask: &Ask,
@@ -82,14 +111,12 @@ pub(crate) fn reached_at_hand<'t>(
         return Some(Ok(known));
     }
     match own_named(s, frame, name) {
-        Ok(Some(member)) => Some(Ok(Reached::Element(member))),
-        Ok(None) => None,
-        Err(NoMemory) => Some(Err(Stop::NoMemory)),
+        Some(member) => Some(Ok(Reached::Element(member))),
+        None => None,
     }
 }
 
-/// Whether the class of a frame declares nothing but classes and constants, where its table is kept and no class is having its
-/// bases found.
+/// Whether the class of a frame declares nothing but classes and constants, where its table is kept and lists what is asked for.
 pub(crate) fn kept_package(s: &Scopes, ask: &Ask, frame: FrameId) -> Option<bool>
     requires { IsFrame s.now frame.0 }
     ensures { IfSome result (λ all. is_package_frame (table_in s.now) (asks (table_in s.now) ask.now) ask.now.place (frame_at s.now frame.0) ≡ Ok all) }
@@ -141,7 +168,8 @@ pub(crate) fn elements_kept<'t>(
     s.keep(alloc, frame, table)
 }
 
-/// Keeps the elements of a frame that a walk has found, where no class is having its bases found and none are kept.
+/// Keeps the elements of a frame that a walk has found, where these are those that it has where no class is having its bases found, and none
+/// are kept.
 pub(crate) fn walk_kept<'t>(
     alloc: Global,
     s: &mut Scopes<'t>,
@@ -154,10 +182,10 @@ pub(crate) fn walk_kept<'t>(
     requires stands { IsWalk s.old walk.now }
     ensures grows { Grows s.old s.new }
 {
-    if !is_free(s, ask) {
+    if s.table(frame).is_some() {
         return Ok(());
     }
-    if s.table(frame).is_some() {
+    if !is_unhindered(s, ask, frame) {
         return Ok(());
     }
     let members = members_held(alloc, walk.members.as_slice())?;

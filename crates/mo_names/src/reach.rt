@@ -63,18 +63,14 @@ pub(crate) fn reached_in<'t>(
 }
 
 /// What a name reaches among the own elements of a frame.
-pub(crate) fn reached_own<'t>(
-    s: &Scopes<'t>,
-    frame: FrameId,
-    name: &Text,
-) -> Result<Reached<'t>, NoMemory>
+pub(crate) fn reached_own<'t>(s: &Scopes<'t>, frame: FrameId, name: &Text) -> Reached<'t>
     requires { IsFrame s.now frame.0 }
-    ensures is { IfOk result (λ reached. Ok (reached_seen (frames_of s.now) reached) ≡ own_reached (table_in s.now) (frame_at s.now frame.0) name.now) }
-    ensures stand { IfOk result (IsReached s.now) }
+    ensures is { Ok (reached_seen (frames_of s.now) result) ≡ own_reached (table_in s.now) (frame_at s.now frame.0) name.now }
+    ensures stand { IsReached s.now result }
 {
-    match own_named(s, frame, name)? {
-        Some(member) => Ok(Reached::Element(member)),
-        None => Ok(Reached::Absent),
+    match own_named(s, frame, name) {
+        Some(member) => Reached::Element(member),
+        None => Reached::Absent,
     }
 }
 

@@ -183,42 +183,37 @@ fn base_named<'t>(
 }
 
 /// Whether the name begins elsewhere than among the own elements of a frame.
-fn begins_elsewhere(s: &Scopes, frame: FrameId, name: &Reference) -> Result<bool, NoMemory>
+fn begins_elsewhere(s: &Scopes, frame: FrameId, name: &Reference) -> bool
     requires { IsFrame s.now frame.0 }
-    ensures { IfOk result (λ elsewhere. elsewhere ≡ true → BeginsElsewhere (table_in s.now) (frame_at s.now frame.0) name.now.top name.now.parts) }
+    ensures { result ≡ true → BeginsElsewhere (table_in s.now) (frame_at s.now frame.0) name.now.top name.now.parts }
 {
     if name.top {
-        return Ok(true);
+        return true;
     }
     match name.parts.get(0) {
-        Some(part) => Ok(own_named(s, frame, &part.name)?.is_none()),
-        None => Ok(true),
+        Some(part) => own_named(s, frame, &part.name).is_none(),
+        None => true,
     }
 }
 
 /// Whether the base of a frame is that of each frame like it, but for its path and owner: nothing is added to its sources, and
 /// its name begins elsewhere.
-fn is_base_alike(
-    s: &Scopes,
-    frame: FrameId,
-    clause: &Clause,
-    base: FrameId,
-) -> Result<bool, NoMemory>
+fn is_base_alike(s: &Scopes, frame: FrameId, clause: &Clause, base: FrameId) -> bool
     requires frame { IsFrame s.now frame.0 }
     requires base { IsFrame s.now base.0 }
-    ensures row { IfOk result (λ alike. alike ≡ true → is_some (row_of_frame s.now frame.0) ≡ true) }
-    ensures unowned { IfOk result (λ alike. alike ≡ true → unowned (frame_at s.now base.0) ≡ frame_at s.now base.0) }
-    ensures sources { IfOk result (λ alike. alike ≡ true → length (sources_of (frame_at s.now base.0)) ≡ length (sources_of (frame_at s.now frame.0))) }
-    ensures elsewhere { IfOk result (λ alike. alike ≡ true → BeginsElsewhere (table_in s.now) (frame_at s.now frame.0) (clause_seen clause.now).base.top (clause_seen clause.now).base.parts) }
+    ensures row { result ≡ true → is_some (row_of_frame s.now frame.0) ≡ true }
+    ensures unowned { result ≡ true → unowned (frame_at s.now base.0) ≡ frame_at s.now base.0 }
+    ensures sources { result ≡ true → length (sources_of (frame_at s.now base.0)) ≡ length (sources_of (frame_at s.now frame.0)) }
+    ensures elsewhere { result ≡ true → BeginsElsewhere (table_in s.now) (frame_at s.now frame.0) (clause_seen clause.now).base.top (clause_seen clause.now).base.parts }
 {
     if s.row(s.class_of(frame)).is_none() {
-        return Ok(false);
+        return false;
     }
     if !is_unowned(s, base) {
-        return Ok(false);
+        return false;
     }
     if s.sources(base).len() != s.sources(frame).len() {
-        return Ok(false);
+        return false;
     }
     begins_elsewhere(s, frame, clause.base)
 }
@@ -248,7 +243,7 @@ fn base_settled<'t>(
     let base = base_named(alloc, s, frame, clause)?;
     settle(alloc, s, left, base, known)?;
     base_joined(alloc, s, clause.hidden, base, known.as_slice(), so_far)?;
-    let alike = is_base_alike(s, frame, clause, base)?;
+    let alike = is_base_alike(s, frame, clause, base);
     so_far.alike = are_both(so_far.alike, alike);
     Ok(())
 }

@@ -6,6 +6,7 @@ pub mod Mentioned
 pub mod Models
 pub mod Named
 pub mod Numbered
+pub mod OwnNaming
 pub mod PathPicking
 pub mod Picking
 pub mod RowsFound

@@ -61,10 +61,10 @@ found_nowhere (m ∷ members) name is = by (bytes_eq m.name name) (found_nowhere
 -- ---- a name that is put
 
 -- a name that has a place keeps it
-pub name_kept : (held : List ℕ → Option ℕ) (name other : List ℕ) (n : ℕ) → is_some (held name) ≡ true → held other ≡ otherwise (held other) (if bytes_eq name other then Some n else None)
-name_kept held name other n has = by (bytes_eq name other) refl
+pub name_kept : {A : Type 0} (held : List ℕ → Option A) (name other : List ℕ) (n : A) → is_some (held name) ≡ true → held other ≡ otherwise (held other) (if bytes_eq name other then Some n else None)
+name_kept {A = A} held name other n has = by (bytes_eq name other) refl
   where
-    some : (o : Option ℕ) → is_some o ≡ true → o ≡ otherwise o (Some n)
+    some : (o : Option A) → is_some o ≡ true → o ≡ otherwise o (Some n)
     some None h = absurd (cc)
     some (Some m) h = refl
 
@@ -73,11 +73,11 @@ name_kept held name other n has = by (bytes_eq name other) refl
     by false is = sym (or_none (held other))
 
 -- one that has none gets its place
-pub name_put : (held : List ℕ → Option ℕ) (name other : List ℕ) (n : ℕ) (new : Option ℕ) → is_some (held name) ≡ false → new ≡ cond (bytes_eq name other) (Some n) (held other) →
+pub name_put : {A : Type 0} (held : List ℕ → Option A) (name other : List ℕ) (n : A) (new : Option A) → is_some (held name) ≡ false → new ≡ cond (bytes_eq name other) (Some n) (held other) →
     new ≡ otherwise (held other) (if bytes_eq name other then Some n else None)
-name_put held name other n new has is = is ∙ by (bytes_eq name other) refl
+name_put {A = A} held name other n new has is = is ∙ by (bytes_eq name other) refl
   where
-    none : (o : Option ℕ) → is_some o ≡ false → Some n ≡ otherwise o (Some n)
+    none : (o : Option A) → is_some o ≡ false → Some n ≡ otherwise o (Some n)
     none None h = refl
     none (Some m) h = absurd (cc)
 

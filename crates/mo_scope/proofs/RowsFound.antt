@@ -245,12 +245,15 @@ is_first (x ∷ path) name false is = refl
 pub predefined : (files : List FileTree) (number : ℕ) → number < 6 → row_at (table_of files) number ≡ None
 predefined files number below = none_below (table_of files) first_number (class_count files) number (table_numbered files) below
 
--- the row of another class
+-- another class has the row at its place
+pub row_here : {A : Type 0} (seen : A → Row) (files : List FileTree) (rows : List A) (number : ℕ) → map seen rows ≡ table_of files → 6 ≤ number → slice_get (map seen rows) (number - 6) ≡ row_at (table_of files) number
+row_here seen files rows number are past =
+    ap (λ t. slice_get t (number - 6)) are ∙ sym (row_numbered (table_of files) 6 (class_count files) (number - 6) (table_numbered files)) ∙ ap (row_at (table_of files)) (omega arith)
+
 pub row_held : {A : Type 0} (seen : A → Row) (files : List FileTree) (rows : List A) (r : Option (Bor A)) (number : ℕ) → map seen rows ≡ table_of files → 6 ≤ number → option_copied r ≡ slice_get rows (number - 6) →
     option_map seen (option_copied r) ≡ row_at (table_of files) number
 row_held seen files rows r number are past is =
-    ap (option_map seen) is ∙ sym (slice_get-map seen rows (number - 6)) ∙ ap (λ t. slice_get t (number - 6)) are
-    ∙ sym (row_numbered (table_of files) 6 (class_count files) (number - 6) (table_numbered files)) ∙ ap (row_at (table_of files)) (omega arith)
+    ap (option_map seen) is ∙ sym (slice_get-map seen rows (number - 6)) ∙ row_here seen files rows number are past
 
 pub parts_held : {A : Type 0} (seen : A → Row) (files : List FileTree) (rows : List A) (r : Option (Bor A)) (k : ℕ) → map seen rows ≡ table_of files → option_copied r ≡ slice_get rows k →
     IfSome r (λ row. PartsExist (number_of_classes (table_of files)) (seen row.now).parts)

@@ -15,6 +15,7 @@ pub mod Names
 pub mod Open
 pub mod Outcome
 pub mod Own
+pub mod OwnNames
 pub mod Parts
 pub mod Places
 pub mod Redeclarations

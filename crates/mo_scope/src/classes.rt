@@ -1,21 +1,26 @@
 //! All classes of the files.
-ghost use Rattle.std.specs.Prelude.{IfOk};
+ghost use Rattle.std.specs.Prelude.{◌≡◌, map, option_map, slice_get, IfOk};
 ghost use Rattle.mo_scope.specs.Classes.{AreClasses};
+ghost use Rattle.mo_scope.specs.OwnNames.{AreOwnNames, first_at};
+ghost use Rattle.mo_scope.specs.Sights.{declares_seen, row_seen};
 
 use crate::groups::groups_of;
 use crate::making::rows_of;
+use crate::own_names::{OwnNames, own_names_of};
 use crate::places::{Places, places_of};
-use crate::row::Row;
+use crate::row::{Declares, Row};
 use crate::tops::{Tops, tops_of};
 use crate::walk::classes_of;
-use mo_syntax::{FileTree, List, NoMemory};
+use mo_syntax::{FileTree, List, NoMemory, Text};
 use std::alloc::Global;
 
-/// The rows of all classes, which are also found by place and those at the top by name.
+/// The rows of all classes, which are also found by place, those at the top by name, and what each declares itself by name.
 #[derive(Drop)]
 pub(crate) struct Classes<'t> {
     /// In the order of their numbers, from 6.
     pub rows: List<Row<'t>>,
+    /// Beside each row.
+    pub owns: List<OwnNames<'t>>,
     pub places: Places,
     pub tops: Tops<'t>,
 }
@@ -29,7 +34,27 @@ impl<'t> Classes<'t> {
         let places = places_of(alloc, classes.as_slice())?;
         let groups = groups_of(alloc, classes.as_slice())?;
         let rows = rows_of(alloc, &places, &groups, classes.as_slice())?;
+        let owns = own_names_of(alloc, rows.as_slice())?;
         let tops = tops_of(alloc, rows.as_slice())?;
-        Ok(Classes { rows, places, tops })
+        Ok(Classes {
+            rows,
+            owns,
+            places,
+            tops,
+        })
+    }
+
+    /// The first element of that name that the class with that row declares itself, with how many of its elements stand before it.
+    pub fn first_own(&self, at: usize, name: &Text) -> Option<(u32, Declares<'t>)>
+        requires { AreOwnNames self.now.owns self.now.rows }
+        ensures { option_map (λ found. (found.0, declares_seen found.1)) result ≡ first_at name.now (slice_get (map row_seen self.now.rows) at) }
+    {
+        match self.rows.get(at) {
+            Some(row) => match self.owns.get(at) {
+                Some(names) => names.first(row.parts.as_slice(), name),
+                None => None,
+            },
+            None => None,
+        }
     }
 }

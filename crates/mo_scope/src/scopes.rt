@@ -3,8 +3,9 @@ ghost use Rattle.std.specs.Prelude.{◌≡◌, List as Seq, ◌+◌, ◌<◌, []
 ghost use Rattle.mo_syntax.specs.SoundTree.{IsSoundTree};
 ghost use Rattle.mo_scope.specs.Frames.{class_of, sources_of, outer_of, at_of, owner_of, is_top, In, gathered};
 ghost use Rattle.mo_scope.specs.Rows.{number_of_classes, row_at, number_at, number_of_element, class_number, top_number};
+ghost use Rattle.mo_scope.specs.Lookup.{named, own_members};
 ghost use Rattle.mo_scope.specs.Parts.{declared_in};
-ghost use Rattle.mo_scope.specs.Sights.{source_seen, row_seen, declares_seen, frame_at_or_top, sources_at};
+ghost use Rattle.mo_scope.specs.Sights.{source_seen, row_seen, declares_seen, frame_at_or_top, member_at, sources_at};
 ghost use Rattle.mo_scope.specs.Entries.{entry_seen, table_seen, number_of};
 ghost use Rattle.mo_scope.specs.Worlds.{MemberEntry, IsTable, AreFrames, AreHomes, kept_table, IsFrameOrNone, IsFrame, IsEntry, Grows, frame_at, frame_of_entry, frames_of, sources_in, table_in, AreElements};
 ghost use Rattle.mo_scope.specs.Calls.{RowExists, bare_frame, IsBareEntry, IsEnteredFrame, IsOldOrNext};
@@ -14,7 +15,7 @@ use crate::declaring::declared_by;
 use crate::entered::{Entered, standing_of};
 use crate::frame::FrameData;
 use crate::frame_sources::FrameSources;
-use crate::row::{Declares, Row};
+use crate::row::{Declares, Member, Row};
 use crate::source::Source;
 use crate::table::MemberTable;
 use mo_syntax::{
@@ -113,6 +114,29 @@ impl<'t> Scopes<'t> {
             return None;
         }
         self.classes.rows.get((class.0 - 6) as usize)
+    }
+
+    /// The first element of that name that the class of a frame declares itself, None where it declares none.
+    pub fn own_member(&self, frame: FrameId, name: &Text) -> Option<Member<'t>>
+        requires { IsFrame self.now frame.0 }
+        ensures is { option_map (member_at self.now) result ≡ named name.now (own_members (table_in self.now) (frame_at self.now frame.0)) }
+        ensures home { IfSome result (λ member. member.home.0 ≡ frame.0) }
+        ensures class { IfSome result (λ member. class_number (declares_seen member.declares) < number_of_classes (table_in self.now)) }
+    {
+        let class = self.class_of(frame);
+        if class.0 < 6 {
+            return None;
+        }
+        match self.classes.first_own((class.0 - 6) as usize, name) {
+            Some(first) => Some(Member {
+                name: first.1.name,
+                home: frame,
+                item: first.0,
+                hidden: first.1.flags.hidden,
+                declares: first.1,
+            }),
+            None => None,
+        }
     }
 
     /// How many classes there are besides the predefined types.

@@ -26,7 +26,7 @@ pub(crate) fn put<T: Drop>(made: &mut List<T>, item: Option<T>) -> Result<(), No
 }
 
 /// Whether there is neither an argument nor a value.
-pub(crate) fn is_nothing(modifiers: &Modifiers<'_>) -> bool
+pub fn is_nothing(modifiers: &Modifiers<'_>) -> bool
     ensures { result ≡ holds_nothing (modifiers_seen modifiers.now) }
 {
     modifiers.list.is_empty() && modifiers.value.is_none()
@@ -132,7 +132,7 @@ pub(crate) fn without_value(source: Source<'_>) -> Source<'_>
 }
 
 /// The modifiers that a redeclaration brings: its own if it wins, else those of its constraining clause if it has one.
-pub(crate) fn brought<'t>(wins: bool, declares: &Declares<'t>) -> Modifiers<'t>
+pub fn brought<'t>(wins: bool, declares: &Declares<'t>) -> Modifiers<'t>
     ensures { modifiers_seen result ≡ (if wins then (declares_seen declares.now).own else or_own (declares_seen declares.now).limit (declares_seen declares.now)) }
 {
     if wins {

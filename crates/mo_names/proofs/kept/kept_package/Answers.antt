@@ -8,5 +8,5 @@ use Rattle.mo_names.proofs.kept.kept_package.Goals as goal
 pub returns-in-Some : goal.returns-in-Some
 returns-in-Some c =
     kept_package (table_in c.args.s.now) (asks (table_in c.args.s.now) c.args.ask.now) c.args.ask.now.place (frame_at c.args.s.now c.args.frame.0)
-    (map (member_in (frames_of c.args.s.now)) c.in-Some.table.now) c.in-Some.ensures.free c.in-Some.ensures.elements
+    (map (member_in (frames_of c.args.s.now)) c.in-Some.table.now) (c.in-Some.ensures.same c.args.ask.now.place) c.in-Some.ensures.idle c.in-Some.ensures.elements
     ∙ ap (λ (all : Bool). Ok all) (open_entries (frames_of c.args.s.now) c.in-Some.table.now ∙ sym c.is_open.ensures)

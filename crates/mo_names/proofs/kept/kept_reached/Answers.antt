@@ -18,7 +18,7 @@ returns-in-Some-find-clause-is c =
     let is : find (λ (member : MemberEntry). bytes_eq member.name c.args.name.now) c.in-Some.table.now ≡ Some (member_seen c.in-Some-find.member.now) =
     sym c.find.ensures ∙ ap (λ (o : Option (Bor MemberAt)). option_map member_seen (option_copied o)) c.in-Some-find.is in
     kept_element (table_in c.args.s.now) (asks (table_in c.args.s.now) c.args.ask.now) c.args.ask.now.place (frame_at c.args.s.now c.args.frame.0)
-    (frames_of c.args.s.now) c.in-Some.table.now c.args.name.now (member_seen c.in-Some-find.member.now) c.in-Some.ensures.free c.in-Some.ensures.elements is
+    (frames_of c.args.s.now) c.in-Some.table.now c.args.name.now (member_seen c.in-Some-find.member.now) (c.in-Some.ensures.same c.args.ask.now.place) c.in-Some.ensures.elements is
 
 pub returns-in-Some-find-clause-exists : goal.returns-in-Some-find-clause-exists
 returns-in-Some-find-clause-exists c =
@@ -34,4 +34,4 @@ returns-in-None-clause-is c =
     let held : 0 < length c.members.result.now = grind (arith, nat_tests, c.if-is_empty.ensures) in
     let some : 0 < length c.in-Some.table.now = omega (arith, held, length-map c.members.result.now member_seen, ap length c.members.ensures) in
     kept_absent (table_in c.args.s.now) (asks (table_in c.args.s.now) c.args.ask.now) c.args.ask.now.place (frame_at c.args.s.now c.args.frame.0)
-    (frames_of c.args.s.now) c.in-Some.table.now c.args.name.now c.in-Some.ensures.free c.in-Some.ensures.elements is some
+    (frames_of c.args.s.now) c.in-Some.table.now c.args.name.now (c.in-Some.ensures.same c.args.ask.now.place) c.in-Some.ensures.elements is some

@@ -11,15 +11,15 @@ use Rattle.mo_names.proofs.kept.walk_kept.Goals as goal
 pub elements_kept-requires-clause-elements : goal.elements_kept-requires-clause-elements
 elements_kept-requires-clause-elements c =
     asked_elements (table_in c.args.s.now) (asks (table_in c.args.s.now) c.args.ask.now) c.args.ask.now.place (frame_at c.args.s.now c.args.frame.0) _
-    (c.is_free.ensures c.if-not-is_free.false) c.requires.is
+    (c.is_unhindered.ensures.same c.if-not-is_unhindered.false c.args.ask.now.place) c.requires.is
     ∙ found_elements (frames_of c.args.s.now) c.args.walk.now c.as_slice-2.result.now _ refl (c.as_slice-2.ensures ∙ c.in_ok-members.ensures ∙ ap held c.as_slice.ensures)
 
 pub elements_kept-requires-clause-members : goal.elements_kept-requires-clause-members
 elements_kept-requires-clause-members c =
     subst (Every (IsMember c.args.s.now)) (sym (c.as_slice-2.ensures ∙ c.in_ok-members.ensures ∙ ap held c.as_slice.ensures)) (held_stand c.args.s.now c.args.walk.now.members c.requires.stands.members)
 
-pub returns-then-not-is_free : goal.returns-then-not-is_free
-returns-then-not-is_free c = record { grows = grows_refl _ }
+pub returns-then-not-is_unhindered : goal.returns-then-not-is_unhindered
+returns-then-not-is_unhindered c = record { grows = grows_refl _ }
 
 pub returns-then-is_some : goal.returns-then-is_some
 returns-then-is_some c = record { grows = grows_refl _ }

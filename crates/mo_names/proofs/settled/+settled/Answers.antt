@@ -40,8 +40,8 @@ pub base_settled-returns-clause-owned : goal.base_settled-returns-clause-owned
 base_settled-returns-clause-owned t c =
     λ alike. base_told_owned c.args.s.now c.base_named.new.s c.settle.new.s c.args.frame.0 (clause_seen c.args.clause.now) c.in_ok-base.base.0 c.args.so_far.now c.base_joined.new.so_far
     c.in_ok-base.ensures.grows c.in_ok-settle.ensures.grows c.requires.frame c.in_ok-base.ensures.stand c.requires.so_far c.in_ok-base.ensures.value c.in_ok-base_joined.ensures.joined
-    (c.are_both-so_far.ensures.first alike) (c.in_ok-alike.ensures.row (c.are_both-so_far.ensures.second alike)) (c.in_ok-alike.ensures.unowned (c.are_both-so_far.ensures.second alike))
-    (c.in_ok-alike.ensures.sources (c.are_both-so_far.ensures.second alike)) (c.in_ok-alike.ensures.elsewhere (c.are_both-so_far.ensures.second alike))
+    (c.are_both-so_far.ensures.first alike) (c.is_base_alike-alike.ensures.row (c.are_both-so_far.ensures.second alike)) (c.is_base_alike-alike.ensures.unowned (c.are_both-so_far.ensures.second alike))
+    (c.is_base_alike-alike.ensures.sources (c.are_both-so_far.ensures.second alike)) (c.is_base_alike-alike.ensures.elsewhere (c.are_both-so_far.ensures.second alike))
 
 pub base_settled-returns-clause-further : goal.base_settled-returns-clause-further
 base_settled-returns-clause-further t c = record {
@@ -213,35 +213,14 @@ base_settled-returns-in_err-base_joined-clause-item t c = at_exit _ _ c.from_res
 pub base_settled-returns-in_err-base_joined-clause-stand : goal.base_settled-returns-in_err-base_joined-clause-stand
 base_settled-returns-in_err-base_joined-clause-stand t c = at_exit _ _ c.from_residual-in_err-base_joined.result c.from_residual-in_err-base_joined.ensures.1
 
-pub base_settled-returns-in_err-alike-clause-grows : goal.base_settled-returns-in_err-alike-clause-grows
-base_settled-returns-in_err-alike-clause-grows t c = grows_trans c.args.s.now c.base_named.new.s c.settle.new.s c.in_ok-base.ensures.grows c.in_ok-settle.ensures.grows
-
-pub base_settled-returns-in_err-alike-clause-known : goal.base_settled-returns-in_err-alike-clause-known
-base_settled-returns-in_err-alike-clause-known t c = at_exit _ _ c.from_residual-in_err-alike.result c.from_residual-in_err-alike.ensures.1
-
-pub base_settled-returns-in_err-alike-clause-told : goal.base_settled-returns-in_err-alike-clause-told
-base_settled-returns-in_err-alike-clause-told t c = at_exit _ _ c.from_residual-in_err-alike.result c.from_residual-in_err-alike.ensures.1
-
-pub base_settled-returns-in_err-alike-clause-owned : goal.base_settled-returns-in_err-alike-clause-owned
-base_settled-returns-in_err-alike-clause-owned t c = at_exit _ _ c.from_residual-in_err-alike.result c.from_residual-in_err-alike.ensures.1
-
-pub base_settled-returns-in_err-alike-clause-further : goal.base_settled-returns-in_err-alike-clause-further
-base_settled-returns-in_err-alike-clause-further t c = at_exit _ _ c.from_residual-in_err-alike.result c.from_residual-in_err-alike.ensures.1
-
-pub base_settled-returns-in_err-alike-clause-item : goal.base_settled-returns-in_err-alike-clause-item
-base_settled-returns-in_err-alike-clause-item t c = at_exit _ _ c.from_residual-in_err-alike.result c.from_residual-in_err-alike.ensures.1
-
-pub base_settled-returns-in_err-alike-clause-stand : goal.base_settled-returns-in_err-alike-clause-stand
-base_settled-returns-in_err-alike-clause-stand t c = at_exit _ _ c.from_residual-in_err-alike.result c.from_residual-in_err-alike.ensures.1
-
 pub base_settled-base_joined-requires-clause-known : goal.base_settled-base_joined-requires-clause-known
 base_settled-base_joined-requires-clause-known t c = subst (AreSettled c.settle.new.s) (sym c.as_slice.ensures) c.in_ok-settle.ensures.known
 
-pub base_settled-is_base_alike-requires-clause-frame : goal.base_settled-is_base_alike-requires-clause-frame
-base_settled-is_base_alike-requires-clause-frame t c = is_frame_later c.args.s.now c.settle.new.s c.args.frame.0 (grows_trans c.args.s.now c.base_named.new.s c.settle.new.s c.in_ok-base.ensures.grows c.in_ok-settle.ensures.grows) c.requires.frame
+pub base_settled-is_base_alike-alike-requires-clause-frame : goal.base_settled-is_base_alike-alike-requires-clause-frame
+base_settled-is_base_alike-alike-requires-clause-frame t c = is_frame_later c.args.s.now c.settle.new.s c.args.frame.0 (grows_trans c.args.s.now c.base_named.new.s c.settle.new.s c.in_ok-base.ensures.grows c.in_ok-settle.ensures.grows) c.requires.frame
 
-pub base_settled-is_base_alike-requires-clause-base : goal.base_settled-is_base_alike-requires-clause-base
-base_settled-is_base_alike-requires-clause-base t c = is_frame_later c.base_named.new.s c.settle.new.s c.in_ok-base.base.0 c.in_ok-settle.ensures.grows c.in_ok-base.ensures.stand
+pub base_settled-is_base_alike-alike-requires-clause-base : goal.base_settled-is_base_alike-alike-requires-clause-base
+base_settled-is_base_alike-alike-requires-clause-base t c = is_frame_later c.base_named.new.s c.settle.new.s c.in_ok-base.base.0 c.in_ok-settle.ensures.grows c.in_ok-base.ensures.stand
 
 pub base_settled-returns-clause-grows : goal.base_settled-returns-clause-grows
 base_settled-returns-clause-grows t c = grows_trans c.args.s.now c.base_named.new.s c.settle.new.s c.in_ok-base.ensures.grows c.in_ok-settle.ensures.grows

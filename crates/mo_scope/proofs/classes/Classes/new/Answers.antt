@@ -1,8 +1,9 @@
 -- The classes are those of the files.
-use Rattle.std.proofs.Common.{◌≡◌, find, map, ap, ◌∙◌}
+use Rattle.std.proofs.Common.{◌≡◌, find, map, ap, ◌∙◌, subst}
 use Rattle.std.specs.Prelude.{option_map}
 use Rattle.std.specs.Str.{bytes_eq}
 use Rattle.mo_scope.specs.Held.{number_held, group_held, placed_among, row_with}
+use Rattle.mo_scope.specs.OwnNames.{AreOwnNames}
 use Rattle.mo_scope.specs.steps.Listed.{class_seen}
 use Rattle.mo_scope.specs.Rows.{number_among, placed_part, table_of, top_classes, entries_of}
 use Rattle.mo_scope.specs.Sights.{row_seen}
@@ -19,8 +20,9 @@ returns c =
     (λ path. c.in_ok-groups.ensures path ∙ ap (λ classes. map placed_part (placed_among path (map class_seen classes))) c.as_slice-2.ensures) in
     record {
       rows = rows;
+      owns = subst (AreOwnNames c.in_ok-owns.owns) c.as_slice-4.ensures c.in_ok-owns.ensures;
       places = λ place. c.in_ok-places.ensures place ∙ ap (λ classes. number_among (map class_seen classes) place) c.as_slice.ensures
           ∙ number_at_table c.args.files.now (map class_seen c.in_ok-classes.classes) place listed;
       tops = λ name. c.in_ok-tops.ensures name
-          ∙ ap (λ table. option_map (λ row. row.number) (find (λ row. bytes_eq row.class.name name) (top_classes table))) (ap (map row_seen) c.as_slice-4.ensures ∙ rows);
+          ∙ ap (λ table. option_map (λ row. row.number) (find (λ row. bytes_eq row.class.name name) (top_classes table))) (ap (map row_seen) c.as_slice-5.ensures ∙ rows);
     }
