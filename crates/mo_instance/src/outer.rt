@@ -6,10 +6,9 @@ ghost use Rattle.std.specs.List.{list_any};
 ghost use Rattle.mo_scope.specs.Frames.{Frame};
 ghost use Rattle.mo_scope.specs.Names.{component_frame};
 ghost use Rattle.mo_scope.specs.Outcome.{Gives};
-ghost use Rattle.mo_scope.specs.Parts.{is_nothing as holds_nothing};
 ghost use Rattle.mo_scope.specs.Redeclarations.{Checked};
 ghost use Rattle.mo_scope.specs.Rows.{component_of as component_declared};
-ghost use Rattle.mo_scope.specs.Sights.{declares_seen, modifiers_seen, member_at};
+ghost use Rattle.mo_scope.specs.Sights.{declares_seen, member_at};
 ghost use Rattle.mo_scope.specs.Sizes.{is_nothing as is_empty};
 ghost use Rattle.mo_scope.specs.Worlds.{Grows, IsFrame, table_in};
 ghost use Rattle.mo_names.specs.Children.{IsChild, child_at};
@@ -23,16 +22,9 @@ use crate::spoken::{Spoken, all_spoken};
 use mo_lookup::{child_of_member, enter_child, inner_of};
 use mo_names::Child;
 use mo_redeclare::{compatible, dimension_count, prefix_of};
-use mo_scope::{Declares, Member, Modifiers, Scopes, component_of};
+use mo_scope::{Declares, Member, Scopes, component_of, is_nothing};
 use mo_syntax::{NoMemory, Place, Stop, Text, rules, stop};
 use std::alloc::Global;
-
-/// Whether there is neither an argument nor a value.
-fn is_nothing(modifiers: &Modifiers) -> bool
-    ensures { result ≡ holds_nothing (modifiers_seen modifiers.now) }
-{
-    modifiers.list.is_empty() && modifiers.value.is_none()
-}
 
 /// Whether what is declared has a condition.
 fn has_condition(declares: &Declares) -> bool

@@ -4,7 +4,7 @@ ghost use Rattle.mo_scope.specs.Frames.{Frame};
 ghost use Rattle.mo_scope.specs.Outcome.{Gives};
 ghost use Rattle.mo_scope.specs.Rows.{component_of};
 ghost use Rattle.mo_scope.specs.Sights.{declares_seen, redeclaration_in, member_at};
-ghost use Rattle.mo_scope.specs.Sizes.{count_sizes, declared_sizes, is_nothing, sizes_if, sizes_in, type_sizes};
+ghost use Rattle.mo_scope.specs.Sizes.{count_sizes, declared_sizes, sizes_if, sizes_in, type_sizes};
 ghost use Rattle.mo_scope.specs.Worlds.{World, Grows, IsFrame, frame_at, frames_of, scope_in, table_in};
 ghost use Rattle.mo_names.specs.Children.{IsChild, child_at};
 ghost use Rattle.mo_names.specs.Sights.{IsMember, member_of};
@@ -25,15 +25,6 @@ pub struct Sizes<'t> {
     pub scope: ScopeAt,
 }
 
-fn is_nothing(subscripts: &[Option<Expr>]) -> bool
-    ensures { result ≡ is_nothing subscripts.now }
-{
-    match subscripts {
-        [] => true,
-        [_, ..] => false,
-    }
-}
-
 /// Puts dimensions at the end, if there are some.
 fn put_sizes<'t>(
     alloc: Global,
@@ -44,7 +35,7 @@ fn put_sizes<'t>(
     ensures there { (world : World) → IsFrame world scope.now.frame.0 → AreSized world made.old → OnOk result (AreSized world made.new) }
     ensures exact { OnOk result ((frames : Seq Frame) → sizes_seen frames made.new ≡ sizes_seen frames made.old ++ sizes_if subscripts.now (scope_in frames scope.now.frame.0 scope.now.iters)) }
 {
-    if is_nothing(subscripts) {
+    if subscripts.is_empty() {
         return Ok(());
     }
     let scope = copied_scope(alloc, scope)?;

@@ -2,14 +2,16 @@
 ghost use Rattle.std.specs.Prelude.{◌≡◌, ◌++◌, ◌∷◌, [], List as Seq, true, map, option_copied, option_map, if◌then◌else◌, IfOk, OnOk};
 ghost use Rattle.std.specs.Option.{option_to_list};
 ghost use Rattle.mo_scope.specs.Frames.{Frame};
-ghost use Rattle.mo_scope.specs.Parts.{held, is_nothing as holds_nothing, nested, or_own};
-ghost use Rattle.mo_scope.specs.Sights.{declares_seen, given_seen, modifiers_seen};
+ghost use Rattle.mo_scope.specs.Parts.{held, nested};
+ghost use Rattle.mo_scope.specs.Sights.{given_seen, modifiers_seen};
 ghost use Rattle.mo_scope.specs.Worlds.{table_in};
 ghost use Rattle.mo_mods.specs.Left.{Said as SaidOf, anew_first as first_anew, left_behind as left_behind_name, left_with as left_with_list, lefts_said as lefts_of_said, said_by as said_by_argument, value_left as value_of_left};
 ghost use Rattle.mo_mods.specs.Sights.{left_in, left_of_source, redeclared_in, said_in, value_in};
 
 use crate::env::{MergedValue, RedeclaredAt, value_of};
-use mo_scope::{Declares, Given, Modifiers, ScopeAt, Scopes, Source, copied, copied_scope};
+use mo_scope::{
+    Declares, Given, Modifiers, ScopeAt, Scopes, Source, brought, copied, copied_scope, is_nothing,
+};
 use mo_syntax::{Argument, Expr, Give, List, NoMemory};
 use std::alloc::Global;
 
@@ -164,27 +166,6 @@ pub(crate) fn value_left<'t>(
         }
     }
     Ok(None)
-}
-
-/// Whether there is neither an argument nor a value.
-fn is_nothing(modifiers: &Modifiers<'_>) -> bool
-    ensures { result ≡ holds_nothing (modifiers_seen modifiers.now) }
-{
-    modifiers.list.is_empty() && modifiers.value.is_none()
-}
-
-/// The modifiers that a declaration anew brings: its own if it is the first, else those of its constraining clause if it has
-/// one.
-fn brought<'t>(wins: bool, declares: &Declares<'t>) -> Modifiers<'t>
-    ensures { modifiers_seen result ≡ (if wins then (declares_seen declares.now).own else or_own (declares_seen declares.now).limit (declares_seen declares.now)) }
-{
-    if wins {
-        return declares.own;
-    }
-    match declares.limit {
-        Some(limit) => limit.modifiers,
-        None => declares.own,
-    }
 }
 
 /// What is left with the list of a declaration in its place, None where that is empty.

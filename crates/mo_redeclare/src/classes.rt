@@ -17,16 +17,10 @@ ghost use Rattle.mo_redeclare.specs.steps.Sights.{IsRedeclaration};
 use crate::names::{class_at, class_at_home};
 use mo_scope::{
     Given, Listing, Member, Modifiers, Redeclaration, Scopes, Sort, Source, copied, copied_scope,
+    is_nothing,
 };
 use mo_syntax::{ClassId, FrameId, List, NoMemory, Stop, both};
 use std::alloc::Global;
-
-/// Whether there is neither an argument nor a value.
-fn is_nothing(modifiers: &Modifiers) -> bool
-    ensures { result ≡ holds_nothing (modifiers_seen modifiers.now) }
-{
-    modifiers.list.is_empty() && modifiers.value.is_none()
-}
 
 /// The source with a modifier list in its place. It has not passed through a component yet.
 fn listed_source<'t>(

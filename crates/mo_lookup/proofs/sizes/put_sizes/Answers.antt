@@ -1,4 +1,7 @@
-use Rattle.std.proofs.Common.{◌≡◌, ◌∙◌, ◌++◌, true, false, ap, sym, refl, rules}
+-- Nothing is put where there are no dimensions.
+use Rattle.std.proofs.Common.{◌≡◌, ◌∙◌, ◌∷◌, ◌++◌, [], List, Bool, true, false, length, ap, arith, sym, refl, rules}
+use Rattle.std.specs.Bool.{◌==◌}
+use Rattle.std.proofs.lemmas.Bool.Decides.{nat_tests}
 use Rattle.std.proofs.lemmas.List.{append-nil}
 use Rattle.mo_scope.specs.Sizes.{is_nothing}
 use Rattle.mo_scope.specs.Worlds.{IsFrame}
@@ -6,10 +9,16 @@ use Rattle.mo_lookup.specs.Sizing.{sizes_seen}
 use Rattle.mo_lookup.proofs.Written.{every_behind, size_put}
 use Rattle.mo_lookup.proofs.sizes.put_sizes.Goals as goal
 
-pub returns-then-is_nothing-clause-exact : goal.returns-then-is_nothing-clause-exact
-returns-then-is_nothing-clause-exact c = λ frames.
-    let yes : c.is_nothing.result ≡ true = search rules in
-    let none : is_nothing c.args.subscripts.now ≡ true = sym c.is_nothing.ensures ∙ yes in
+-- whether there are no dimensions
+nothing : {A : Type 0} (xs : List A) (b : Bool) → b ≡ (length xs == 0) → is_nothing xs ≡ b
+nothing [] b told = sym told
+nothing (x ∷ xs) true told = absurd (let none : length (x ∷ xs) ≡ 0 = grind (arith, nat_tests, told) in cc)
+nothing (x ∷ xs) false told = refl
+
+pub returns-then-is_empty-clause-exact : goal.returns-then-is_empty-clause-exact
+returns-then-is_empty-clause-exact c = λ frames.
+    let yes : c.is_empty.result ≡ true = search rules in
+    let none : is_nothing c.args.subscripts.now ≡ true = nothing c.args.subscripts.now c.is_empty.result c.is_empty.ensures ∙ yes in
     rw none (sym (append-nil (sizes_seen frames c.args.made.now)))
 
 pub returns-clause-there : goal.returns-clause-there
@@ -18,6 +27,6 @@ returns-clause-there c = λ world is are.
 
 pub returns-clause-exact : goal.returns-clause-exact
 returns-clause-exact c = λ frames.
-    let no : c.is_nothing.result ≡ false = search rules in
-    let some : is_nothing c.args.subscripts.now ≡ false = sym c.is_nothing.ensures ∙ no in
+    let no : c.is_empty.result ≡ false = search rules in
+    let some : is_nothing c.args.subscripts.now ≡ false = nothing c.args.subscripts.now c.is_empty.result c.is_empty.ensures ∙ no in
     rw (c.in_ok-push.ensures.ok, some) (size_put frames c.args.made.now _ ∙ ap (λ xs. sizes_seen frames c.args.made.now ++ xs) (rw c.in_ok-scope.ensures refl))

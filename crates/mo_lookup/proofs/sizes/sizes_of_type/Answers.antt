@@ -1,5 +1,5 @@
 -- The way ends, comes back, or leads on.
-use Rattle.std.proofs.Common.{◌≡◌, ◌∙◌, Bool, true, false, sym, arith}
+use Rattle.std.proofs.Common.{◌≡◌, ◌∙◌, true, false, sym, arith}
 use Rattle.mo_scope.specs.Frames.{class_of}
 use Rattle.mo_scope.specs.Lookup.{contains}
 use Rattle.mo_scope.specs.Worlds.{frame_at, frames_of}
