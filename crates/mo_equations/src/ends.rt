@@ -261,8 +261,10 @@ fn declared_first<'t>(
     ensures value { GivesSeen (member_at s.new) result (first_component (table_in s.old) top (scope_at s.old at.now) part.now) }
     ensures exists { IfOk result (IsMember s.new) }
 {
-    let found = find_declared(alloc, s, at, top, &part.name, part.place)?;
-    component_found(found, part.place)
+    match find_declared(alloc, s, at, top, &part.name, part.place) {
+        Ok(found) => component_found(found, part.place),
+        Err(stop) => Err(stop),
+    }
 }
 
 /// The components that a name finds, one behind the other, as they are declared.
