@@ -45,6 +45,11 @@ def parameters(n):
     return model([f"parameter Real p{k} = {k}.0" for k in range(n)], [])
 
 
+def typed(n):
+    """Names of bases: n components of a type that is declared beside them."""
+    return model(["type T = Real(unit = \"m\")"] + [f"T x{k} = {k}.0" for k in range(n)], [])
+
+
 def apart(n):
     """n equations that have nothing to do with one another."""
     return model([f"Real x{k}" for k in range(n)], [f"der(x{k}) = time - x{k}" for k in range(n)])
@@ -107,6 +112,7 @@ SERIES = {
     "annotation": (annotation, "flat", (20000, 60000, 180000)),
     "classes": (classes, "flat", (5000, 15000, 45000)),
     "parameters": (parameters, "flat", (5000, 15000, 45000)),
+    "typed": (typed, "flat", (900, 2700, 8100)),
     "apart": (apart, "report", (5000, 15000, 45000)),
     "circuit": (circuit, "report", (2500, 7500, 22500)),
     "dense": (dense, "report", (25000, 75000, 225000)),
