@@ -1,16 +1,15 @@
 -- Where the class of a frame has no extends clause, its elements are the same whichever other classes are having their bases found.
-use Rattle.std.proofs.Common.{◌≡◌, ℕ, ◌+◌, ◌<◌, Bool, true, false, List, [], ◌∷◌, map, Option, Some, None, Ok, Err, refl, ap, sym, ◌∙◌, arith}
+use Rattle.std.proofs.Common.{◌≡◌, ℕ, ◌+◌, ◌<◌, Bool, true, false, List, [], ◌∷◌, Option, Some, None, Ok, Err, refl, ap, sym, ◌∙◌, arith}
+use Rattle.std.specs.List.{list_any}
 use Rattle.std.specs.Prelude.{◌++◌, ◌-◌, not, if◌then◌else◌}
 use Rattle.mo_syntax.specs.Outcome.{Outcome, and_then, breaks}
 use Rattle.mo_syntax.specs.declared.place.Place.{Place}
 use Rattle.mo_syntax.specs.declared.rules.TheConstants.{OUTSIDE_PROFILE}
-use Rattle.mo_scope.specs.declared.row.Part.{Part as PartAt}
-use Rattle.mo_scope.specs.declared.row.Row.{Row as RowAt}
+use Rattle.mo_scope.specs.Extending.{is_clause, is_extending}
 use Rattle.mo_scope.specs.Rows.{Table, Row, Part, Element_of, Base_of, clauses_in, is_left_out, number_of_classes, row_at}
 use Rattle.mo_scope.specs.Frames.{Frame, class_of}
 use Rattle.mo_scope.specs.Lookup.{Walked, Asking, asking_of, contains, leaf_checked, leaf_of, nothing_walked, walked_class, walked_parts, with_member}
 use Rattle.mo_scope.specs.Names.{clauses_of}
-use Rattle.mo_scope.specs.Sights.{part_seen, row_seen}
 use Rattle.mo_names.specs.Sights.{asking_at}
 use Rattle.mo_names.proofs.Circling.{walked_further}
 
@@ -44,14 +43,18 @@ elements_alike table left busy place frame some idle none =
     sym (walked_further table left busy place frame some idle) ∙ class_alike table (asking_at table (left - 1) (busy ++ class_of frame ∷ [])) (asking_at table (number_of_classes table - 1) ([] ++ class_of frame ∷ [])) frame none
     ∙ walked_further table (number_of_classes table) [] place frame (omega arith) refl
 
--- what the row of a class tells of its extends clauses
-pub row_alone : (table : Table) (frame : Frame) (class : ℕ) (row : RowAt) (parts : List PartAt) → class ≡ class_of frame → Some (row_seen row) ≡ row_at table class → parts ≡ row.parts →
-    clauses_in (map part_seen parts) ≡ [] → clauses_of table frame ≡ []
-row_alone table frame class row parts is at same none =
-    clauses_row table frame (row_seen row) (ap (row_at table) (sym is) ∙ sym at) ∙ ap (λ (ps : List PartAt). clauses_in (map part_seen ps)) (sym same) ∙ none
+-- a class that is not extending has none
+no_clauses : (parts : List Part) → list_any is_clause parts ≡ false → clauses_in parts ≡ []
+no_clauses [] none = refl
+no_clauses (Element_of declares ∷ parts) none = no_clauses parts none
+no_clauses (Base_of clause ∷ parts) none = absurd (cc)
 
-pub nothing_alone : (table : Table) (frame : Frame) (class : ℕ) → class ≡ class_of frame → None ≡ row_at table class → clauses_of table frame ≡ []
-nothing_alone table frame class is at = let none : row_at table (class_of frame) ≡ None = ap (row_at table) (sym is) ∙ sym at in rw none refl
+pub row_alone : (table : Table) (frame : Frame) → is_extending (row_at table (class_of frame)) ≡ false → clauses_of table frame ≡ []
+row_alone table frame none = by (row_at table (class_of frame)) refl
+  where
+    by : (o : Option Row) → row_at table (class_of frame) ≡ o → clauses_of table frame ≡ []
+    by None e = rw e refl
+    by (Some row) e = clauses_row table frame row e ∙ no_clauses row.parts (sym (ap is_extending e) ∙ none)
 
 pub is_false : (b : Bool) → not b ≡ true → b ≡ false
 is_false true is = absurd (cc)

@@ -19,7 +19,7 @@ use Rattle.mo_names.specs.Past.{Past, Found_past, Around, Next, Ends, Goes_on, G
 use Rattle.mo_names.specs.declared.past.Next.TheVariants.{Ends as ends_at}
 use Rattle.mo_names.specs.steps.Lookup.{all_met, counted_reached, element_behind, element_met, imported_met, open_element, reached_behind, reached_by_star, shown}
 use Rattle.mo_names.proofs.Circling.{go_on, or_on, outwards_step, then_same, then_then}
-use Rattle.mo_names.proofs.Outwards.{here_told, past_told}
+use Rattle.mo_names.proofs.WalkOutwards.{here_told, past_told}
 use Rattle.mo_names.proofs.Later.{found_later, frame_later, is_found_later, is_frame_later, table_later}
 use Rattle.mo_syntax.specs.declared.rules.TheConstants.{WRONG_KIND_OF_NAME, NAME_NOT_FOUND}
 

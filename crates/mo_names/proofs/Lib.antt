@@ -10,7 +10,6 @@ pub mod Listing
 pub mod MembersExist
 pub mod Naming
 pub mod Outcomes
-pub mod Outwards
 pub mod OwnedWalks
 pub mod OwnElements
 pub mod OwnFirst
@@ -22,3 +21,4 @@ pub mod Tables
 pub mod Twins
 pub mod Walking
 pub mod WalkNames
+pub mod WalkOutwards

@@ -10,7 +10,7 @@ ghost use Rattle.mo_names.specs.Sights.{IsWalk, walk_at};
 use crate::found::Ask;
 use crate::free::class_count;
 use crate::kept::walk_kept;
-use crate::own::{has_base, own_named};
+use crate::own::own_named;
 use crate::reach::is_closed;
 use crate::settled::walked_once;
 use crate::walk::Walk;
@@ -60,7 +60,7 @@ fn may_be_inherited(s: &Scopes, frame: FrameId, name: &Text) -> bool
     if s.table(frame).is_some() {
         return false;
     }
-    if !has_base(s, frame) {
+    if !s.has_base(frame) {
         return false;
     }
     own_named(s, frame, name).is_none()

@@ -1,13 +1,13 @@
 //! Names of classes and bases: the second half of the circle.
 #![tactic(auto, using(crate::proofs::Later::later))]
 
-ghost use Rattle.std.specs.Prelude.{◌≡◌, ◌<◌, drop, IfOk};
-ghost use Rattle.mo_scope.specs.Lookup.{base_class as class_of_base, class_behind as classes_behind, class_named as named_class, found_from as found_outwards, walked_class as class_walked};
+ghost use Rattle.std.specs.Prelude.{◌≡◌, ◌<◌, true, false, drop, IfOk, Some};
+ghost use Rattle.mo_scope.specs.Lookup.{base_class as class_of_base, behind_class as found_behind_class, class_behind as classes_behind, class_named as named_class, found_from as found_outwards, walked_class as class_walked};
 ghost use Rattle.mo_scope.specs.Outcome.{Gives};
 ghost use Rattle.mo_scope.specs.Rows.{number_of_classes};
 ghost use Rattle.mo_scope.specs.Sights.{clause_seen, part_seen, scope_at};
 ghost use Rattle.mo_scope.specs.Worlds.{Grows, IsFrame, frame_at, frames_of, table_in, row_of_frame};
-ghost use Rattle.mo_names.specs.Sights.{IsFound, IsWalk, asks, classed_seen, met_seen, walk_at};
+ghost use Rattle.mo_names.specs.Sights.{IsFound, IsWalk, asks, classed_seen, found_at, met_seen, walk_at};
 ghost use Rattle.mo_names.specs.steps.Parts.{parts_of};
 ghost use Rattle.mo_names.specs.Past.{first_met};
 ghost use Rattle.mo_names.specs.steps.Bases.{IsOwnPart, PartExists, base_walked as walked_base, base_with_elements, first_of_parts, part_walked as walked_part, parts_walked as walked_parts_from};
@@ -16,6 +16,7 @@ ghost use Rattle.mo_names.specs.steps.Lookup.{base_at, class_step as classed_ste
 use crate::circle::{behind_class, found_in, walked};
 use crate::depth::depth_of_lookup;
 use crate::found::{Ask, Classed, Found, Met};
+use crate::found_before::{found_before_behind, found_before_outwards, kept_behind, kept_outwards};
 use crate::given::{classed_given, classed_met, met_at_top};
 use crate::join::with_base;
 use crate::own_walk::own_walked;
@@ -28,35 +29,72 @@ use mo_scope::{Clause, Part, ScopeAt, Scopes};
 use mo_syntax::{FrameId, List, Part as Identifier, Place, Reference, Stop, Text, rules, stop};
 use std::alloc::Global;
 
-/// The walk outwards: the frame of the text, each enclosing frame, and the top. It ends behind an encapsulated class.
+/// The walk outwards: a frame, each enclosing frame, and the top. It ends behind an encapsulated class.
 #[cycle(names)]
 fn found_from<'t>(
     alloc: Global,
     s: &mut Scopes<'t>,
     ask: &Ask,
-    bare: bool,
-    near: bool,
     first: FrameId,
     name: &Text,
 ) -> Result<Met<'t>, Stop>
     requires { IsFrame s.old first.0 }
     ensures grows { Grows s.old s.new }
-    ensures value { Gives (met_seen (frames_of s.new)) result (found_outwards (table_in s.old) (asks (table_in s.old) ask.now) bare near (frame_at s.old first.0) ask.now.place name.now) }
+    ensures value { Gives (met_seen (frames_of s.new)) result (found_outwards (table_in s.old) (asks (table_in s.old) ask.now) false false (frame_at s.old first.0) ask.now.place name.now) }
     ensures stand { IfOk result (λ met. IsFound s.new met.found) }
 {
     let mut frame = first;
-    let mut own = bare;
-    let mut at_hand = near;
     loop {
-        let here = found_in(alloc, s, ask, own, at_hand, frame, name);
+        let here = found_in(alloc, s, ask, false, false, frame, name);
         match next_past(alloc, s, ask.place, frame, name, &here) {
             Next::Ends(met) => return met,
-            Next::Around(outer) => {
-                frame = outer;
-                own = false;
-                at_hand = false;
-            }
+            Next::Around(outer) => frame = outer,
         }
+    }
+}
+
+/// The same, from what was kept of it while classes are having their bases found.
+#[cycle(names)]
+fn found_around<'t>(
+    alloc: Global,
+    s: &mut Scopes<'t>,
+    ask: &Ask,
+    frame: FrameId,
+    name: &Text,
+) -> Result<Met<'t>, Stop>
+    requires { IsFrame s.old frame.0 }
+    ensures grows { Grows s.old s.new }
+    ensures value { Gives (met_seen (frames_of s.new)) result (found_outwards (table_in s.old) (asks (table_in s.old) ask.now) false false (frame_at s.old frame.0) ask.now.place name.now) }
+    ensures stand { IfOk result (λ met. IsFound s.new met.found) }
+{
+    match found_before_outwards(s, ask, frame, name) {
+        Some(met) => Ok(met),
+        None => {
+            let met = found_from(alloc, s, ask, frame, name);
+            kept_outwards(alloc, s, ask, frame, name, &met)
+        }
+    }
+}
+
+/// What a name finds: in the frame of the text, or else outwards from it.
+#[cycle(names)]
+fn found_near<'t>(
+    alloc: Global,
+    s: &mut Scopes<'t>,
+    ask: &Ask,
+    bare: bool,
+    frame: FrameId,
+    name: &Text,
+) -> Result<Met<'t>, Stop>
+    requires { IsFrame s.old frame.0 }
+    ensures grows { Grows s.old s.new }
+    ensures value { Gives (met_seen (frames_of s.new)) result (found_outwards (table_in s.old) (asks (table_in s.old) ask.now) bare true (frame_at s.old frame.0) ask.now.place name.now) }
+    ensures stand { IfOk result (λ met. IsFound s.new met.found) }
+{
+    let here = found_in(alloc, s, ask, bare, true, frame, name);
+    match next_past(alloc, s, ask.place, frame, name, &here) {
+        Next::Ends(met) => met,
+        Next::Around(outer) => found_around(alloc, s, ask, outer, name),
     }
 }
 
@@ -84,7 +122,7 @@ pub(crate) fn found_first<'t>(
             found: Found::Iteration(value),
             near: true,
         }),
-        None => found_from(alloc, s, ask, bare, true, scope.frame, name),
+        None => found_near(alloc, s, ask, bare, scope.frame, name),
     }
 }
 
@@ -145,6 +183,29 @@ fn behind_first(parts: &[Identifier]) -> &[Identifier]
     &parts[1..]
 }
 
+/// What one more identifier finds behind a class, from what was kept of it while classes are having their bases found.
+#[cycle(names)]
+fn found_behind<'t>(
+    alloc: Global,
+    s: &mut Scopes<'t>,
+    ask: &Ask,
+    frame: FrameId,
+    name: &Text,
+) -> Result<Found<'t>, Stop>
+    requires { IsFrame s.old frame.0 }
+    ensures grows { Grows s.old s.new }
+    ensures value { Gives (found_at s.new) result (found_behind_class (table_in s.old) (asks (table_in s.old) ask.now) ask.now.place ask.now.place (Some ask.now.place) (frame_at s.old frame.0) name.now) }
+    ensures stand { IfOk result (IsFound s.new) }
+{
+    match found_before_behind(s, ask, frame, name) {
+        Some(found) => Ok(found),
+        None => {
+            let found = behind_class(alloc, s, ask, ask.place, Some(ask.place), frame, name);
+            kept_behind(alloc, s, ask, frame, name, &found)
+        }
+    }
+}
+
 /// The class that one more identifier finds.
 #[cycle(names)]
 fn class_step(
@@ -165,9 +226,8 @@ fn class_step(
         place: part.place,
         depth: ask.depth,
     };
-    let place = part.place;
-    let found = behind_class(alloc, s, &here, place, Some(place), class.frame, &part.name);
-    classed_given(s, place, &found)
+    let found = found_behind(alloc, s, &here, class.frame, &part.name);
+    classed_given(s, part.place, &found)
 }
 
 /// The class that further identifiers find.

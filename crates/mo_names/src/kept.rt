@@ -11,7 +11,7 @@ ghost use Rattle.mo_scope.specs.Worlds.{AreHomes, Grows, IsFrame, frame_at, fram
 ghost use Rattle.mo_names.specs.Sights.{IsMember, IsReached, IsWalk, asks, reached_seen, walk_at, member_of};
 
 use crate::found::{Ask, Reached};
-use crate::own::{has_base, own_named};
+use crate::own::own_named;
 use crate::reach::is_busy;
 use crate::walk::{Inherited, Walk};
 use mo_scope::{Member, MemberTable, Scopes};
@@ -47,7 +47,7 @@ fn is_unhindered(s: &Scopes, ask: &Ask, frame: FrameId) -> bool
     if is_busy(ask.busy, s.class_of(frame)) {
         return false;
     }
-    !has_base(s, frame)
+    !s.has_base(frame)
 }
 
 /// The table of a frame, where one is kept and lists what is asked for.

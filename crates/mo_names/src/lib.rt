@@ -24,6 +24,7 @@ mod copying;
 mod depth;
 mod element_list;
 mod found;
+mod found_before;
 mod free;
 mod given;
 mod importing;

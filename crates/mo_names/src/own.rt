@@ -1,10 +1,9 @@
 //! The elements that classes declare themselves.
-ghost use Rattle.std.specs.Prelude.{◌≡◌, false, [], map, IfSome};
+ghost use Rattle.std.specs.Prelude.{◌≡◌, map, IfSome};
 ghost use Rattle.std.specs.List.{list_all};
 ghost use Rattle.mo_scope.specs.Lookup.{counts_in_package, own_members};
-ghost use Rattle.mo_scope.specs.Names.{clauses_of};
 ghost use Rattle.mo_scope.specs.Open.{is_open_declares};
-ghost use Rattle.mo_scope.specs.Rows.{clauses_in, elements_in};
+ghost use Rattle.mo_scope.specs.Rows.{elements_in};
 ghost use Rattle.mo_scope.specs.Sights.{part_seen};
 ghost use Rattle.mo_scope.specs.Worlds.{IsFrame, frame_at, table_in};
 ghost use Rattle.mo_names.specs.Sights.{IsMember};
@@ -44,28 +43,5 @@ pub(crate) fn are_own_open(s: &Scopes, frame: FrameId) -> bool
     match s.row(s.class_of(frame)) {
         Some(row) => are_open(row.parts.as_slice()),
         None => true,
-    }
-}
-
-/// Whether an extends clause is among some parts.
-fn has_clause(parts: &[Part]) -> bool
-    ensures { result ≡ false → clauses_in (map part_seen parts.now) ≡ [] }
-{
-    for part in parts {
-        if let Part::Base(_) = part {
-            return true;
-        }
-    }
-    false
-}
-
-/// Whether the class of a frame has an extends clause.
-pub(crate) fn has_base(s: &Scopes, frame: FrameId) -> bool
-    requires { IsFrame s.now frame.0 }
-    ensures { result ≡ false → clauses_of (table_in s.now) (frame_at s.now frame.0) ≡ [] }
-{
-    match s.row(s.class_of(frame)) {
-        Some(row) => has_clause(row.parts.as_slice()),
-        None => false,
     }
 }

@@ -1,5 +1,6 @@
 pub mod AlikePaths
 pub mod Entering
+pub mod KeptClasses
 pub mod Keys
 pub mod Lists
 pub mod Mentioned

@@ -317,6 +317,11 @@ kept_set seen kept files xs n old new ms w is at same keeps =
     ∙ ap (λ ts. record { files = files; entries = map seen xs; tables = ts }) (map_set kept xs n new ∙ ap (set (map kept xs) n) keeps)
     ∙ ap (λ v. with_table v n ms) is
 
+pub grows_set : {A : Type 0} (seen : A → FrameEntry) (kept : A → Option (List MemberEntry)) (files : List FileTree) (xs : List A) (n : ℕ) (old new : A) →
+    old ≡ get_or xs n old → seen new ≡ seen old → Grows (world seen kept files xs) (world seen kept files (set xs n new))
+unfolding grows_refl
+grows_set seen kept files xs n old new at same = record { files = refl; more = []; entries = map_set_same seen xs n old new at same ∙ (grows_refl (world seen kept files xs)).entries }
+
 pub sound_set : {A : Type 0} (seen : A → FrameEntry) (kept : A → Option (List MemberEntry)) (files : List FileTree) (xs : List A) (n : ℕ) (old new : A) (ms : List MemberEntry) (w : World) →
     world seen kept files xs ≡ w → IsSound (world seen kept files xs) → old ≡ get_or xs n old → seen new ≡ seen old → kept new ≡ Some ms → IsTable w n ms → IsSound (world seen kept files (set xs n new))
 sound_set seen kept files xs n old new ms w is sound at same keeps table =

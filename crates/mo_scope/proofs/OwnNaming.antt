@@ -1,6 +1,6 @@
 -- The elements that a class declares itself, by name.
 use Rattle.std.proofs.Common.{◌≡◌, ℕ, zero, suc, ◌+◌, ◌-◌, ◌<◌, ◌≤◌, Bool, true, false, cond, List, [], ◌∷◌, ◌++◌, length, map, drop, take, get_or, Option, Some, None, refl, ap, sym, subst, ◌∙◌, arith, append_assoc, drop-cons, length-append}
-use Rattle.std.specs.Prelude.{slice_get, option_map, if◌then◌else◌}
+use Rattle.std.specs.Prelude.{slice_get, option_map, unwrap_or, if◌then◌else◌}
 use Rattle.std.specs.Str.{bytes_eq}
 use Rattle.std.proofs.lemmas.List.{take_more}
 use Rattle.mo_syntax.specs.declared.class.FileTree.{FileTree}
@@ -9,6 +9,7 @@ use Rattle.mo_scope.specs.declared.own_names.OwnNames.{OwnNames}
 use Rattle.mo_scope.specs.declared.own_names.OwnPlace.{OwnPlace}
 use Rattle.mo_scope.specs.declared.row.Part.{Part as PartAt}
 use Rattle.mo_scope.specs.declared.row.Row.{Row as RowAt}
+use Rattle.mo_scope.specs.Extending.{is_extending, is_extending_row}
 use Rattle.mo_scope.specs.Frames.{Frame, Member, class_of}
 use Rattle.mo_scope.specs.Lookup.{members_from, named, own_members}
 use Rattle.mo_scope.specs.OwnNames.{AreNamed, AreOwnNames, element_read, first_at, first_own, own_place}
@@ -188,3 +189,16 @@ class_exists files number name first is = by (row_at (table_of files) number) re
     by : (o : Option Row) → row_at (table_of files) number ≡ o → Some first ≡ first_at name o → class_number first.1 < number_of_classes (table_of files)
     by None e there = absurd (cc)
     by (Some row) e there = first_exists name 0 (number_of_classes (table_of files)) row.parts first (row_parts_exist files number row e) there
+
+-- ---- extends clauses
+
+-- what stands beside the rows tells of the row of a class
+pub extending_beside : (files : List FileTree) (rows : List RowAt) (extending : List Bool) (class : ℕ) (told : Option Bool) → told ≡ slice_get extending (class - 6) → extending ≡ map (λ row. is_extending_row (row_seen row)) rows →
+    map row_seen rows ≡ table_of files → 6 ≤ class → unwrap_or told false ≡ is_extending (row_at (table_of files) class)
+extending_beside files rows extending class told is are same past =
+    ap (λ o. unwrap_or o false) (is ∙ ap (λ xs. slice_get xs (class - 6)) are) ∙ by rows (class - 6) ∙ ap is_extending (row_here row_seen files rows class same past)
+  where
+    by : (xs : List RowAt) (k : ℕ) → unwrap_or (slice_get (map (λ row. is_extending_row (row_seen row)) xs) k) false ≡ is_extending (slice_get (map row_seen xs) k)
+    by [] k = refl
+    by (x ∷ xs) zero = refl
+    by (x ∷ xs) (suc k) = by xs k

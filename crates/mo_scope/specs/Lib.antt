@@ -5,11 +5,13 @@ pub mod Calls
 pub mod Classes
 pub mod Compatible
 pub mod Entries
+pub mod Extending
 pub mod Frames
 pub mod Held
 pub mod Insides
 pub mod Instances
 pub mod Mentions
+pub mod KeptClasses
 pub mod Lookup
 pub mod Names
 pub mod Open

@@ -4,6 +4,7 @@ ghost use Rattle.mo_scope.specs.Classes.{AreClasses};
 ghost use Rattle.mo_scope.specs.OwnNames.{AreOwnNames, first_at};
 ghost use Rattle.mo_scope.specs.Sights.{declares_seen, row_seen};
 
+use crate::extending::extending_of;
 use crate::groups::groups_of;
 use crate::making::rows_of;
 use crate::own_names::{OwnNames, own_names_of};
@@ -21,6 +22,8 @@ pub(crate) struct Classes<'t> {
     pub rows: List<Row<'t>>,
     /// Beside each row.
     pub owns: List<OwnNames<'t>>,
+    /// Whether each has an extends clause.
+    pub extending: List<bool>,
     pub places: Places,
     pub tops: Tops<'t>,
 }
@@ -35,10 +38,12 @@ impl<'t> Classes<'t> {
         let groups = groups_of(alloc, classes.as_slice())?;
         let rows = rows_of(alloc, &places, &groups, classes.as_slice())?;
         let owns = own_names_of(alloc, rows.as_slice())?;
+        let extending = extending_of(alloc, rows.as_slice())?;
         let tops = tops_of(alloc, rows.as_slice())?;
         Ok(Classes {
             rows,
             owns,
+            extending,
             places,
             tops,
         })

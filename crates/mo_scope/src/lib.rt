@@ -6,8 +6,9 @@
 //!
 //! - `Scopes`: the classes of the files and frames by number. `row`, `top_class`, `number_at` and `declared` read the
 //!   classes; `enter` makes a frame, or finds it where it has no sources and was made before, and `entered` finds one that only
-//!   looks a class up; `class_of`, `sources`, `outer`,
-//!   `path` and `owner` read it; `keep` and `table` hold the table of its elements, which `MemberTable` finds by name.
+//!   looks a class up; `class_of`, `sources`, `outer`, `path` and `owner` read it; `keep` and `table` hold the table of its
+//!   elements, which `MemberTable` finds by name; `keep_class` and `found_class` hold the class that a name finds, an
+//!   `AskedName`, while other classes are having their bases found.
 //! - `Source`: what modifies a class, by reference into the class tree. `pick_here` finds the value that sources give for it, and
 //!   `pick` the one for a path.
 //! - `redeclared`, `redeclarations`: what redeclares an element. `child_sources`, `element_sources`, `class_sources`,
@@ -26,6 +27,8 @@ mod classes;
 mod copies;
 mod declaring;
 mod entered;
+mod extending;
+mod found_classes;
 mod frame;
 mod frame_sources;
 mod groups;
@@ -50,6 +53,7 @@ mod walk;
 mod written;
 
 pub use copies::{copied, copied_scope, extend};
+pub use found_classes::AskedName;
 pub use instance::{Chosen, Instance, InstanceTree, Leaf};
 pub use names::Names;
 pub use paths::is_same_path;

@@ -3,6 +3,8 @@ ghost use Rattle.std.specs.Prelude.{◌≡◌, List as Seq, ◌+◌, ◌<◌, []
 ghost use Rattle.mo_syntax.specs.SoundTree.{IsSoundTree};
 ghost use Rattle.mo_scope.specs.Frames.{class_of, sources_of, outer_of, at_of, owner_of, is_top, In, gathered};
 ghost use Rattle.mo_scope.specs.Rows.{number_of_classes, row_at, number_at, number_of_element, class_number, top_number};
+ghost use Rattle.mo_scope.specs.Extending.{is_extending};
+ghost use Rattle.mo_scope.specs.KeptClasses.{FindsClass};
 ghost use Rattle.mo_scope.specs.Lookup.{named, own_members};
 ghost use Rattle.mo_scope.specs.Parts.{declared_in};
 ghost use Rattle.mo_scope.specs.Sights.{source_seen, row_seen, declares_seen, frame_at_or_top, member_at, sources_at};
@@ -13,6 +15,7 @@ ghost use Rattle.mo_scope.specs.Calls.{RowExists, bare_frame, IsBareEntry, IsEnt
 use crate::classes::Classes;
 use crate::declaring::declared_by;
 use crate::entered::{Entered, standing_of};
+use crate::found_classes::{AskedName, FoundClasses};
 use crate::frame::FrameData;
 use crate::frame_sources::FrameSources;
 use crate::row::{Declares, Member, Row};
@@ -31,6 +34,7 @@ pub struct Scopes<'t> {
     classes: Classes<'t>,
     frames: Vec<FrameData<'t>>,
     entered: Entered,
+    found: FoundClasses,
     depth: u32,
 }
 
@@ -68,6 +72,7 @@ impl<'t> Scopes<'t> {
             classes: Classes::new(alloc, tree.files.as_slice())?,
             frames: Vec::new(alloc),
             entered: Entered::new(alloc),
+            found: FoundClasses::new(alloc),
             depth: 0,
         })
     }
@@ -136,6 +141,21 @@ impl<'t> Scopes<'t> {
                 declares: first.1,
             }),
             None => None,
+        }
+    }
+
+    /// Whether the class of a frame has an extends clause.
+    pub fn has_base(&self, frame: FrameId) -> bool
+        requires { IsFrame self.now frame.0 }
+        ensures { result ≡ is_extending (row_at (table_in self.now) (class_of (frame_at self.now frame.0))) }
+    {
+        let class = self.class_of(frame);
+        if class.0 < 6 {
+            return false;
+        }
+        match self.classes.extending.get((class.0 - 6) as usize) {
+            Some(extending) => *extending,
+            None => false,
         }
     }
 
@@ -402,5 +422,32 @@ impl<'t> Scopes<'t> {
     {
         self.frames[frame.0 as usize].table = Some(table);
         Ok(())
+    }
+
+    /// The class that a name finds, and whether its element is replaceable; None where it was not kept.
+    pub fn found_class(&self, asked: &AskedName) -> Option<(FrameId, bool)>
+        ensures is { IfSome result (λ class. FindsClass self.now asked.now.behind asked.now.left asked.now.busy.now asked.now.frame.0 asked.now.place asked.now.name.now class.0.0 class.1) }
+        ensures exists { IfSome result (λ class. IsFrame self.now class.0.0) }
+    {
+        match self.found.found(asked) {
+            Some(found) => Some((found.class, found.replaceable)),
+            None => None,
+        }
+    }
+
+    /// Keeps the class that a name finds.
+    pub fn keep_class(
+        &mut self,
+        alloc: Global,
+        asked: &AskedName,
+        class: FrameId,
+        replaceable: bool,
+    ) -> Result<(), NoMemory>
+        requires frame { IsFrame self.old asked.now.frame.0 }
+        requires class { IsFrame self.old class.0 }
+        requires finds { FindsClass self.old asked.now.behind asked.now.left asked.now.busy.now asked.now.frame.0 asked.now.place asked.now.name.now class.0 replaceable }
+        ensures { self.new ≡ self.old }
+    {
+        self.found.put(alloc, asked, class, replaceable)
     }
 }

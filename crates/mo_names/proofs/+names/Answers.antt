@@ -469,8 +469,65 @@ bases::found_from-loop-met-init = outwards.found_from-loop-met-init
 pub bases::found_from-next_past-requires-clause-here : goal.bases::found_from-next_past-requires-clause-here
 bases::found_from-next_past-requires-clause-here = outwards.found_from-next_past-requires-clause-here
 
-pub bases::found_first-found_from-requires : goal.bases::found_first-found_from-requires
-bases::found_first-found_from-requires = outwards.found_first-found_from-requires
+pub bases::found_around-found_from-met-requires : goal.bases::found_around-found_from-met-requires
+bases::found_around-found_from-met-requires = outwards.found_around-found_from-met-requires
+
+pub bases::found_around-kept_outwards-requires-clause-frame : goal.bases::found_around-kept_outwards-requires-clause-frame
+bases::found_around-kept_outwards-requires-clause-frame = outwards.found_around-kept_outwards-requires-clause-frame
+
+pub bases::found_around-kept_outwards-requires-clause-is : goal.bases::found_around-kept_outwards-requires-clause-is
+bases::found_around-kept_outwards-requires-clause-is = outwards.found_around-kept_outwards-requires-clause-is
+
+pub bases::found_around-kept_outwards-requires-clause-stands : goal.bases::found_around-kept_outwards-requires-clause-stands
+bases::found_around-kept_outwards-requires-clause-stands = outwards.found_around-kept_outwards-requires-clause-stands
+
+pub bases::found_around-returns-in-Some-clause-grows : goal.bases::found_around-returns-in-Some-clause-grows
+bases::found_around-returns-in-Some-clause-grows = outwards.found_around-returns-in-Some-clause-grows
+
+pub bases::found_around-returns-in-Some-clause-value : goal.bases::found_around-returns-in-Some-clause-value
+bases::found_around-returns-in-Some-clause-value = outwards.found_around-returns-in-Some-clause-value
+
+pub bases::found_around-returns-in-Some-clause-stand : goal.bases::found_around-returns-in-Some-clause-stand
+bases::found_around-returns-in-Some-clause-stand = outwards.found_around-returns-in-Some-clause-stand
+
+pub bases::found_around-returns-in-None-clause-grows : goal.bases::found_around-returns-in-None-clause-grows
+bases::found_around-returns-in-None-clause-grows = outwards.found_around-returns-in-None-clause-grows
+
+pub bases::found_around-returns-in-None-clause-value : goal.bases::found_around-returns-in-None-clause-value
+bases::found_around-returns-in-None-clause-value = outwards.found_around-returns-in-None-clause-value
+
+pub bases::found_around-returns-in-None-clause-stand : goal.bases::found_around-returns-in-None-clause-stand
+bases::found_around-returns-in-None-clause-stand = outwards.found_around-returns-in-None-clause-stand
+
+pub bases::found_near-found_in-here-requires : goal.bases::found_near-found_in-here-requires
+bases::found_near-found_in-here-requires = outwards.found_near-found_in-here-requires
+
+pub bases::found_near-next_past-requires-clause-frame : goal.bases::found_near-next_past-requires-clause-frame
+bases::found_near-next_past-requires-clause-frame = outwards.found_near-next_past-requires-clause-frame
+
+pub bases::found_near-next_past-requires-clause-here : goal.bases::found_near-next_past-requires-clause-here
+bases::found_near-next_past-requires-clause-here = outwards.found_near-next_past-requires-clause-here
+
+pub bases::found_near-found_around-requires : goal.bases::found_near-found_around-requires
+bases::found_near-found_around-requires = outwards.found_near-found_around-requires
+
+pub bases::found_near-returns-in-Ends-clause-grows : goal.bases::found_near-returns-in-Ends-clause-grows
+bases::found_near-returns-in-Ends-clause-grows = outwards.found_near-returns-in-Ends-clause-grows
+
+pub bases::found_near-returns-in-Ends-clause-value : goal.bases::found_near-returns-in-Ends-clause-value
+bases::found_near-returns-in-Ends-clause-value = outwards.found_near-returns-in-Ends-clause-value
+
+pub bases::found_near-returns-in-Around-clause-grows : goal.bases::found_near-returns-in-Around-clause-grows
+bases::found_near-returns-in-Around-clause-grows = outwards.found_near-returns-in-Around-clause-grows
+
+pub bases::found_near-returns-in-Around-clause-value : goal.bases::found_near-returns-in-Around-clause-value
+bases::found_near-returns-in-Around-clause-value = outwards.found_near-returns-in-Around-clause-value
+
+pub bases::found_near-returns-in-Around-clause-stand : goal.bases::found_near-returns-in-Around-clause-stand
+bases::found_near-returns-in-Around-clause-stand = outwards.found_near-returns-in-Around-clause-stand
+
+pub bases::found_first-found_near-requires : goal.bases::found_first-found_near-requires
+bases::found_first-found_near-requires = outwards.found_first-found_near-requires
 
 pub bases::found_first-returns-in-Some-clause-grows : goal.bases::found_first-returns-in-Some-clause-grows
 bases::found_first-returns-in-Some-clause-grows = outwards.found_first-returns-in-Some-clause-grows
@@ -510,6 +567,36 @@ bases::class_first-returns-in-Some-clause-grows = class_names.class_first-return
 
 pub bases::class_first-returns-in-Some-clause-stand : goal.bases::class_first-returns-in-Some-clause-stand
 bases::class_first-returns-in-Some-clause-stand = class_names.class_first-returns-in-Some-clause-stand
+
+pub bases::found_behind-behind_class-found-requires : goal.bases::found_behind-behind_class-found-requires
+bases::found_behind-behind_class-found-requires = class_names.found_behind-behind_class-found-requires
+
+pub bases::found_behind-kept_behind-requires-clause-frame : goal.bases::found_behind-kept_behind-requires-clause-frame
+bases::found_behind-kept_behind-requires-clause-frame = class_names.found_behind-kept_behind-requires-clause-frame
+
+pub bases::found_behind-kept_behind-requires-clause-is : goal.bases::found_behind-kept_behind-requires-clause-is
+bases::found_behind-kept_behind-requires-clause-is = class_names.found_behind-kept_behind-requires-clause-is
+
+pub bases::found_behind-kept_behind-requires-clause-stands : goal.bases::found_behind-kept_behind-requires-clause-stands
+bases::found_behind-kept_behind-requires-clause-stands = class_names.found_behind-kept_behind-requires-clause-stands
+
+pub bases::found_behind-returns-in-Some-clause-grows : goal.bases::found_behind-returns-in-Some-clause-grows
+bases::found_behind-returns-in-Some-clause-grows = class_names.found_behind-returns-in-Some-clause-grows
+
+pub bases::found_behind-returns-in-Some-clause-value : goal.bases::found_behind-returns-in-Some-clause-value
+bases::found_behind-returns-in-Some-clause-value = class_names.found_behind-returns-in-Some-clause-value
+
+pub bases::found_behind-returns-in-Some-clause-stand : goal.bases::found_behind-returns-in-Some-clause-stand
+bases::found_behind-returns-in-Some-clause-stand = class_names.found_behind-returns-in-Some-clause-stand
+
+pub bases::found_behind-returns-in-None-clause-grows : goal.bases::found_behind-returns-in-None-clause-grows
+bases::found_behind-returns-in-None-clause-grows = class_names.found_behind-returns-in-None-clause-grows
+
+pub bases::found_behind-returns-in-None-clause-value : goal.bases::found_behind-returns-in-None-clause-value
+bases::found_behind-returns-in-None-clause-value = class_names.found_behind-returns-in-None-clause-value
+
+pub bases::found_behind-returns-in-None-clause-stand : goal.bases::found_behind-returns-in-None-clause-stand
+bases::found_behind-returns-in-None-clause-stand = class_names.found_behind-returns-in-None-clause-stand
 
 pub bases::class_step-returns-clause-value : goal.bases::class_step-returns-clause-value
 bases::class_step-returns-clause-value = class_names.class_step-returns-clause-value

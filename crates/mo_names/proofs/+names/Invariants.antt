@@ -8,7 +8,7 @@ use Rattle.mo_names.specs.steps.Lookup.{package_behind, found_by_all}
 use Rattle.mo_scope.specs.Lookup.{import_behind, found_from, class_behind}
 use Rattle.mo_scope.specs.Rows.{row_at}
 use Rattle.mo_scope.specs.Worlds.{Grows, frames_of, table_in, IsFrame, frame_at, row_of_frame}
-use Rattle.std.proofs.Common.{◌≡◌, drop, map, None, ◌+◌, ◌*◌}
+use Rattle.std.proofs.Common.{◌≡◌, false, drop, map, None, ◌+◌, ◌*◌}
 use Rattle.std.specs.Prelude.{option_map, IfSome}
 use Rattle.mo_names.proofs.+names.Given as goal
 
@@ -40,8 +40,8 @@ abbrev pub invariant-bases::found_from-loop-met : goal.invariant-bases::found_fr
 invariant-bases::found_from-loop-met l = record {
   grows : Grows l.initial.s l.s;
   stand : IsFrame l.s l.frame.0;
-  left : found_from (table_in l.initial.s) (asks (table_in l.initial.s) l.ask) l.own l.at_hand (frame_at l.s l.frame.0) l.ask.place l.name
-      ≡ found_from (table_in l.initial.s) (asks (table_in l.initial.s) l.ask) l.bare l.near (frame_at l.initial.s l.initial.frame.0) l.ask.place l.name;
+  left : found_from (table_in l.initial.s) (asks (table_in l.initial.s) l.ask) false false (frame_at l.s l.frame.0) l.ask.place l.name
+      ≡ found_from (table_in l.initial.s) (asks (table_in l.initial.s) l.ask) false false (frame_at l.initial.s l.initial.frame.0) l.ask.place l.name;
 }
 
 abbrev pub decreases-bases::found_from-loop-met : goal.decreases-bases::found_from-loop-met
@@ -139,41 +139,50 @@ decreases-circle::found_in l = 40 * l.ask.now.left + 22
 abbrev pub decreases-bases::found_from : goal.decreases-bases::found_from
 decreases-bases::found_from l = 40 * l.ask.now.left + 23
 
+abbrev pub decreases-bases::found_around : goal.decreases-bases::found_around
+decreases-bases::found_around l = 40 * l.ask.now.left + 24
+
+abbrev pub decreases-bases::found_near : goal.decreases-bases::found_near
+decreases-bases::found_near l = 40 * l.ask.now.left + 25
+
 abbrev pub decreases-bases::found_first : goal.decreases-bases::found_first
-decreases-bases::found_first l = 40 * l.ask.now.left + 24
+decreases-bases::found_first l = 40 * l.ask.now.left + 26
 
 abbrev pub decreases-bases::first_class : goal.decreases-bases::first_class
-decreases-bases::first_class l = 40 * l.ask.now.left + 25
+decreases-bases::first_class l = 40 * l.ask.now.left + 27
 
 abbrev pub decreases-bases::class_first : goal.decreases-bases::class_first
-decreases-bases::class_first l = 40 * l.ask.now.left + 26
+decreases-bases::class_first l = 40 * l.ask.now.left + 28
+
+abbrev pub decreases-bases::found_behind : goal.decreases-bases::found_behind
+decreases-bases::found_behind l = 40 * l.ask.now.left + 29
 
 abbrev pub decreases-bases::class_step : goal.decreases-bases::class_step
-decreases-bases::class_step l = 40 * l.ask.now.left + 27
+decreases-bases::class_step l = 40 * l.ask.now.left + 30
 
 abbrev pub decreases-bases::class_behind : goal.decreases-bases::class_behind
-decreases-bases::class_behind l = 40 * l.ask.now.left + 28
+decreases-bases::class_behind l = 40 * l.ask.now.left + 31
 
 abbrev pub decreases-bases::class_named : goal.decreases-bases::class_named
-decreases-bases::class_named l = 40 * l.ask.now.left + 29
+decreases-bases::class_named l = 40 * l.ask.now.left + 32
 
 abbrev pub decreases-bases::base_class : goal.decreases-bases::base_class
-decreases-bases::base_class l = 40 * l.ask.now.left + 30
+decreases-bases::base_class l = 40 * l.ask.now.left + 33
 
 abbrev pub decreases-bases::base_found : goal.decreases-bases::base_found
-decreases-bases::base_found l = 40 * l.ask.now.left + 31
+decreases-bases::base_found l = 40 * l.ask.now.left + 34
 
 abbrev pub decreases-bases::base_elements : goal.decreases-bases::base_elements
-decreases-bases::base_elements l = 40 * l.ask.now.left + 32
+decreases-bases::base_elements l = 40 * l.ask.now.left + 35
 
 abbrev pub decreases-bases::base_walked : goal.decreases-bases::base_walked
-decreases-bases::base_walked l = 40 * l.ask.now.left + 33
+decreases-bases::base_walked l = 40 * l.ask.now.left + 36
 
 abbrev pub decreases-bases::part_walked : goal.decreases-bases::part_walked
-decreases-bases::part_walked l = 40 * l.ask.now.left + 34
+decreases-bases::part_walked l = 40 * l.ask.now.left + 37
 
 abbrev pub decreases-bases::walked_parts : goal.decreases-bases::walked_parts
-decreases-bases::walked_parts l = 40 * l.ask.now.left + 35
+decreases-bases::walked_parts l = 40 * l.ask.now.left + 38
 
 abbrev pub decreases-bases::walked_class : goal.decreases-bases::walked_class
-decreases-bases::walked_class l = 40 * l.ask.now.left + 36
+decreases-bases::walked_class l = 40 * l.ask.now.left + 39

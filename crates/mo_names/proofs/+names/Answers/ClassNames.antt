@@ -1,7 +1,9 @@
 -- What is answered of the names of classes.
 use Rattle.mo_names.proofs.Circling.{left_from, loop_err, then_ok, told_of, exit_err, later_gives, class_names_step}
-use Rattle.mo_names.proofs.Later.{grows_trans, grows_refl}
+use Rattle.mo_names.proofs.Later.{grows_trans, grows_refl, is_frame_later}
 use Rattle.mo_names.proofs.Naming.{class_named_is}
+use Rattle.mo_names.proofs.Outcomes.{gives_same}
+use Rattle.mo_names.proofs.WalkOutwards.{behind_told}
 use Rattle.mo_names.specs.steps.Bases.{first_of_parts}
 use Rattle.mo_names.specs.Sights.{asks, classed_seen}
 use Rattle.mo_names.specs.steps.Lookup.{class_step}
@@ -9,7 +11,7 @@ use Rattle.mo_scope.specs.Frames.{Scope}
 use Rattle.mo_scope.specs.Lookup.{Asking, Classed, class_behind}
 use Rattle.mo_scope.specs.Sights.{scope_at}
 use Rattle.mo_scope.specs.Worlds.{frames_of, table_in}
-use Rattle.std.proofs.Common.{ap, arith, ◌∙◌, ◌+◌, drop, Err, refl}
+use Rattle.std.proofs.Common.{ap, arith, sym, ◌∙◌, ◌+◌, drop, Err, refl}
 use Rattle.std.proofs.lemmas.Result.{err_from_is_err_and}
 use Rattle.mo_names.proofs.+names.Goals as goal
 
@@ -37,14 +39,46 @@ class_first-returns-in-Some-clause-grows t c = c.first_class.ensures.grows
 pub class_first-returns-in-Some-clause-stand : goal.bases::class_first-returns-in-Some-clause-stand
 class_first-returns-in-Some-clause-stand t c = c.first_class.ensures.stand
 
+pub found_behind-behind_class-found-requires : goal.bases::found_behind-behind_class-found-requires
+found_behind-behind_class-found-requires t c = (omega arith, c.requires)
+
+pub found_behind-kept_behind-requires-clause-frame : goal.bases::found_behind-kept_behind-requires-clause-frame
+found_behind-kept_behind-requires-clause-frame t c = is_frame_later _ _ _ c.behind_class-found.ensures.grows c.requires
+
+pub found_behind-kept_behind-requires-clause-is : goal.bases::found_behind-kept_behind-requires-clause-is
+found_behind-kept_behind-requires-clause-is t c =
+    gives_same _ c.behind_class-found.result _ _ (sym (behind_told c.args.s.now c.behind_class-found.new.s c.args.ask.now c.args.frame.0 c.args.name.now c.behind_class-found.ensures.grows c.requires)) c.behind_class-found.ensures.value
+
+pub found_behind-kept_behind-requires-clause-stands : goal.bases::found_behind-kept_behind-requires-clause-stands
+found_behind-kept_behind-requires-clause-stands t c = c.behind_class-found.ensures.stand
+
+pub found_behind-returns-in-Some-clause-grows : goal.bases::found_behind-returns-in-Some-clause-grows
+found_behind-returns-in-Some-clause-grows t c = grows_refl c.args.s.now
+
+pub found_behind-returns-in-Some-clause-value : goal.bases::found_behind-returns-in-Some-clause-value
+found_behind-returns-in-Some-clause-value t c = c.in-Some.ensures.is
+
+pub found_behind-returns-in-Some-clause-stand : goal.bases::found_behind-returns-in-Some-clause-stand
+found_behind-returns-in-Some-clause-stand t c = c.in-Some.ensures.stand
+
+pub found_behind-returns-in-None-clause-grows : goal.bases::found_behind-returns-in-None-clause-grows
+found_behind-returns-in-None-clause-grows t c = grows_trans _ _ _ c.behind_class-found.ensures.grows c.kept_behind.ensures.grows
+
+pub found_behind-returns-in-None-clause-value : goal.bases::found_behind-returns-in-None-clause-value
+found_behind-returns-in-None-clause-value t c =
+    gives_same _ c.kept_behind.result _ _ (behind_told c.args.s.now c.behind_class-found.new.s c.args.ask.now c.args.frame.0 c.args.name.now c.behind_class-found.ensures.grows c.requires) c.kept_behind.ensures.value
+
+pub found_behind-returns-in-None-clause-stand : goal.bases::found_behind-returns-in-None-clause-stand
+found_behind-returns-in-None-clause-stand t c = c.kept_behind.ensures.stand
+
 pub class_step-returns-clause-value : goal.bases::class_step-returns-clause-value
-class_step-returns-clause-value t c = c.classed_given.ensures.value _ c.behind_class-found.ensures.value
+class_step-returns-clause-value t c = c.classed_given.ensures.value _ c.found_behind-found.ensures.value
 
 pub class_step-classed_given-requires : goal.bases::class_step-classed_given-requires
-class_step-classed_given-requires t c = c.behind_class-found.ensures.stand
+class_step-classed_given-requires t c = c.found_behind-found.ensures.stand
 
 pub class_step-returns-clause-grows : goal.bases::class_step-returns-clause-grows
-class_step-returns-clause-grows t c = c.behind_class-found.ensures.grows
+class_step-returns-clause-grows t c = c.found_behind-found.ensures.grows
 
 pub class_step-returns-clause-stand : goal.bases::class_step-returns-clause-stand
 class_step-returns-clause-stand t c = c.classed_given.ensures.stand

@@ -1,19 +1,19 @@
 -- What is answered of names that are looked up in a frame and outwards.
 use Rattle.mo_names.proofs.Circling.{then_ok, in_frame_is, around_less, err_on}
 use Rattle.mo_names.proofs.HandedOn.{any_met_told, ends_give, go_next, goes_on_around, outwards_told}
-use Rattle.mo_names.proofs.Later.{grows_trans, grows_refl, is_frame_later}
+use Rattle.mo_names.proofs.Later.{grows_trans, grows_refl, is_frame_later, table_later}
 use Rattle.mo_names.proofs.Outcomes.{gives_same}
-use Rattle.mo_names.proofs.Outwards.{imports_told, past_told}
+use Rattle.mo_names.proofs.WalkOutwards.{around_told, imports_told, past_told}
 use Rattle.mo_names.specs.steps.Parts.{imports_of}
 use Rattle.mo_names.specs.Past.{Goes_on}
 use Rattle.mo_names.specs.Sights.{asks, met_seen, found_at}
 use Rattle.mo_names.specs.steps.Lookup.{imports_met, met_or}
 use Rattle.mo_scope.proofs.Numbered.{is_no_top}
 use Rattle.mo_scope.specs.Frames.{Frame, class_of}
-use Rattle.mo_scope.specs.Lookup.{Asking, found_element}
-use Rattle.mo_scope.specs.Rows.{row_at}
+use Rattle.mo_scope.specs.Lookup.{Asking, found_element, found_from}
+use Rattle.mo_scope.specs.Rows.{Table, row_at}
 use Rattle.mo_scope.specs.Worlds.{frame_at, frames_of, table_in}
-use Rattle.std.proofs.Common.{ap, arith, sym, ◌∙◌, Some, None, Ok, refl}
+use Rattle.std.proofs.Common.{true, false, ap, arith, sym, ◌∙◌, Some, None, Ok, refl}
 use Rattle.std.specs.Prelude.{option_map}
 use Rattle.mo_names.proofs.+names.Goals as goal
 
@@ -99,7 +99,7 @@ found_from-returns-in-Ends-clause-value t c =
     let A : Asking = asks (table_in c.args.s.now) c.args.ask.now in
     ends_give (frames_of c.next_past.new.s) c.in-Ends.met _ (go_next (table_in c.args.s.now) A c.args.ask.now.place c.args.name.now) _ (λ met. refl)
     (rw c.in-Ends.is at (c.next_past.ensures.value _ c.found_in-here.ensures.value))
-    (outwards_told c.args.s.now c.loop-met.s c.found_in-here.new.s c.args.ask.now c.loop-met.own c.loop-met.at_hand c.loop-met.frame.0 c.args.name.now _
+    (outwards_told c.args.s.now c.loop-met.s c.found_in-here.new.s c.args.ask.now false false c.loop-met.frame.0 c.args.name.now _
     c.loop-met.invariant.grows c.found_in-here.ensures.grows c.loop-met.invariant.stand (is_no_top c.loop-met.s c.loop-met.frame.0 c.loop-met.invariant.stand) c.loop-met.invariant.left)
 
 pub found_from-loop-met-preserved : goal.bases::found_from-loop-met-preserved
@@ -109,7 +109,7 @@ found_from-loop-met-preserved t c = record {
   left =
       let A : Asking = asks (table_in c.args.s.now) c.args.ask.now in
       then_ok _ (go_next (table_in c.args.s.now) A c.args.ask.now.place c.args.name.now) (Goes_on (frame_at c.next_past.new.s c.in-Around.outer.0)) _
-      (outwards_told c.args.s.now c.loop-met.s c.found_in-here.new.s c.args.ask.now c.loop-met.own c.loop-met.at_hand c.loop-met.frame.0 c.args.name.now _
+      (outwards_told c.args.s.now c.loop-met.s c.found_in-here.new.s c.args.ask.now false false c.loop-met.frame.0 c.args.name.now _
       c.loop-met.invariant.grows c.found_in-here.ensures.grows c.loop-met.invariant.stand (is_no_top c.loop-met.s c.loop-met.frame.0 c.loop-met.invariant.stand) c.loop-met.invariant.left)
       (rw c.in-Around.is at (c.next_past.ensures.value _ c.found_in-here.ensures.value));
 }
@@ -140,8 +140,81 @@ found_from-loop-met-init t c = record {
 pub found_from-next_past-requires-clause-here : goal.bases::found_from-next_past-requires-clause-here
 found_from-next_past-requires-clause-here t c = c.found_in-here.ensures.stand
 
-pub found_first-found_from-requires : goal.bases::found_first-found_from-requires
-found_first-found_from-requires t c = (omega arith, c.requires)
+pub found_around-found_from-met-requires : goal.bases::found_around-found_from-met-requires
+found_around-found_from-met-requires t c = (omega arith, c.requires)
+
+pub found_around-kept_outwards-requires-clause-frame : goal.bases::found_around-kept_outwards-requires-clause-frame
+found_around-kept_outwards-requires-clause-frame t c = is_frame_later _ _ _ c.found_from-met.ensures.grows c.requires
+
+pub found_around-kept_outwards-requires-clause-is : goal.bases::found_around-kept_outwards-requires-clause-is
+found_around-kept_outwards-requires-clause-is t c =
+    gives_same _ c.found_from-met.result _ _ (sym (around_told c.args.s.now c.found_from-met.new.s c.args.ask.now c.args.frame.0 c.args.name.now c.found_from-met.ensures.grows c.requires)) c.found_from-met.ensures.value
+
+pub found_around-kept_outwards-requires-clause-stands : goal.bases::found_around-kept_outwards-requires-clause-stands
+found_around-kept_outwards-requires-clause-stands t c = c.found_from-met.ensures.stand
+
+pub found_around-returns-in-Some-clause-grows : goal.bases::found_around-returns-in-Some-clause-grows
+found_around-returns-in-Some-clause-grows t c = grows_refl c.args.s.now
+
+pub found_around-returns-in-Some-clause-value : goal.bases::found_around-returns-in-Some-clause-value
+found_around-returns-in-Some-clause-value t c = c.in-Some.ensures.is
+
+pub found_around-returns-in-Some-clause-stand : goal.bases::found_around-returns-in-Some-clause-stand
+found_around-returns-in-Some-clause-stand t c = c.in-Some.ensures.stand
+
+pub found_around-returns-in-None-clause-grows : goal.bases::found_around-returns-in-None-clause-grows
+found_around-returns-in-None-clause-grows t c = grows_trans _ _ _ c.found_from-met.ensures.grows c.kept_outwards.ensures.grows
+
+pub found_around-returns-in-None-clause-value : goal.bases::found_around-returns-in-None-clause-value
+found_around-returns-in-None-clause-value t c =
+    gives_same _ c.kept_outwards.result _ _ (around_told c.args.s.now c.found_from-met.new.s c.args.ask.now c.args.frame.0 c.args.name.now c.found_from-met.ensures.grows c.requires) c.kept_outwards.ensures.value
+
+pub found_around-returns-in-None-clause-stand : goal.bases::found_around-returns-in-None-clause-stand
+found_around-returns-in-None-clause-stand t c = c.kept_outwards.ensures.stand
+
+pub found_near-found_in-here-requires : goal.bases::found_near-found_in-here-requires
+found_near-found_in-here-requires t c = (omega arith, c.requires)
+
+pub found_near-next_past-requires-clause-frame : goal.bases::found_near-next_past-requires-clause-frame
+found_near-next_past-requires-clause-frame t c = is_frame_later _ _ _ c.found_in-here.ensures.grows c.requires
+
+pub found_near-next_past-requires-clause-here : goal.bases::found_near-next_past-requires-clause-here
+found_near-next_past-requires-clause-here t c = c.found_in-here.ensures.stand
+
+pub found_near-found_around-requires : goal.bases::found_near-found_around-requires
+found_near-found_around-requires t c = (omega arith, rw c.in-Around.is at c.next_past.ensures.stand)
+
+pub found_near-returns-in-Ends-clause-grows : goal.bases::found_near-returns-in-Ends-clause-grows
+found_near-returns-in-Ends-clause-grows t c = grows_trans _ _ _ c.found_in-here.ensures.grows c.next_past.ensures.grows
+
+pub found_near-returns-in-Ends-clause-value : goal.bases::found_near-returns-in-Ends-clause-value
+found_near-returns-in-Ends-clause-value t c =
+    let A : Asking = asks (table_in c.args.s.now) c.args.ask.now in
+    ends_give (frames_of c.next_past.new.s) c.in-Ends.met _ (go_next (table_in c.args.s.now) A c.args.ask.now.place c.args.name.now) _ (λ met. refl)
+    (rw c.in-Ends.is at (c.next_past.ensures.value _ c.found_in-here.ensures.value))
+    (outwards_told c.args.s.now c.args.s.now c.found_in-here.new.s c.args.ask.now c.args.bare true c.args.frame.0 c.args.name.now _
+    (grows_refl c.args.s.now) c.found_in-here.ensures.grows c.requires (is_no_top c.args.s.now c.args.frame.0 c.requires) refl)
+
+pub found_near-returns-in-Around-clause-grows : goal.bases::found_near-returns-in-Around-clause-grows
+found_near-returns-in-Around-clause-grows t c = grows_trans _ _ _ (grows_trans _ _ _ c.found_in-here.ensures.grows c.next_past.ensures.grows) c.found_around.ensures.grows
+
+pub found_near-returns-in-Around-clause-value : goal.bases::found_near-returns-in-Around-clause-value
+found_near-returns-in-Around-clause-value t c =
+    let T : Table = table_in c.args.s.now in
+    let F : Frame = frame_at c.next_past.new.s c.in-Around.outer.0 in
+    gives_same _ c.found_around.result _ _
+    (ap (λ t. found_from t (asks t c.args.ask.now) false false F c.args.ask.now.place c.args.name.now) (table_later c.args.s.now c.next_past.new.s (grows_trans _ _ _ c.found_in-here.ensures.grows c.next_past.ensures.grows))
+    ∙ then_ok _ (go_next T (asks T c.args.ask.now) c.args.ask.now.place c.args.name.now) (Goes_on F) _
+    (outwards_told c.args.s.now c.args.s.now c.found_in-here.new.s c.args.ask.now c.args.bare true c.args.frame.0 c.args.name.now _
+    (grows_refl c.args.s.now) c.found_in-here.ensures.grows c.requires (is_no_top c.args.s.now c.args.frame.0 c.requires) refl)
+    (rw c.in-Around.is at (c.next_past.ensures.value _ c.found_in-here.ensures.value)))
+    c.found_around.ensures.value
+
+pub found_near-returns-in-Around-clause-stand : goal.bases::found_near-returns-in-Around-clause-stand
+found_near-returns-in-Around-clause-stand t c = c.found_around.ensures.stand
+
+pub found_first-found_near-requires : goal.bases::found_first-found_near-requires
+found_first-found_near-requires t c = (omega arith, c.requires)
 
 pub found_first-returns-in-Some-clause-grows : goal.bases::found_first-returns-in-Some-clause-grows
 found_first-returns-in-Some-clause-grows t c = grows_refl c.args.s.now
@@ -153,7 +226,7 @@ pub found_first-returns-then-top-clause-stand : goal.bases::found_first-returns-
 found_first-returns-then-top-clause-stand t c = c.met_at_top.ensures.stand
 
 pub found_first-returns-in-None-clause-grows : goal.bases::found_first-returns-in-None-clause-grows
-found_first-returns-in-None-clause-grows t c = c.found_from.ensures.grows
+found_first-returns-in-None-clause-grows t c = c.found_near.ensures.grows
 
 pub found_first-returns-in-None-clause-stand : goal.bases::found_first-returns-in-None-clause-stand
-found_first-returns-in-None-clause-stand t c = c.found_from.ensures.stand
+found_first-returns-in-None-clause-stand t c = c.found_near.ensures.stand

@@ -3,7 +3,7 @@ use Rattle.std.proofs.Common.{ap, sym, ◌∙◌, arith}
 use Rattle.mo_scope.specs.Frames.{class_of}
 use Rattle.mo_scope.specs.Lookup.{contains}
 use Rattle.mo_scope.specs.Worlds.{frame_at, table_in}
-use Rattle.mo_names.proofs.Alone.{elements_alike, is_false}
+use Rattle.mo_names.proofs.Alone.{elements_alike, is_false, row_alone}
 use Rattle.mo_names.proofs.kept.is_unhindered.Goals as goal
 
 pub returns-then-is_free-clause-same : goal.returns-then-is_free-clause-same
@@ -16,4 +16,4 @@ pub returns-clause-same : goal.returns-clause-same
 returns-clause-same c = λ yes place.
     elements_alike (table_in c.args.s.now) c.args.ask.now.left c.args.ask.now.busy.now place (frame_at c.args.s.now c.args.frame.0) (omega (arith, c.if-ask-eq0.false))
     (ap (contains c.args.ask.now.busy.now) (sym c.class_of.ensures.is) ∙ sym c.is_busy.ensures ∙ c.if-is_busy.false)
-    (c.has_base.ensures (is_false c.has_base.result yes))
+    (row_alone (table_in c.args.s.now) (frame_at c.args.s.now c.args.frame.0) (sym c.has_base.ensures ∙ is_false c.has_base.result yes))

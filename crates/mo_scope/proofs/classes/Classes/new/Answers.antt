@@ -2,6 +2,7 @@
 use Rattle.std.proofs.Common.{◌≡◌, find, map, ap, ◌∙◌, subst}
 use Rattle.std.specs.Prelude.{option_map}
 use Rattle.std.specs.Str.{bytes_eq}
+use Rattle.mo_scope.specs.Extending.{is_extending_row}
 use Rattle.mo_scope.specs.Held.{number_held, group_held, placed_among, row_with}
 use Rattle.mo_scope.specs.OwnNames.{AreOwnNames}
 use Rattle.mo_scope.specs.steps.Listed.{class_seen}
@@ -21,8 +22,9 @@ returns c =
     record {
       rows = rows;
       owns = subst (AreOwnNames c.in_ok-owns.owns) c.as_slice-4.ensures c.in_ok-owns.ensures;
+      extending = c.in_ok-extending.ensures ∙ ap (map (λ row. is_extending_row (row_seen row))) c.as_slice-5.ensures;
       places = λ place. c.in_ok-places.ensures place ∙ ap (λ classes. number_among (map class_seen classes) place) c.as_slice.ensures
           ∙ number_at_table c.args.files.now (map class_seen c.in_ok-classes.classes) place listed;
       tops = λ name. c.in_ok-tops.ensures name
-          ∙ ap (λ table. option_map (λ row. row.number) (find (λ row. bytes_eq row.class.name name) (top_classes table))) (ap (map row_seen) c.as_slice-5.ensures ∙ rows);
+          ∙ ap (λ table. option_map (λ row. row.number) (find (λ row. bytes_eq row.class.name name) (top_classes table))) (ap (map row_seen) c.as_slice-6.ensures ∙ rows);
     }

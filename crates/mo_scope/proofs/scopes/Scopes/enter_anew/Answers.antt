@@ -6,8 +6,21 @@ use Rattle.mo_scope.specs.Entries.{entry_seen, names_of, number_of, table_seen}
 use Rattle.mo_scope.specs.Frames.{Frame, In, gathered}
 use Rattle.mo_scope.specs.Worlds.{AreFrames, IsSound, frame_or_top, frames_of, sources_in}
 use Rattle.mo_scope.proofs.Entering.{entered_pushed, entered_same, taken_back}
+use Rattle.mo_scope.proofs.KeptClasses.{found_grown}
 use Rattle.mo_scope.proofs.Numbered.{world, grows_pushed, grows_same, sound_pushed, frame_pushed}
 use Rattle.mo_scope.proofs.scopes.Scopes.enter_anew.Goals as goal
+
+pub invariant_of-self : goal.invariant_of-self
+invariant_of-self c = record {
+  world = subst (λ xs. IsSound (world entry_seen table_seen c.self.inside.tree.now.files xs)) (sym c.in_err-push.ensures.items) c.self.invariant.world;
+  classes = c.self.invariant.classes;
+  entered = entered_same (map entry_seen c.self.inside.frames.items) (map entry_seen c.push.new.self.items) (entered_held c.self.inside.entered) (entered_held c.self.inside.entered)
+      c.self.invariant.entered (ap (map entry_seen) c.in_err-push.ensures.items) (λ class outer. refl);
+  found = found_grown (world entry_seen table_seen c.self.inside.tree.now.files c.self.inside.frames.items) _ c.self.inside.found.classes.items
+      (grows_same entry_seen table_seen c.self.inside.tree.now.files c.self.inside.frames.items c.push.new.self.items
+      (world entry_seen table_seen c.self.inside.tree.now.files c.self.inside.frames.items) refl c.in_err-push.ensures.items)
+      c.self.invariant.found;
+}
 
 pub invariant_of-self-in-Ok : goal.invariant_of-self-in-Ok
 invariant_of-self-in-Ok c = record {
@@ -16,6 +29,10 @@ invariant_of-self-in-Ok c = record {
   classes = c.self.invariant.classes;
   entered = entered_pushed entry_seen c.self.inside.frames.items c.push.new.self.items _ c.is_bare-bare.result (entered_held c.self.inside.entered) (entered_held c.put.new.self) c.len-number.result
       c.self.invariant.entered (c.len-number.ensures ∙ c.self.inside.frames.ok.0) c.in_ok-push.ensures.items c.is_bare-bare.ensures c.in-Ok.ensures.ok;
+  found = found_grown (world entry_seen table_seen c.self.inside.tree.now.files c.self.inside.frames.items) _ c.self.inside.found.classes.items
+      (grows_pushed entry_seen table_seen c.self.inside.tree.now.files c.self.inside.frames.items c.push.new.self.items _ (world entry_seen table_seen c.self.inside.tree.now.files c.self.inside.frames.items)
+      refl c.in_ok-push.ensures.items)
+      c.self.invariant.found;
 }
 
 pub invariant_of-self-in-Err : goal.invariant_of-self-in-Err
@@ -27,6 +44,10 @@ invariant_of-self-in-Err c =
       classes = c.self.invariant.classes;
       entered = entered_same (map entry_seen c.self.inside.frames.items) (map entry_seen c.truncate.new.self.items) (entered_held c.self.inside.entered) (entered_held c.put.new.self)
           c.self.invariant.entered (ap (map entry_seen) back) c.in-Err.ensures.err;
+      found = found_grown (world entry_seen table_seen c.self.inside.tree.now.files c.self.inside.frames.items) _ c.self.inside.found.classes.items
+          (grows_same entry_seen table_seen c.self.inside.tree.now.files c.self.inside.frames.items c.truncate.new.self.items
+          (world entry_seen table_seen c.self.inside.tree.now.files c.self.inside.frames.items) refl back)
+          c.self.invariant.found;
     }
 
 pub returns-in-Err-clause-grows : goal.returns-in-Err-clause-grows

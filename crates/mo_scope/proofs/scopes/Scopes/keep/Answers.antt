@@ -3,7 +3,8 @@ use Rattle.std.proofs.Common.{map, ap, sym, refl, ◌∙◌}
 use Rattle.mo_scope.specs.Bare.{entered_held}
 use Rattle.mo_scope.specs.Entries.{entry_seen, table_seen}
 use Rattle.mo_scope.proofs.Entering.{entered_same}
-use Rattle.mo_scope.proofs.Numbered.{kept_set, sound_set}
+use Rattle.mo_scope.proofs.KeptClasses.{found_grown}
+use Rattle.mo_scope.proofs.Numbered.{grows_set, kept_set, sound_set, world}
 use Rattle.mo_scope.proofs.scopes.Scopes.keep.Goals as goal
 
 pub invariant_of-self : goal.invariant_of-self
@@ -17,6 +18,9 @@ invariant_of-self c = record {
       c.self.view_is c.index_mut.ensures.value refl refl)
       ∙ sym (ap (λ w. w.entries) c.self.view_is))
       (λ class outer. refl);
+  found = found_grown (world entry_seen table_seen c.self.inside.tree.now.files c.self.inside.frames.items) _ c.self.inside.found.classes.items
+      (grows_set entry_seen table_seen c.self.inside.tree.now.files c.self.inside.frames.items c.args.frame.0 c.index_mut.result.now _ c.index_mut.ensures.value refl)
+      c.self.invariant.found;
 }
 
 pub returns : goal.returns

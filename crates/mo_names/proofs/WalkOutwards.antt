@@ -1,8 +1,8 @@
--- The walk outwards, told of later worlds.
-use Rattle.std.proofs.Common.{◌≡◌, ℕ, Bool, List, ap, ◌∙◌}
+-- The walk outwards, and what stands behind a class, told of later worlds.
+use Rattle.std.proofs.Common.{◌≡◌, ℕ, Bool, false, List, Some, ap, ◌∙◌}
 use Rattle.mo_syntax.specs.declared.place.Place.{Place}
 use Rattle.mo_scope.specs.Frames.{class_of}
-use Rattle.mo_scope.specs.Lookup.{found_in}
+use Rattle.mo_scope.specs.Lookup.{behind_class, found_from, found_in}
 use Rattle.mo_scope.specs.Rows.{row_at}
 use Rattle.mo_scope.specs.Worlds.{World, Grows, IsFrame, frame_at, table_in}
 use Rattle.mo_names.specs.declared.found.Ask.{Ask}
@@ -28,3 +28,14 @@ pub imports_told : (u v : World) (ask : Ask) (n : ℕ) (name : List ℕ) → Gro
 imports_told u v ask n name g at =
     ap (λ t. imports_met t (asks t ask) ask.place name (imports_of (row_at t (class_of (frame_at v n))))) (table_later u v g)
     ∙ ap (λ f. imports_met (table_in u) (asks (table_in u) ask) ask.place name (imports_of (row_at (table_in u) (class_of f)))) (frame_later u v n g at)
+
+pub around_told : (u v : World) (ask : Ask) (n : ℕ) (name : List ℕ) → Grows u v → IsFrame u n →
+    found_from (table_in v) (asks (table_in v) ask) false false (frame_at v n) ask.place name ≡ found_from (table_in u) (asks (table_in u) ask) false false (frame_at u n) ask.place name
+around_told u v ask n name g at =
+    ap (λ t. found_from t (asks t ask) false false (frame_at v n) ask.place name) (table_later u v g) ∙ ap (λ f. found_from (table_in u) (asks (table_in u) ask) false false f ask.place name) (frame_later u v n g at)
+
+pub behind_told : (u v : World) (ask : Ask) (n : ℕ) (name : List ℕ) → Grows u v → IsFrame u n →
+    behind_class (table_in v) (asks (table_in v) ask) ask.place ask.place (Some ask.place) (frame_at v n) name ≡ behind_class (table_in u) (asks (table_in u) ask) ask.place ask.place (Some ask.place) (frame_at u n) name
+behind_told u v ask n name g at =
+    ap (λ t. behind_class t (asks t ask) ask.place ask.place (Some ask.place) (frame_at v n) name) (table_later u v g)
+    ∙ ap (λ f. behind_class (table_in u) (asks (table_in u) ask) ask.place ask.place (Some ask.place) f name) (frame_later u v n g at)
