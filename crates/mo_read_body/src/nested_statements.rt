@@ -1,9 +1,10 @@
 //! Statements that hold statements.
 ghost use Rattle.std.specs.Prelude.{◌≡◌, ◌<◌, ◌≤◌, length, IfOk};
 ghost use Rattle.mo_grammar.specs.Grammar.{many};
+ghost use Rattle.mo_grammar.specs.Lexeme.{code_of_kind};
 ghost use Rattle.mo_grammar.specs.Classes.{statement_branch, if_st, for_st, while_st, when_st};
 ghost use Rattle.mo_grammar.specs.Answers.{Gives, with_rest, reads_inside};
-ghost use Rattle.mo_read_body.specs.steps.StatementParts.{elseif_branch as elseif_branch_form, elsewhen_branch as elsewhen_branch_form, otherwise as otherwise_form};
+ghost use Rattle.mo_read_body.specs.steps.StatementParts.{elseif_branch as elseif_branch_form, elsewhen_branch as elsewhen_branch_form, otherwise as otherwise_form, if_end as if_end_form, if_rest as if_rest_form, looped as looped_form, when_rest as when_rest_form};
 
 use crate::algorithms::statements;
 use mo_class_parts::list_or_nothing;
@@ -11,7 +12,7 @@ use mo_expr_parts::joined;
 use mo_grammar::{Reading, is_next, none_yet, past_limit, take};
 use mo_read_expr::{expression, indices};
 use mo_syntax::TokenKind::Keyword;
-use mo_syntax::{Expr, List, Statement, StatementKind, Token};
+use mo_syntax::{Expr, List, Statement, StatementKind, Token, TokenKind};
 use mo_tables::keywords;
 use std::alloc::Global;
 
@@ -31,10 +32,7 @@ pub fn if_statement<'t, 'a>(
     }
     let (_, rest) = take(tokens, Keyword(keywords::IF))?;
     let (first, rest) = branch(alloc, left - 1, rest)?;
-    let (more, rest) = elseif_branches(alloc, left - 1, rest)?;
-    let (last, rest) = otherwise(alloc, left - 1, rest)?;
-    let (_, rest) = take(rest, Keyword(keywords::END))?;
-    let (_, rest) = take(rest, Keyword(keywords::IF))?;
+    let ((more, last), rest) = if_rest(alloc, left - 1, rest)?;
     let branches = joined(alloc, first, more)?;
     Ok((
         StatementKind::If(branches, list_or_nothing(alloc, last)),
@@ -109,6 +107,55 @@ fn otherwise<'t, 'a>(
     Ok((Some(all), rest))
 }
 
+/// What stands behind the first branch of an if-statement: the other branches, and the statements of `else`.
+#[cycle(statement)]
+fn if_rest<'t, 'a>(
+    alloc: Global,
+    left: u32,
+    tokens: &'t [Token<'a>],
+) -> Reading<'t, 'a, (List<(Expr, List<Statement>)>, Option<List<Statement>>)>
+    ensures reads { Gives with_rest result (reads_inside if_rest_form left tokens.now) }
+    ensures shorter { IfOk result (λ x. length x.1.now < length tokens.now) }
+{
+    let (more, rest) = elseif_branches(alloc, left, tokens)?;
+    let (last, rest) = if_end(alloc, left, rest)?;
+    Ok(((more, last), rest))
+}
+
+/// The statements of `else`, where it stands there, and the end of the if-statement.
+#[cycle(statement)]
+fn if_end<'t, 'a>(
+    alloc: Global,
+    left: u32,
+    tokens: &'t [Token<'a>],
+) -> Reading<'t, 'a, Option<List<Statement>>>
+    ensures reads { Gives with_rest result (reads_inside if_end_form left tokens.now) }
+    ensures shorter { IfOk result (λ x. length x.1.now < length tokens.now) }
+{
+    let (last, rest) = otherwise(alloc, left, tokens)?;
+    let (_, rest) = take(rest, Keyword(keywords::END))?;
+    let (_, rest) = take(rest, Keyword(keywords::IF))?;
+    Ok((last, rest))
+}
+
+/// The statements of a loop, from `loop` to the word behind its `end`.
+#[cycle(statement)]
+fn looped<'t, 'a>(
+    alloc: Global,
+    left: u32,
+    tokens: &'t [Token<'a>],
+    word: TokenKind,
+) -> Reading<'t, 'a, List<Statement>>
+    ensures reads { Gives with_rest result (reads_inside (looped_form (code_of_kind word)) left tokens.now) }
+    ensures shorter { IfOk result (λ x. length x.1.now < length tokens.now) }
+{
+    let (_, rest) = take(tokens, Keyword(keywords::LOOP))?;
+    let (statements, rest) = statements(alloc, left, rest)?;
+    let (_, rest) = take(rest, Keyword(keywords::END))?;
+    let (_, rest) = take(rest, word)?;
+    Ok((statements, rest))
+}
+
 /// Statements for each value of iteration variables.
 #[cycle(statement)]
 #[tactic(auto, using(mo_grammar::proofs::Readers::none_left, mo_grammar::proofs::Readers::some_left))]
@@ -125,10 +172,7 @@ pub fn for_statement<'t, 'a>(
     }
     let (_, rest) = take(tokens, Keyword(keywords::FOR))?;
     let (indices, rest) = indices(alloc, left - 1, rest)?;
-    let (_, rest) = take(rest, Keyword(keywords::LOOP))?;
-    let (statements, rest) = statements(alloc, left - 1, rest)?;
-    let (_, rest) = take(rest, Keyword(keywords::END))?;
-    let (_, rest) = take(rest, Keyword(keywords::FOR))?;
+    let (statements, rest) = looped(alloc, left - 1, rest, Keyword(keywords::FOR))?;
     Ok((StatementKind::For(indices, statements), rest))
 }
 
@@ -148,10 +192,7 @@ pub fn while_statement<'t, 'a>(
     }
     let (_, rest) = take(tokens, Keyword(keywords::WHILE))?;
     let (condition, rest) = expression(alloc, left - 1, rest)?;
-    let (_, rest) = take(rest, Keyword(keywords::LOOP))?;
-    let (statements, rest) = statements(alloc, left - 1, rest)?;
-    let (_, rest) = take(rest, Keyword(keywords::END))?;
-    let (_, rest) = take(rest, Keyword(keywords::WHILE))?;
+    let (statements, rest) = looped(alloc, left - 1, rest, Keyword(keywords::WHILE))?;
     Ok((StatementKind::While(condition, statements), rest))
 }
 
@@ -171,10 +212,24 @@ pub fn when_statement<'t, 'a>(
     }
     let (_, rest) = take(tokens, Keyword(keywords::WHEN))?;
     let (first, rest) = branch(alloc, left - 1, rest)?;
-    let (more, rest) = elsewhen_branches(alloc, left - 1, rest)?;
+    let (more, rest) = when_rest(alloc, left - 1, rest)?;
+    Ok((StatementKind::When(joined(alloc, first, more)?), rest))
+}
+
+/// What stands behind the first branch of a when-statement: the other branches, and its end.
+#[cycle(statement)]
+fn when_rest<'t, 'a>(
+    alloc: Global,
+    left: u32,
+    tokens: &'t [Token<'a>],
+) -> Reading<'t, 'a, List<(Expr, List<Statement>)>>
+    ensures reads { Gives with_rest result (reads_inside when_rest_form left tokens.now) }
+    ensures shorter { IfOk result (λ x. length x.1.now < length tokens.now) }
+{
+    let (more, rest) = elsewhen_branches(alloc, left, tokens)?;
     let (_, rest) = take(rest, Keyword(keywords::END))?;
     let (_, rest) = take(rest, Keyword(keywords::WHEN))?;
-    Ok((StatementKind::When(joined(alloc, first, more)?), rest))
+    Ok((more, rest))
 }
 
 /// The branches behind the first one of a when-statement.

@@ -74,3 +74,15 @@ decreases-nested_statements::while_statement l = l.left * 10 + 1
 
 abbrev pub decreases-nested_statements::when_statement : goal.decreases-nested_statements::when_statement
 decreases-nested_statements::when_statement l = l.left * 10 + 1
+
+abbrev pub decreases-nested_statements::if_end : goal.decreases-nested_statements::if_end
+decreases-nested_statements::if_end l = l.left * 10 + 7
+
+abbrev pub decreases-nested_statements::if_rest : goal.decreases-nested_statements::if_rest
+decreases-nested_statements::if_rest l = l.left * 10 + 9
+
+abbrev pub decreases-nested_statements::looped : goal.decreases-nested_statements::looped
+decreases-nested_statements::looped l = l.left * 10 + 6
+
+abbrev pub decreases-nested_statements::when_rest : goal.decreases-nested_statements::when_rest
+decreases-nested_statements::when_rest l = l.left * 10 + 9

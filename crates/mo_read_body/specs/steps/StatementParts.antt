@@ -1,9 +1,9 @@
 -- Parts of statements that have a reader of their own.
-use Rattle.std.specs.Prelude.{List, Option}
+use Rattle.std.specs.Prelude.{ℕ, List, Option}
 use Rattle.mo_syntax.specs.declared.expr.Expr.{Expr}
 use Rattle.mo_syntax.specs.declared.equation.StatementKind.{StatementKind}
-use Rattle.mo_grammar.specs.Codes.{open_paren, close_paren, semicolon, assigns, elseif_word, elsewhen_word, else_word}
-use Rattle.mo_grammar.specs.Grammar.{seq, either, made, symbol}
+use Rattle.mo_grammar.specs.Codes.{open_paren, close_paren, semicolon, assigns, elseif_word, elsewhen_word, else_word, end_word, if_word, loop_word, when_word}
+use Rattle.mo_grammar.specs.Grammar.{seq, either, made, many, symbol}
 use Rattle.mo_grammar.specs.Forms.{behind, before, between, optional}
 use Rattle.mo_grammar.specs.ClassTrees.{Statement, reference_statement, outputs_statement, assigns_value, calls_it}
 use Rattle.mo_grammar.specs.Symbols.{Form, Expressions, References, CallArguments, StatementItems}
@@ -25,6 +25,22 @@ elsewhen_branch = behind elsewhen_word statement_branch
 -- [else {statement ";"}]
 abbrev pub otherwise : Form (Option (List Statement))
 otherwise = optional (behind else_word statements)
+
+-- [else {statement ";"}] end if
+abbrev pub if_end : Form (Option (List Statement))
+if_end = before (before otherwise end_word) if_word
+
+-- {elseif expr then {statement ";"}} [else {statement ";"}] end if
+abbrev pub if_rest : Form (List (Expr × List Statement) × Option (List Statement))
+if_rest = seq (many elseif_branch) if_end
+
+-- {elsewhen expr then {statement ";"}} end when
+abbrev pub when_rest : Form (List (Expr × List Statement))
+when_rest = before (before (many elsewhen_branch) end_word) when_word
+
+-- loop {statement ";"} end, with the word that the loop begins with
+abbrev pub looped : ℕ → Form (List Statement)
+looped word = behind loop_word (before (before statements end_word) word)
 
 -- "(" outputs ")"
 abbrev pub enclosed_outputs : Form (List (Option Expr))
