@@ -46,8 +46,34 @@ def parameters(n):
 
 
 def typed(n):
-    """Names of bases: n components of a type that is declared beside them."""
-    return model(["type T = Real(unit = \"m\")"] + [f"T x{k} = {k}.0" for k in range(n)], [])
+    """Names of bases: n components of a type that is declared beside them, in a class that has a base."""
+    return "model Icon end Icon;\n" + model(["extends Icon", "type T = Real(unit = \"m\")"] + [f"T x{k} = {k}.0" for k in range(n)], [])
+
+
+def icons(n):
+    """Names of bases behind dots: n components of a library whose packages and classes all have bases."""
+    library = """package L
+  extends L.Icons.Package;
+  package Icons
+    package Package end Package;
+    partial model Part end Part;
+  end Icons;
+  package Units
+    extends L.Icons.Package;
+    type Length = Real(unit = "m");
+    type Height = Length(min = 0);
+  end Units;
+  package Parts
+    extends L.Icons.Package;
+    model Bar
+      extends L.Icons.Part;
+      parameter L.Units.Height h = 1;
+      Units.Length l = 2*h;
+    end Bar;
+  end Parts;
+end L;
+"""
+    return library + model(["extends L.Icons.Part"] + [f"L.Parts.Bar b{k}(h = {k}.0)" for k in range(n)], [])
 
 
 def apart(n):
@@ -112,7 +138,8 @@ SERIES = {
     "annotation": (annotation, "flat", (20000, 60000, 180000)),
     "classes": (classes, "flat", (5000, 15000, 45000)),
     "parameters": (parameters, "flat", (5000, 15000, 45000)),
-    "typed": (typed, "flat", (900, 2700, 8100)),
+    "typed": (typed, "flat", (2500, 7500, 22500)),
+    "icons": (icons, "flat", (500, 1500, 4500)),
     "apart": (apart, "report", (5000, 15000, 45000)),
     "circuit": (circuit, "report", (2500, 7500, 22500)),
     "dense": (dense, "report", (25000, 75000, 225000)),
