@@ -1,4 +1,4 @@
-//! What was found of names while classes are having their bases found, kept.
+//! The classes that names were found to be, kept.
 ghost use Rattle.std.specs.Prelude.{◌≡◌, false, IfOk, IfSome, Some, Ok};
 ghost use Rattle.mo_scope.specs.KeptClasses.{FindsClass};
 ghost use Rattle.mo_scope.specs.Lookup.{behind_class as found_behind_class, found_from as found_outwards};
@@ -11,7 +11,7 @@ use mo_scope::{AskedName, Scopes};
 use mo_syntax::{FrameId, NoMemory, Stop, Text};
 use std::alloc::Global;
 
-/// The class that a name was found to be before, behind a class or outwards from a frame, where classes are having their bases found.
+/// The class that a name was found to be before, behind a class or outwards from a frame.
 fn class_before(
     s: &Scopes,
     ask: &Ask,
@@ -22,9 +22,6 @@ fn class_before(
     ensures is { IfSome result (λ class. FindsClass s.now behind ask.now.left ask.now.busy.now frame.0 ask.now.place name.now class.0.0 class.1) }
     ensures exists { IfSome result (λ class. IsFrame s.now class.0.0) }
 {
-    if ask.busy.is_empty() {
-        return None;
-    }
     s.found_class(&AskedName {
         behind,
         frame,
@@ -70,7 +67,7 @@ pub(crate) fn found_before_behind<'t>(
     }
 }
 
-/// Keeps the class that a name finds, where classes are having their bases found.
+/// Keeps the class that a name finds.
 fn keep_class(
     alloc: Global,
     s: &mut Scopes,
@@ -85,9 +82,6 @@ fn keep_class(
     requires finds { FindsClass s.old behind ask.now.left ask.now.busy.now frame.0 ask.now.place name.now class.0.0 class.1 }
     ensures { s.new ≡ s.old }
 {
-    if ask.busy.is_empty() {
-        return Ok(());
-    }
     let asked = AskedName {
         behind,
         frame,
