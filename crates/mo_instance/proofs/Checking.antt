@@ -133,6 +133,12 @@ base_before u v frame base walked passed g is there found counted =
     ∙ ap (λ n. and_then (frame_passed (table_in u) (inherits walked) (drop n (sources_of (frame_at u base))) (frame_at u base)) (λ _. fine)) (counted ∙ ap (λ (f : Frame). length (sources_of f)) (frame_later u v frame g is))
     ∙ sym (ap (λ (o : Outcome Walked). and_then o (λ walked. and_then (frame_passed (table_in u) (inherits walked) (added_to (frame_at u frame) (frame_at u base)) (frame_at u base)) (λ _. fine))) found)
 
+pub near_before : (u v : World) (frame base : ℕ) → Grows u v → IsFrame u frame → IsFrame u base → base_passed (table_in v) (frame_at v frame) (frame_at v base) ≡ base_passed (table_in u) (frame_at u frame) (frame_at u base)
+near_before u v frame base g is there =
+    ap (λ (t : Table). base_passed t (frame_at v frame) (frame_at v base)) (table_later u v g)
+    ∙ ap (λ (f : Frame). base_passed (table_in u) f (frame_at v base)) (frame_later u v frame g is)
+    ∙ ap (λ (f : Frame). base_passed (table_in u) (frame_at u frame) f) (frame_later u v base g there)
+
 -- ---- the class of a component's type
 
 module _ (table : Table) (frame : Frame) where

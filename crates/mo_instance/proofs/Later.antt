@@ -1,17 +1,20 @@
 -- What the values of the code are stays the same in later worlds.
-use Rattle.std.proofs.Common.{◌≡◌, ℕ, ◌<◌, List, [], ◌∷◌, map, Option, Some, None, refl, ap, sym, subst, ◌∙◌}
+use Rattle.std.proofs.Common.{◌≡◌, ℕ, ◌<◌, List, [], ◌∷◌, map, Ok, Option, Some, None, refl, ap, sym, subst, ◌∙◌}
 use Rattle.std.specs.Prelude.{option_map, IfSome}
+use Rattle.mo_syntax.specs.Outcome.{Outcome}
 use Rattle.mo_scope.specs.Entries.{names_of}
 use Rattle.mo_scope.specs.Frames.{Frame, class_of}
 use Rattle.mo_scope.specs.Rows.{Table, number_of_classes}
 use Rattle.mo_scope.specs.Instances.{Chosen, Leaf, Instance}
 use Rattle.mo_scope.specs.Lookup.{Walked}
 use Rattle.mo_scope.specs.Places.{Every}
-use Rattle.mo_scope.specs.Worlds.{World, Grows, frame_in, frames_of, sources_in, table_in}
+use Rattle.mo_scope.specs.Names.{walk_of}
+use Rattle.mo_scope.specs.Worlds.{World, Grows, IsFrame, frame_in, frames_of, sources_in, table_in}
 use Rattle.mo_names.proofs.Later.{grows_refl, grows_trans, table_later, frame_later, is_frame_later, member_later, is_member_later, is_walk_later, walk_later}
 use Rattle.mo_names.specs.declared.found.Child.{Child as ChildAt}
 use Rattle.mo_names.specs.declared.walk.Walk.{Walk}
 use Rattle.mo_names.specs.Children.{IsChild, child_seen}
+use Rattle.mo_names.specs.Sights.{IsWalk, walk_seen}
 use Rattle.mo_lookup.proofs.Children.{wins_later, wins_stand_later, sources_later}
 use Rattle.mo_scope.specs.Sights.{redeclaration_in, source_seen}
 use Rattle.mo_eval.proofs.Grown.{kept_still}
@@ -21,6 +24,18 @@ use Rattle.mo_scope.specs.declared.instance.Leaf.{Leaf as LeafAt}
 use Rattle.mo_scope.specs.Trees.{IsChosen, IsInstance, IsLeaf, attribute_in, chosen_in, instance_in, instances_in, leaf_in}
 use Rattle.mo_instance.specs.steps.Sights.{IsEntered}
 use Rattle.mo_instance.specs.steps.Walks.{IsWalkOrNone, walk_or_none}
+
+-- ---- elements
+
+-- what the elements of a frame are is what they were
+pub elements_stay : (u v : World) (frame : ℕ) (o : Outcome Walked) → Grows u v → IsFrame u frame → walk_of (table_in u) (frame_in (frames_of u) frame) ≡ o → walk_of (table_in v) (frame_in (frames_of v) frame) ≡ o
+elements_stay u v frame o g at is =
+    ap (λ t. walk_of t (frame_in (frames_of v) frame)) (table_later u v g) ∙ (ap (λ (f : Frame). walk_of (table_in u) f) (frame_later u v frame g at) ∙ is)
+
+pub elements_later : (u v : World) (frame : ℕ) (walk : Walk) → Grows u v → IsFrame u frame → IsWalk u walk →
+    walk_of (table_in u) (frame_in (frames_of u) frame) ≡ Ok (walk_seen (frames_of u) walk) → walk_of (table_in v) (frame_in (frames_of v) frame) ≡ Ok (walk_seen (frames_of v) walk)
+elements_later u v frame walk g at stands is =
+    elements_stay u v frame _ g at is ∙ ap (λ (x : Walked). Ok x) (sym (walk_later u v walk g stands))
 
 -- ---- chosen expressions
 

@@ -2,9 +2,10 @@
 //! 4.6, 5.4, 7.1 to 7.3).
 #![tactic(auto, using(crate::proofs::Later::later))]
 
-ghost use Rattle.std.specs.Prelude.{◌≡◌, ◌<◌, Some, drop, length, map, option_copied, slice_get, unwrap_or, IfOk};
+ghost use Rattle.std.specs.Prelude.{◌≡◌, ◌<◌, None, Ok, Some, drop, length, map, option_copied, slice_get, true, unwrap_or, IfOk};
 ghost use Rattle.mo_scope.specs.Arguments.{second_pass as pass_second};
 ghost use Rattle.mo_scope.specs.Frames.{sources_of};
+ghost use Rattle.mo_scope.specs.Names.{walk_of as elements_of_frame};
 ghost use Rattle.mo_scope.specs.Outcome.{Gives};
 ghost use Rattle.mo_scope.specs.Places.{Every};
 ghost use Rattle.mo_scope.specs.Redeclarations.{each_checked};
@@ -46,13 +47,14 @@ fn passes<'t>(
     requires frame { IsFrame s.old frame.0 }
     requires replaced { IsWalkOrNone s.old (option_copied replaced) }
     requires walk { IsWalk s.old walk.now }
+    requires elements { elements_of_frame (table_in s.old) (frame_at s.old frame.0) ≡ Ok (walk_at s.old walk.now) }
     ensures grows { Grows s.old s.new }
     ensures value { Gives (λ _. tt) result (frame_passes (table_in s.old) (is_replaced_by (walk_or_none (frames_of s.old) (option_copied replaced.entry))) (drop passed (sources_of (frame_at s.old frame.0))) (frame_at s.old frame.0) (walk_at s.old walk.now)) }
 {
     in_profile(s, frame)?;
     first_pass(alloc, s, frame, replaced, walk, passed)?;
     second_pass(alloc, s, frame)?;
-    check_redeclared(alloc, s, frame)?;
+    check_redeclared(alloc, s, frame, walk)?;
     replaces_inherited(s, frame)
 }
 
@@ -69,23 +71,42 @@ fn frame_passed<'t>(
     ensures grows { Grows s.old s.new }
     ensures value { Gives (walk_at s.new) result (frame_has_passed (table_in s.old) (is_replaced_by (walk_or_none (frames_of s.old) (option_copied replaced.entry))) (drop passed (sources_of (frame_at s.old frame.0))) (frame_at s.old frame.0)) }
     ensures stand { IfOk result (IsWalk s.new) }
+    ensures elements { IfOk result (λ walk. elements_of_frame (table_in s.new) (frame_at s.new frame.0) ≡ Ok (walk_at s.new walk)) }
 {
     let walk = walk_of(alloc, s, frame)?;
     passes(alloc, s, frame, replaced, &walk, passed)?;
     Ok(walk)
 }
 
-/// The checks of a base of a frame.
-fn base_passed(alloc: Global, s: &mut Scopes, frame: FrameId, base: FrameId) -> Result<(), Stop>
+/// The checks of a base of a frame that has these elements.
+fn base_passed<'t>(
+    alloc: Global,
+    s: &mut Scopes<'t>,
+    frame: FrameId,
+    walk: &Walk<'t>,
+    base: FrameId,
+) -> Result<(), Stop>
+    requires frame { IsFrame s.old frame.0 }
+    requires walk { IsWalk s.old walk.now }
+    requires elements { elements_of_frame (table_in s.old) (frame_at s.old frame.0) ≡ Ok (walk_at s.old walk.now) }
+    requires base { IsFrame s.old base.0 }
+    ensures grows { Grows s.old s.new }
+    ensures value { Gives (λ _. tt) result (base_has_passed (table_in s.old) (frame_at s.old frame.0) (frame_at s.old base.0)) }
+{
+    let passed = s.sources(frame).len();
+    frame_passed(alloc, s, base, Some(walk), passed)?;
+    Ok(())
+}
+
+/// The checks of a base of a frame, whose elements are found.
+fn far_base_passed(alloc: Global, s: &mut Scopes, frame: FrameId, base: FrameId) -> Result<(), Stop>
     requires frame { IsFrame s.old frame.0 }
     requires base { IsFrame s.old base.0 }
     ensures grows { Grows s.old s.new }
     ensures value { Gives (λ _. tt) result (base_has_passed (table_in s.old) (frame_at s.old frame.0) (frame_at s.old base.0)) }
 {
     let walk = walk_of(alloc, s, frame)?;
-    let passed = s.sources(frame).len();
-    frame_passed(alloc, s, base, Some(&walk), passed)?;
-    Ok(())
+    base_passed(alloc, s, frame, &walk, base)
 }
 
 /// The frame that a base is a base of: the one before it on the way from that frame.
@@ -109,37 +130,53 @@ fn base_at_end(through: &List<FrameId>) -> FrameId
     }
 }
 
-/// The checks of a base of a frame, given with the base frames on the way to it, the innermost first.
-fn through_passed(
+/// Whether a way leads through no other base.
+fn is_nearest(through: &List<FrameId>) -> bool
+    ensures { result ≡ true → slice_get through.now 1 ≡ None }
+{
+    through.get(1).is_none()
+}
+
+/// The checks of a base of a frame that has these elements, given with the base frames on the way to it, the innermost first.
+fn through_passed<'t>(
     alloc: Global,
-    s: &mut Scopes,
+    s: &mut Scopes<'t>,
     frame: FrameId,
+    walk: &Walk<'t>,
     through: &List<FrameId>,
 ) -> Result<(), Stop>
     requires frame { IsFrame s.old frame.0 }
+    requires walk { IsWalk s.old walk.now }
+    requires elements { elements_of_frame (table_in s.old) (frame_at s.old frame.0) ≡ Ok (walk_at s.old walk.now) }
     requires through { IsBase s.old through.now }
     ensures grows { Grows s.old s.new }
     ensures value { Gives (λ _. tt) result (through_has_passed (table_in s.old) (frame_at s.old frame.0) (frames_through (frames_of s.old) through.now)) }
 {
-    let outer = frame_before(frame, through);
     let base = base_at_end(through);
-    base_passed(alloc, s, outer, base)
+    if is_nearest(through) {
+        return base_passed(alloc, s, frame, walk, base);
+    }
+    let outer = frame_before(frame, through);
+    far_base_passed(alloc, s, outer, base)
 }
 
-/// The checks of the bases of a frame, one after another.
+/// The checks of the bases of a frame that has these elements, one after another.
 fn bases_passed<'t>(
     alloc: Global,
     s: &mut Scopes<'t>,
     frame: FrameId,
+    walk: &Walk<'t>,
     bases: &[List<FrameId>],
 ) -> Result<(), Stop>
     requires frame { IsFrame s.old frame.0 }
+    requires walk { IsWalk s.old walk.now }
+    requires elements { elements_of_frame (table_in s.old) (frame_at s.old frame.0) ≡ Ok (walk_at s.old walk.now) }
     requires bases { Every (IsBase s.old) bases.now }
     ensures grows { Grows s.old s.new }
     ensures value { Gives (λ _. tt) result (each_checked (through_has_passed (table_in s.old) (frame_at s.old frame.0)) (map (frames_through (frames_of s.old)) bases.now)) }
 {
     for through in bases {
-        through_passed(alloc, s, frame, through)?;
+        through_passed(alloc, s, frame, walk, through)?;
     }
     Ok(())
 }
@@ -158,7 +195,7 @@ pub(crate) fn frame_checked<'t>(
 {
     whole_class(s, place, frame)?;
     let walk = frame_passed(alloc, s, frame, None, 0)?;
-    bases_passed(alloc, s, frame, walk.bases.as_slice())?;
+    bases_passed(alloc, s, frame, &walk, walk.bases.as_slice())?;
     Ok(walk)
 }
 

@@ -1,10 +1,11 @@
 //! The redeclarations among the sources of a frame (Modelica Language Specification 3.5, sections 6.4 and 7.3).
 #![tactic(auto, using(crate::proofs::Later::later))]
 
-ghost use Rattle.std.specs.Prelude.{map};
+ghost use Rattle.std.specs.Prelude.{◌≡◌, map, Ok};
+ghost use Rattle.mo_scope.specs.Names.{walk_of};
 ghost use Rattle.mo_scope.specs.Outcome.{Gives};
 ghost use Rattle.mo_scope.specs.Places.{Every};
-ghost use Rattle.mo_scope.specs.Redeclarations.{each_checked, redeclaration_checked as redeclaration_is_checked, redeclarations_checked, redeclared_checked};
+ghost use Rattle.mo_scope.specs.Redeclarations.{each_checked, redeclaration_checked as redeclaration_is_checked, redeclared_checked};
 ghost use Rattle.mo_scope.specs.Worlds.{Grows, IsFrame, frame_at, frames_of, member_in, table_in};
 ghost use Rattle.mo_scope.specs.Sights.{redeclaration_at, member_at};
 ghost use Rattle.mo_names.specs.Sights.{IsMember, IsWalk, walk_at};
@@ -17,7 +18,7 @@ use crate::known::{all_elements, named};
 use crate::prefix::is_same;
 use crate::replaceable::is_replaceable_for;
 use crate::spoken::{Named, redeclared_in};
-use mo_names::{Walk, walk_of};
+use mo_names::Walk;
 use mo_scope::{Member, MemberTable, Redeclaration, Scopes, is_class};
 use mo_syntax::{FrameId, Stop, rules, stop};
 use std::alloc::Global;
@@ -108,8 +109,11 @@ fn each_checked_in<'t>(
     Ok(())
 }
 
-/// Asks what the redeclarations of a frame break whose elements are these.
-fn walk_checked<'t>(
+/// Asks what the redeclarations among the sources of a frame break that has these elements, the outermost source first, also those
+/// that a source further out replaces. Rule 13 is broken where a class is redeclared as a component or a component as a class, rule
+/// 24 where the element is not replaceable, rule 25 where the new class is not compatible with that of the constraining clause, or
+/// with the declared one: each at the redeclaration; and at its turn a rule that the name of one of the two classes breaks.
+pub fn check_redeclared<'t>(
     alloc: Global,
     s: &mut Scopes<'t>,
     frame: FrameId,
@@ -117,8 +121,9 @@ fn walk_checked<'t>(
 ) -> Result<(), Stop>
     requires frame { IsFrame s.old frame.0 }
     requires walk { IsWalk s.old walk.now }
+    requires elements { walk_of (table_in s.old) (frame_at s.old frame.0) ≡ Ok (walk_at s.old walk.now) }
     ensures grows { Grows s.old s.new }
-    ensures value { Gives (λ _. tt) result (redeclarations_checked (table_in s.old) (walk_at s.old walk.now) (frame_at s.old frame.0)) }
+    ensures value { Gives (λ _. tt) result (redeclared_checked (table_in s.old) (frame_at s.old frame.0)) }
 {
     let redeclared = redeclared_in(alloc, s, frame)?;
     let members = all_elements(alloc, walk.members.as_slice())?;
@@ -129,18 +134,4 @@ fn walk_checked<'t>(
         walk.leaf.is_some(),
         redeclared.as_slice(),
     )
-}
-
-/// Asks what the redeclarations among the sources of a frame break, the outermost source first, also those that a source
-/// further out replaces. Rule 13 is broken where a class is redeclared as a component or a component as a class, rule 24 where
-/// the element is not replaceable, rule 25 where the new class is not compatible with that of the constraining clause, or with
-/// the declared one: each at the redeclaration. Before that come the rules that the elements of the frame break, and at its
-/// turn a rule that the name of one of the two classes breaks.
-pub fn check_redeclared<'t>(alloc: Global, s: &mut Scopes<'t>, frame: FrameId) -> Result<(), Stop>
-    requires { IsFrame s.old frame.0 }
-    ensures grows { Grows s.old s.new }
-    ensures value { Gives (λ _. tt) result (redeclared_checked (table_in s.old) (frame_at s.old frame.0)) }
-{
-    let walk = walk_of(alloc, s, frame)?;
-    walk_checked(alloc, s, frame, &walk)
 }

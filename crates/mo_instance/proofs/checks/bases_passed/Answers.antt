@@ -8,11 +8,19 @@ use Rattle.mo_scope.specs.Redeclarations.{each_checked}
 use Rattle.mo_scope.specs.Worlds.{frame_at, frames_of, table_in}
 use Rattle.mo_names.specs.Sights.{IsBase, frames_through}
 use Rattle.mo_names.proofs.Circling.{left_from, then_ok}
-use Rattle.mo_names.proofs.Later.{grows_trans}
+use Rattle.mo_names.proofs.Later.{grows_trans, is_walk_later}
 use Rattle.mo_instance.specs.steps.Checks.{through_passed}
 use Rattle.mo_instance.proofs.Checking.{through_before}
+use Rattle.mo_instance.proofs.Later.{elements_later}
 use Rattle.mo_instance.proofs.Lists.{broken_on, every_at}
 use Rattle.mo_instance.proofs.checks.bases_passed.Goals as goal
+
+pub through_passed-requires-clause-walk : goal.through_passed-requires-clause-walk
+through_passed-requires-clause-walk c = is_walk_later c.args.s.now c.loop-through.s c.args.walk.now c.loop-through.invariant.grows c.requires.walk
+
+pub through_passed-requires-clause-elements : goal.through_passed-requires-clause-elements
+through_passed-requires-clause-elements c =
+    elements_later c.args.s.now c.loop-through.s c.args.frame.0 c.args.walk.now c.loop-through.invariant.grows c.requires.frame c.requires.walk c.requires.elements
 
 pub returns-in_err-through_passed-clause-value : goal.returns-in_err-through_passed-clause-value
 returns-in_err-through_passed-clause-value c =

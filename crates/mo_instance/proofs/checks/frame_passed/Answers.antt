@@ -8,14 +8,18 @@ use Rattle.mo_scope.specs.Outcome.{Gives}
 use Rattle.mo_scope.specs.Redeclarations.{Checked}
 use Rattle.mo_scope.specs.Worlds.{frame_at, frames_of, table_in}
 use Rattle.mo_names.specs.Sights.{walk_seen}
-use Rattle.mo_names.proofs.Later.{grows_trans, is_walk_later, walk_later}
+use Rattle.mo_names.proofs.Later.{grows_trans, is_frame_later, is_walk_later, walk_later}
 use Rattle.mo_instance.specs.steps.Checks.{frame_passes}
 use Rattle.mo_instance.specs.steps.FirstPass.{is_replaced_by}
 use Rattle.mo_instance.specs.steps.Walks.{walk_or_none}
 use Rattle.mo_instance.proofs.Checking.{passes_are, passes_before}
+use Rattle.mo_instance.proofs.Later.{elements_later, elements_stay}
 use Rattle.mo_instance.proofs.Lists.{broken_on}
 use Rattle.mo_syntax.specs.Outcome.{and_then}
 use Rattle.mo_instance.proofs.checks.frame_passed.Goals as goal
+
+pub passes-requires-clause-elements : goal.passes-requires-clause-elements
+passes-requires-clause-elements c = elements_stay c.args.s.now c.walk_of.new.s c.args.frame.0 _ c.in_ok-walk.ensures.grows c.requires.frame c.in_ok-walk.ensures.value
 
 pub returns-in_err-passes-clause-value : goal.returns-in_err-passes-clause-value
 returns-in_err-passes-clause-value c =
@@ -45,6 +49,11 @@ returns-clause-value c =
 
 pub returns-clause-stand : goal.returns-clause-stand
 returns-clause-stand c = is_walk_later c.walk_of.new.s c.passes.new.s c.in_ok-walk.walk c.in_ok-passes.ensures.grows c.in_ok-walk.ensures.stand
+
+pub returns-clause-elements : goal.returns-clause-elements
+returns-clause-elements c =
+    elements_later c.walk_of.new.s c.passes.new.s c.args.frame.0 c.in_ok-walk.walk c.in_ok-passes.ensures.grows (is_frame_later c.args.s.now c.walk_of.new.s c.args.frame.0 c.in_ok-walk.ensures.grows c.requires.frame) c.in_ok-walk.ensures.stand
+    (elements_stay c.args.s.now c.walk_of.new.s c.args.frame.0 _ c.in_ok-walk.ensures.grows c.requires.frame c.in_ok-walk.ensures.value)
 
 pub returns-in_err-walk-clause-grows : goal.returns-in_err-walk-clause-grows
 returns-in_err-walk-clause-grows c = c.in_err-walk.ensures.grows
