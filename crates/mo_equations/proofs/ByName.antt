@@ -14,13 +14,13 @@ use Rattle.mo_syntax.specs.declared.place.Stop.TheVariants.{Broken as broken_by,
 use Rattle.mo_scope.specs.declared.row.Member.{Member as MemberAt}
 use Rattle.mo_scope.specs.Outcome.{Gives}
 use Rattle.mo_scope.specs.Places.{Every}
-use Rattle.mo_scope.specs.Names.{Child, child_of_member, component_frame}
+use Rattle.mo_scope.specs.Names.{Child, child_of_member, component_frame, component_entered}
 use Rattle.mo_scope.specs.Rows.{Table, is_class}
 use Rattle.mo_scope.specs.Sights.{declares_seen}
 use Rattle.mo_scope.specs.Frames.{Frame, Member, Scope, class_of}
 use Rattle.mo_scope.specs.Lookup.{Found, Component, Class, Literal, Iteration, Function, Time, Met, Reached, Element, Other, Absent, asking_of, found_first, reached}
 use Rattle.mo_scope.specs.Worlds.{World, Grows, frames_of}
-use Rattle.mo_names.specs.Children.{component_entered, first_declared}
+use Rattle.mo_names.specs.Children.{first_declared}
 use Rattle.mo_names.specs.Sights.{IsFound, IsMember, found_in, member_of}
 use Rattle.mo_names.specs.declared.found.Found.{Found as FoundAt}
 use Rattle.mo_names.specs.declared.found.Found.TheVariants.{Component as component_at, Class as class_at, Literal as literal_at, Iteration as iteration_at, Function as function_at, Time as time_at}

@@ -9,10 +9,9 @@ use Rattle.mo_syntax.specs.declared.place.Stop.{Stop}
 use Rattle.mo_syntax.specs.declared.place.Stop.TheVariants.{Broken as broken_by, NoMemory as no_memory}
 use Rattle.mo_scope.specs.Frames.{Member}
 use Rattle.mo_scope.specs.Lookup.{Found, Component, Class, Literal, Iteration, Function, Time, Element, Other, Absent, asking_of, reached}
-use Rattle.mo_scope.specs.Names.{Child, child_of_member, component_frame, stands_for}
+use Rattle.mo_scope.specs.Names.{Child, child_of_member, component_frame, stands_for, component_entered}
 use Rattle.mo_scope.specs.Outcome.{Gives as GivesSeen}
 use Rattle.mo_scope.specs.Rows.{Table}
-use Rattle.mo_names.specs.Children.{component_entered}
 use Rattle.mo_syntax.specs.declared.rules.TheConstants.{WRONG_SIZE}
 use Rattle.mo_typing.specs.Dims.{Dims, are_equal}
 use Rattle.mo_typing.specs.Indices.{Index}

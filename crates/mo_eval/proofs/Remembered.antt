@@ -5,13 +5,13 @@ use Rattle.std.proofs.Math.ListN.{set}
 use Rattle.mo_syntax.specs.Outcome.{Outcome, breaks}
 use Rattle.mo_syntax.specs.declared.meaning.Kind.{Kind}
 use Rattle.mo_syntax.specs.declared.place.Place.{Place}
-use Rattle.mo_scope.specs.Frames.{Frame, Member}
-use Rattle.mo_scope.specs.Own.{IsOwnElement, own_declared}
+use Rattle.mo_scope.specs.Frames.{Member}
 use Rattle.mo_scope.specs.Parts.{Picked, picked_here}
 use Rattle.mo_scope.specs.Names.{Child, child_of_member}
-use Rattle.mo_scope.specs.Rows.{Table, Declares}
+use Rattle.mo_scope.specs.Rows.{Table}
 use Rattle.mo_scope.specs.Sights.{declares_seen}
 use Rattle.mo_scope.specs.Worlds.{World, frame_in, frames_of, table_in}
+use Rattle.mo_scope.proofs.KeptComponents.{same_own}
 use Rattle.mo_scope.specs.declared.row.Member.{Member as MemberAt}
 use Rattle.mo_names.specs.Sights.{IsMember, member_of}
 use Rattle.mo_syntax.specs.declared.rules.TheConstants.{NO_VALUE}
@@ -49,17 +49,6 @@ each_set P (z ∷ xs) (suc i) y each is zero x at = each zero x at
 each_set P (z ∷ xs) (suc i) y each is (suc k) x at = each_set P xs i y (λ j w h. each (suc j) w h) is k x at
 
 -- ---- one component
-
-abbrev pub member_with : List ℕ → Frame → ℕ → Bool → Declares → Member
-member_with name home item hidden declares = record { name = name; home = home; item = item; hidden = hidden; declares = declares }
-
-pub same_own : (table : Table) (a b : List ℕ) (f g : Frame) (i j : ℕ) (h k : Bool) (d e : Declares) → f ≡ g → i ≡ j → h ≡ k → IsOwnElement table (member_with a f i h d) → IsOwnElement table (member_with b g j k e) →
-    member_with a f i h d ≡ member_with b g j k e
-same_own table a b f g i j h k d e home item hidden is also =
-    let declared : d ≡ e = ap (or_this d) (sym is.declares ∙ (ap (λ x. slice_get (own_declared table x) i) home ∙ (ap (slice_get (own_declared table g)) item ∙ also.declares))) in
-    let named : a ≡ b = is.name ∙ (ap (λ (x : Declares). x.name) declared ∙ sym also.name) in
-    ap (λ x. member_with x f i h d) named
-    ∙ (ap (λ x. member_with b x i h d) home ∙ (ap (λ x. member_with b g x h d) item ∙ (ap (λ x. member_with b g j x d) hidden ∙ ap (λ x. member_with b g j k x) declared)))
 
 pub same_member : (world : World) (a b : MemberAt) → a.home.0 ≡ b.home.0 → a.item ≡ b.item → a.hidden ≡ b.hidden → IsMember world a → IsMember world b → member_of (frames_of world) a ≡ member_of (frames_of world) b
 same_member world a b home item hidden is also =

@@ -19,7 +19,7 @@ use crate::checks::type_checked;
 use crate::leaf::leaf_of;
 use crate::paths::path_of;
 use crate::prefixes::Around;
-use mo_lookup::{child_of_member, enter_child};
+use mo_lookup::{child_of_member, enter_own_child};
 use mo_names::Walk;
 use mo_scope::{Declares, Instance, Leaf, Member, Redeclaration, Scopes, component_of, copied};
 use mo_syntax::{FrameId, NoMemory, Part, Place, Stop, both, rules, stop};
@@ -82,7 +82,7 @@ fn element_frame<'t>(
 {
     let child = child_of_member(alloc, s, member, index)?;
     let place = class_place(member, &child.redeclared);
-    let frame = enter_child(alloc, s, member, index, child)?;
+    let frame = enter_own_child(alloc, s, member, index, child)?;
     Ok((place, frame))
 }
 

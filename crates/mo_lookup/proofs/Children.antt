@@ -5,19 +5,24 @@ use Rattle.mo_syntax.specs.Outcome.{Outcome, and_then, breaks}
 use Rattle.mo_syntax.specs.declared.class.ComponentOf.{ComponentOf}
 use Rattle.mo_syntax.specs.declared.class.Give.{Give}
 use Rattle.mo_syntax.specs.declared.place.Stop.{Stop}
+use Rattle.mo_syntax.specs.declared.meaning.FrameId.{FrameId}
+use Rattle.mo_scope.specs.declared.row.Member.{Member as MemberAt}
 use Rattle.mo_scope.specs.declared.saying.Redeclaration.{Redeclaration as RedeclarationAt}
 use Rattle.mo_scope.specs.Outcome.{Gives}
 use Rattle.mo_scope.specs.Rows.{Table, class_number, component_of, is_class}
 use Rattle.mo_scope.specs.Frames.{Frame, Scope, Source, Member, looked_up, sources_of}
 use Rattle.mo_scope.specs.Lookup.{asking_of, class_named, entered}
-use Rattle.mo_scope.specs.Names.{Child, child_of_member, scope_of_home, typed_by}
+use Rattle.mo_scope.specs.Names.{Child, child_of_member, component_entered, component_frame, scope_of_home, typed_by}
 use Rattle.mo_scope.specs.Parts.{Redeclaration, class_sources, component_sources, redeclared}
-use Rattle.mo_scope.specs.Sights.{declares_seen, redeclaration_in, source_seen}
-use Rattle.mo_scope.specs.Worlds.{World, SourceEntry, AreFrames, Grows, IsFrame, frames_of, sources_in}
+use Rattle.mo_scope.specs.Sights.{declares_seen, member_at, redeclaration_in, source_seen}
+use Rattle.mo_scope.specs.Worlds.{World, SourceEntry, AreFrames, Grows, IsFrame, frame_at, frames_of, sources_in, table_in}
 use Rattle.mo_scope.proofs.Numbered.{alike_sources, frames_stay, listed_gathered}
-use Rattle.mo_names.specs.Children.{class_child, component_child, type_by}
+use Rattle.mo_names.specs.Calls.{IsComponentFrame, element_child_at}
+use Rattle.mo_names.specs.Children.{child_at, class_child, component_child, type_by}
+use Rattle.mo_names.specs.Sights.{IsMember}
+use Rattle.mo_names.specs.declared.found.Child.{Child as ChildAt}
 use Rattle.mo_lookup.proofs.Chains.{then_after}
-use Rattle.mo_names.proofs.Later.{frame_later, is_frame_later}
+use Rattle.mo_names.proofs.Later.{frame_later, is_frame_later, member_later, table_later}
 use Rattle.mo_syntax.specs.declared.rules.TheConstants.{WRONG_KIND_OF_NAME}
 
 -- ---- later worlds
@@ -42,6 +47,20 @@ wins_stand_later u v (Some r) g at = is_frame_later u v r.source.scope.frame.0 g
 
 pub sources_later : (u v : World) (xs : List SourceEntry) → Grows u v → AreFrames u xs → sources_in (frames_of v) xs ≡ sources_in (frames_of u) xs
 sources_later u v xs g are = alike_sources (frames_of v) (frames_of u) (length u.entries) (frames_stay u v g) xs are
+
+-- ---- frames of components
+
+pub child_stays : (u v : World) (m : MemberAt) (index : List ℕ) (o : Outcome Child) → Grows u v → IsMember u m → element_child_at u m index ≡ o → element_child_at v m index ≡ o
+child_stays u v m index o g is same =
+    ap (λ t. child_of_member t (member_at v m) index) (table_later u v g) ∙ (ap (λ (x : Member). child_of_member (table_in u) x index) (member_later u v m g is) ∙ same)
+
+pub entered_stays : (u v : World) (m : MemberAt) (index : List ℕ) (child : ChildAt) (frame : FrameId) → Grows u v → IsMember u m → element_child_at u m index ≡ Ok (child_at u child) → IsComponentFrame u v m index child frame →
+    component_entered (table_in v) (member_at v m) index ≡ Ok (frame_at v frame.0)
+entered_stays u v m index child frame g is own at =
+    ap (λ t. component_entered t (member_at v m) index) (table_later u v g)
+    ∙ (ap (λ (x : Member). component_entered (table_in u) x index) (member_later u v m g is)
+    ∙ (ap (λ o. and_then o (λ child. Ok (component_frame (member_at u m) index child))) own
+    ∙ ap (λ (f : Frame). Ok f) (sym at)))
 
 -- ---- classes
 

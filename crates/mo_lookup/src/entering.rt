@@ -1,7 +1,7 @@
 //! Children of frames: their elements, entered at an index (Modelica Language Specification 3.5, sections 7.2 and 7.3).
 #![tactic(auto, using(mo_names::proofs::Later::later))]
 
-ghost use Rattle.std.specs.Prelude.{◌≡◌, List as Seq, option_copied, option_map, map, IfOk, IfSome, Some};
+ghost use Rattle.std.specs.Prelude.{◌≡◌, List as Seq, option_copied, option_map, map, IfOk, IfSome, Ok, Some};
 ghost use Rattle.mo_scope.specs.Entries.{names_of as path_names};
 ghost use Rattle.mo_scope.specs.Names.{path_below as indexed_below};
 ghost use Rattle.mo_scope.specs.Outcome.{Gives};
@@ -223,6 +223,42 @@ pub fn enter_child<'t>(
     s.enter(alloc, number, child.sources, outer, at, Some(member.home))
 }
 
+/// The frame of a component that was entered at an index as its own child, kept for who enters it again.
+pub fn enter_own_child<'t>(
+    alloc: Global,
+    s: &mut Scopes<'t>,
+    member: &Member<'t>,
+    index: &[u32],
+    child: Child<'t>,
+) -> Result<FrameId, NoMemory>
+    requires member { IsMember s.old member.now }
+    requires child { IsChild s.old child }
+    requires own { element_child_at s.old member.now index.now ≡ Ok (child_at s.old child) }
+    ensures grows { Grows s.old s.new }
+    ensures is { IfOk result (IsComponentFrame s.old s.new member.now index.now child.entry) }
+    ensures exists { IfOk result (λ frame. IsFrame s.new frame.0) }
+{
+    let frame = enter_child(alloc, s, member, index, child)?;
+    s.keep_component(alloc, member, index, frame)?;
+    Ok(frame)
+}
+
+/// The frame of a component that was not kept, entered at an index.
+fn enter_component_anew<'t>(
+    alloc: Global,
+    s: &mut Scopes<'t>,
+    member: &Member<'t>,
+    index: &[u32],
+) -> Result<FrameId, Stop>
+    requires { IsMember s.old member.now }
+    ensures grows { Grows s.old s.new }
+    ensures value { Gives (λ frame. frame_at s.new frame.0) result (component_entered_at s.old member.now index.now) }
+    ensures stand { IfOk result (λ frame. IsFrame s.new frame.0) }
+{
+    let child = child_of_member(alloc, s, member, index)?;
+    Ok(enter_own_child(alloc, s, member, index, child)?)
+}
+
 /// The frame of a component, entered at an index. Breaks what `child_of_member` breaks.
 pub fn enter_component<'t>(
     alloc: Global,
@@ -235,6 +271,8 @@ pub fn enter_component<'t>(
     ensures value { Gives (λ frame. frame_at s.new frame.0) result (component_entered_at s.old member.now index.now) }
     ensures stand { IfOk result (λ frame. IsFrame s.new frame.0) }
 {
-    let child = child_of_member(alloc, s, member, index)?;
-    Ok(enter_child(alloc, s, member, index, child)?)
+    match s.entered_component(member, index) {
+        Some(frame) => Ok(frame),
+        None => enter_component_anew(alloc, s, member, index),
+    }
 }

@@ -9,8 +9,8 @@
 //!   identifier of a name, one behind a dot, and a whole name. [`find_declared`] gives what the first identifier finds before an inner
 //!   component is sought.
 //! - [`inner_of`], [`stands_for`]: the component that one which is declared `outer` stands for.
-//! - [`child`], [`child_of_member`]: an element of a frame, entered at an index, as [`Child`](mo_names::Child); [`enter_child`] and
-//!   [`enter_component`] make the frame of a component.
+//! - [`child`], [`child_of_member`]: an element of a frame, entered at an index, as [`Child`](mo_names::Child). [`enter_component`] makes
+//!   the frame of a component, or finds it where it was made before; [`enter_child`] makes that of a child, and [`enter_own_child`] keeps it.
 //! - [`first_base`]: the base of the first extends clause of the class of a frame, for a short class its only one. [`is_leaf`]: whether a
 //!   frame is one of a leaf type. [`leaf_base`]: the first base of leaf type.
 //! - [`step`]: one step on the way on which the dimensions of a type are found, as [`Onward`]. [`sizes_of`], [`all_sizes`]: the dimensions
@@ -28,7 +28,7 @@ mod sizes;
 mod types;
 
 pub use bases::{first_base, is_leaf, leaf_base};
-pub use entering::{child, child_of_member, enter_child, enter_component};
+pub use entering::{child, child_of_member, enter_child, enter_component, enter_own_child};
 pub use lookup::{find, find_declared, find_first};
 pub use outer::{inner_of, stands_for};
 pub use path::{find_behind, find_path};

@@ -8,9 +8,8 @@ use Rattle.mo_syntax.specs.declared.rules.TheConstants.{OUTSIDE_PROFILE}
 use Rattle.mo_scope.specs.Extending.{is_clause, is_extending}
 use Rattle.mo_scope.specs.Rows.{Table, Row, Part, Element_of, Base_of, clauses_in, is_left_out, number_of_classes, row_at}
 use Rattle.mo_scope.specs.Frames.{Frame, class_of}
-use Rattle.mo_scope.specs.Lookup.{Walked, Asking, asking_of, contains, leaf_checked, leaf_of, nothing_walked, walked_class, walked_parts, with_member}
+use Rattle.mo_scope.specs.Lookup.{Walked, Asking, asking_of, contains, leaf_checked, leaf_of, nothing_walked, walked_class, walked_parts, with_member, asking_at}
 use Rattle.mo_scope.specs.Names.{clauses_of}
-use Rattle.mo_names.specs.Sights.{asking_at}
 use Rattle.mo_names.proofs.Circling.{walked_further}
 
 parts_alike : (table : Table) (a b : Asking) (frame : Frame) (row : Row) (item : ℕ) (parts : List Part) (so_far : Walked) → clauses_in parts ≡ [] →

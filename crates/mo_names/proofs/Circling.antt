@@ -15,9 +15,8 @@ use Rattle.mo_syntax.specs.declared.place.Stop.TheVariants.{Broken as broken_by,
 use Rattle.mo_scope.specs.Outcome.{Gives}
 use Rattle.mo_scope.specs.Rows.{Table, Row, row_at, Part, Element_of, Base_of, is_left_out}
 use Rattle.mo_scope.specs.Frames.{Frame, Top, In, class_of, is_top}
-use Rattle.mo_scope.specs.Lookup.{Found, Met, Classed, Walked, Asking, behind_class, class_wanted, classed, import_behind, imported_package, and_also, found_by_each, found_by_import, found_by_imports, found_element, first_at_top, through_star, found_by_star, class_behind, found_in, found_from, met_far, or_absent, at_top, predefined, is_closed, contains, walked, walked_class, walked_parts, with_member, with_base, base_of, leaf_checked, leaf_of, nothing_walked, last_place}
+use Rattle.mo_scope.specs.Lookup.{Found, Met, Classed, Walked, Asking, behind_class, class_wanted, classed, import_behind, imported_package, and_also, found_by_each, found_by_import, found_by_imports, found_element, first_at_top, through_star, found_by_star, class_behind, found_in, found_from, met_far, or_absent, at_top, predefined, is_closed, contains, walked, walked_class, walked_parts, with_member, with_base, base_of, leaf_checked, leaf_of, nothing_walked, last_place, asking_at}
 use Rattle.mo_scope.specs.Worlds.{World, Grows, table_in}
-use Rattle.mo_names.specs.Sights.{asking_at}
 use Rattle.mo_names.specs.Past.{Past, Found_past, Around, found_past, past, past_outer}
 use Rattle.mo_names.specs.steps.Bases.{base_with_elements, parts_walked}
 use Rattle.mo_names.specs.steps.Lookup.{started, own_inherited, before_dot, package_at_top, import_step, package_step, package_behind, found_by_all, found_by_names_or_stars, found_or, imported_met, imports_met, met_or, class_step}

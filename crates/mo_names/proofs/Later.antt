@@ -1,5 +1,5 @@
 -- Frames keep their numbers, so what the values of the code are stays the same in later worlds.
-use Rattle.std.proofs.Common.{◌≡◌, ℕ, ◌<◌, List, [], ◌∷◌, ◌++◌, length, map, reverse, Option, Some, None, option_map, refl, ap, sym, subst, ◌∙◌, arith, length-append, append_assoc}
+use Rattle.std.proofs.Common.{◌≡◌, ℕ, ◌<◌, List, [], ◌∷◌, ◌++◌, map, reverse, Option, Some, None, option_map, refl, ap, sym, subst, ◌∙◌, append_assoc}
 use Rattle.std.proofs.lemmas.List.{append-nil}
 use Rattle.mo_syntax.specs.declared.meaning.FrameId.{FrameId}
 use Rattle.mo_scope.specs.declared.row.Member.{Member as MemberAt}
@@ -10,7 +10,7 @@ use Rattle.mo_scope.specs.Own.{IsOwnElement}
 use Rattle.mo_scope.specs.Places.{Every}
 use Rattle.mo_scope.specs.Sights.{declares_seen}
 use Rattle.mo_scope.specs.Worlds.{World, Grows, IsFrame, frame_in, frames_of, table_in}
-use Rattle.mo_scope.proofs.Numbered.{frames_stay}
+use Rattle.mo_scope.proofs.Numbered.{frames_stay, is_frame_grown}
 use Rattle.mo_names.specs.declared.found.Found.{Found as FoundAt}
 use Rattle.mo_names.specs.declared.found.Found.TheVariants.{Component as component_at, Class as class_at, Literal as literal_at, Iteration as iteration_at, Function as function_at, Time as time_at}
 use Rattle.mo_names.specs.declared.join.Added.{Added}
@@ -37,7 +37,7 @@ pub frame_later : (u v : World) (n : ℕ) → Grows u v → IsFrame u n → fram
 frame_later u v n g at = frames_stay u v g n at
 
 pub is_frame_later : (u v : World) (n : ℕ) → Grows u v → IsFrame u n → IsFrame v n
-is_frame_later u v n g at = omega (arith, ap length g.entries, length-append u.entries g.more)
+is_frame_later u v n g at = is_frame_grown u v n g at
 
 -- ---- elements
 

@@ -7,7 +7,7 @@ use Rattle.mo_syntax.specs.Outcome.{Outcome, and_then, breach}
 use Rattle.mo_syntax.specs.declared.place.Place.{Place}
 use Rattle.mo_scope.specs.Rows.{Table, Row, row_at, number_of_classes, Part, Element_of, Declares, Clause}
 use Rattle.mo_scope.specs.Frames.{Frame, class_of, is_top, looked_up, outer_of, sources_of}
-use Rattle.mo_scope.specs.Lookup.{Asking, Walked, asking_of, base_of, contains, last_place, leaf_checked, walked, walked_class, with_base, with_member}
+use Rattle.mo_scope.specs.Lookup.{Asking, Walked, asking_of, base_of, contains, last_place, leaf_checked, walked, walked_class, with_base, with_member, asking_at}
 use Rattle.mo_scope.specs.Worlds.{World, Grows, IsFrame, frame_at, frames_of, table_in}
 use Rattle.mo_scope.proofs.Numbered.{is_no_top}
 use Rattle.mo_scope.proofs.laws.Standing.{every_append, every_weaker}
@@ -18,7 +18,7 @@ use Rattle.mo_names.specs.declared.walk.Walk.{Walk}
 use Rattle.mo_names.specs.steps.Bases.{base_walked, part_walked, parts_walked}
 use Rattle.mo_names.specs.steps.Parts.{parts_of}
 use Rattle.mo_names.specs.steps.Settled.{AreFree, AreMore, AreSettled, ClassOwned, IsFurther, IsJoined, IsSettled, OwnedFree, ToldFree, ToldOwned, WalkedFree}
-use Rattle.mo_names.specs.Sights.{IsAdded, IsWalk, added_seen, asking_at, walk_seen}
+use Rattle.mo_names.specs.Sights.{IsAdded, IsWalk, added_seen, walk_seen}
 use Rattle.mo_names.specs.steps.Lookup.{base_at, next_item, own_inherited, started}
 use Rattle.mo_names.specs.steps.Twins.{BeginsElsewhere, owned_by, owned_walk, unowned}
 use Rattle.mo_names.proofs.Asked.{Above, Also, also_never, also_same, base_of_also}

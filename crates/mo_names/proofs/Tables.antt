@@ -7,12 +7,11 @@ use Rattle.mo_syntax.specs.Outcome.{Outcome, and_then}
 use Rattle.mo_syntax.specs.declared.place.Place.{Place}
 use Rattle.mo_scope.specs.Rows.{Table, number_of_classes}
 use Rattle.mo_scope.specs.Frames.{Frame, Member, class_of}
-use Rattle.mo_scope.specs.Lookup.{Walked, Asking, Element, Absent, asking_of, contains, counts_in_package, is_package, members_in, named, own_members, reached, reached_in}
+use Rattle.mo_scope.specs.Lookup.{Walked, Asking, Element, Absent, asking_of, contains, counts_in_package, is_package, members_in, named, own_members, reached, reached_in, asking_at}
 use Rattle.mo_scope.specs.Names.{elements_of, is_inner_for}
 use Rattle.mo_scope.specs.Open.{are_open, is_open_declares}
 use Rattle.mo_scope.specs.Worlds.{MemberEntry, member_in}
 use Rattle.mo_names.specs.Children.{first_inner, inner_in_frame}
-use Rattle.mo_names.specs.Sights.{asking_at}
 use Rattle.mo_names.proofs.OwnFirst.{asked_at, reached_none, reached_some}
 
 no_elements : (xs : List ℕ) → length xs ≡ 0 → xs ≡ []

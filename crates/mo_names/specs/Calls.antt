@@ -10,14 +10,14 @@ use Rattle.mo_scope.specs.declared.row.Member.{Member as MemberAt}
 use Rattle.mo_scope.specs.declared.source.ScopeAt.{ScopeAt}
 use Rattle.mo_scope.specs.Frames.{Frame, Member}
 use Rattle.mo_scope.specs.Lookup.{Found, Reached, asking_of, named, own_members, reached}
-use Rattle.mo_scope.specs.Names.{Child, base_frame_of, child_of, child_of_member, clauses_of, component_frame, elements_of, found_path, inner_of}
+use Rattle.mo_scope.specs.Names.{Child, base_frame_of, child_of, child_of_member, clauses_of, component_frame, elements_of, found_path, inner_of, component_entered}
 use Rattle.mo_scope.specs.Outcome.{Gives}
 use Rattle.mo_scope.specs.Rows.{Clause}
 use Rattle.mo_scope.specs.Sights.{member_at, scope_at}
 use Rattle.mo_scope.specs.Worlds.{World, frame_at, table_in}
 use Rattle.mo_names.specs.declared.found.Child.{Child as ChildAt}
 use Rattle.mo_names.specs.declared.found.Found.{Found as FoundAt}
-use Rattle.mo_names.specs.Children.{child_at, component_entered, first_declared, first_found, next_found}
+use Rattle.mo_names.specs.Children.{child_at, first_declared, first_found, next_found}
 use Rattle.mo_names.specs.Sights.{found_at}
 
 -- ---- elements and bases of a frame

@@ -12,7 +12,7 @@ use Rattle.mo_scope.specs.Rows.{Table, component_of, is_class}
 use Rattle.mo_scope.specs.Calls.{HasScope}
 use Rattle.mo_scope.specs.Frames.{Frame, Scope, Member, sources_of}
 use Rattle.mo_scope.specs.Lookup.{Found, Component, Inherited, Reached, Element, asking_of, behind_class, class_named, entered, reached}
-use Rattle.mo_scope.specs.Names.{Child, behind_found, child_of_member, component_frame, is_inner_for, scope_of_home, stands_for, taken}
+use Rattle.mo_scope.specs.Names.{Child, behind_found, component_entered, is_inner_for, scope_of_home, stands_for, taken}
 use Rattle.mo_scope.specs.Parts.{Redeclaration, class_sources, component_sources, redeclared}
 use Rattle.mo_scope.specs.Sights.{declares_seen, redeclaration_in, source_seen}
 use Rattle.mo_scope.specs.Worlds.{World, AreFrames, IsFrame, frame_in, frames_of, sources_in}
@@ -68,10 +68,6 @@ identifier name place = record { name = name; place = place; subs = [] }
 -- what one more identifier finds behind a dot
 abbrev pub next_found : Table → Found → List ℕ → Place → Outcome Found
 next_found table found name place = behind_found table found (identifier name place)
-
--- the frame of a component, entered at an index
-abbrev pub component_entered : Table → Member → List ℕ → Outcome Frame
-component_entered table member index = and_then (child_of_member table member index) (λ child. Ok (component_frame member index child))
 
 -- ---- steps of children
 

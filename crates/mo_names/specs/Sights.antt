@@ -6,7 +6,7 @@ use Rattle.mo_syntax.specs.declared.meaning.FrameId.{FrameId}
 use Rattle.mo_scope.specs.declared.row.Member.{Member as MemberAt}
 use Rattle.mo_scope.specs.Rows.{Table, class_number, number_of_classes}
 use Rattle.mo_scope.specs.Frames.{Frame, Member}
-use Rattle.mo_scope.specs.Lookup.{Found, Component, Class, Literal, Iteration, Function, Time, Reached, Element, Other, Absent, Met, Classed, Inherited, Walked, Asking, walked}
+use Rattle.mo_scope.specs.Lookup.{Found, Component, Class, Literal, Iteration, Function, Time, Reached, Element, Other, Absent, Met, Classed, Inherited, Walked, Asking, asking_at}
 use Rattle.mo_scope.specs.ByName.{place_held}
 use Rattle.mo_scope.specs.declared.names.Names.{Names}
 use Rattle.mo_scope.specs.Places.{Every}
@@ -134,8 +134,5 @@ pub record IsAdded (world : World) (added : Added) : Type 0 where
 -- ---- asking
 
 -- what the elements of frames are, while these classes are having their bases found and so many are not
-abbrev pub asking_at : Table → ℕ → List ℕ → Asking
-asking_at table left busy = record { busy = busy; elements = walked table left busy }
-
 abbrev pub asks : Table → Ask → Asking
 asks table ask = asking_at table ask.left ask.busy.now

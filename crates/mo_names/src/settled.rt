@@ -5,7 +5,7 @@
 ghost use Rattle.std.specs.Prelude.{◌≡◌, ◌||◌, ◌≤◌, ◌<◌, ◌+◌, [], ℕ, true, false, length, is_some, IfOk, IfSome, Ok, None, Some, slice_get};
 ghost use Rattle.mo_syntax.specs.declared.place.Place.{Place as PlaceAt};
 ghost use Rattle.mo_scope.specs.Frames.{class_of, sources_of};
-ghost use Rattle.mo_scope.specs.Lookup.{asking_of, contains, walked_class as class_walked, with_member as joined_member};
+ghost use Rattle.mo_scope.specs.Lookup.{asking_of, contains, walked_class as class_walked, with_member as joined_member, asking_at};
 ghost use Rattle.mo_scope.specs.Own.{own_declared};
 ghost use Rattle.mo_scope.specs.Rows.{class_number, number_of_classes};
 ghost use Rattle.mo_scope.specs.Sights.{clause_seen, declares_seen, part_seen};
@@ -13,7 +13,7 @@ ghost use Rattle.mo_scope.specs.Worlds.{Grows, IsFrame, frame_at, table_in, row_
 ghost use Rattle.mo_names.specs.steps.Bases.{IsOwnPart, PartExists, base_walked as walked_base, part_walked as walked_part, parts_walked as walked_parts_from};
 ghost use Rattle.mo_names.specs.steps.Parts.{parts_of};
 ghost use Rattle.mo_names.specs.steps.Settled.{AreSettled, ClassOwned, IsFurther, IsJoined, IsSettled, ToldFree, ToldOwned};
-ghost use Rattle.mo_names.specs.Sights.{IsWalk, asking_at, walk_at};
+ghost use Rattle.mo_names.specs.Sights.{IsWalk, walk_at};
 ghost use Rattle.mo_names.specs.steps.Twins.{BeginsElsewhere, owned_walk, unowned};
 ghost use Rattle.mo_names.specs.steps.Lookup.{base_at, next_item, own_inherited, started as walk_started};
 

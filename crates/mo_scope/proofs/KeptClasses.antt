@@ -1,52 +1,40 @@
 -- What is kept of names that were found to be classes.
-use Rattle.std.proofs.Common.{◌≡◌, ℕ, ◌+◌, inl, inr, Bool, true, false, List, [], ◌∷◌, ◌++◌, length, length-append, Some, Ok, ap, sym, subst, ◌∙◌, arith}
-use Rattle.std.specs.Prelude.{slice_get}
+use Rattle.std.proofs.Common.{◌≡◌, ℕ, inl, inr, Bool, true, false, List, [], ◌∷◌, ◌++◌, Some, Ok, ap, sym, subst, ◌∙◌}
 use Rattle.mo_syntax.specs.declared.meaning.FrameId.{FrameId}
 use Rattle.mo_syntax.specs.declared.place.Place.{Place}
 use Rattle.mo_scope.specs.declared.found_classes.FoundClass.{FoundClass}
 use Rattle.mo_scope.specs.declared.found_classes.AskedName.{AskedName}
 use Rattle.mo_scope.specs.Frames.{Frame}
-use Rattle.mo_scope.specs.Lookup.{Class, behind_class, found_from}
-use Rattle.mo_scope.specs.KeptClasses.{AreFound, asking_for, FindsClass, IsAskedSo, IsFoundClass, IsHeld, IsMade, OldOrMade}
+use Rattle.mo_scope.specs.Lookup.{Class, asking_at, behind_class, found_from}
+use Rattle.mo_scope.specs.KeptClasses.{AreFound, FindsClass, IsAskedSo, IsFoundClass, IsMade, OldOrMade}
 use Rattle.mo_scope.specs.Rows.{table_of}
 use Rattle.mo_scope.specs.Worlds.{World, Grows, IsFrame, frame_at, table_in}
-use Rattle.mo_scope.proofs.Numbered.{at_append, frames_stay}
+use Rattle.mo_scope.proofs.Kept.{none_held, none_more, one_more}
+use Rattle.mo_scope.proofs.Numbered.{frames_stay, is_frame_grown}
 
 -- ---- what is held
 
 pub none_found : (world : World) (classes : List FoundClass) → classes ≡ [] → AreFound world classes
-none_found world classes none found held = absurd (empty held.at (ap (λ xs. slice_get xs held.at) (sym none) ∙ held.is))
-  where
-    empty : (n : ℕ) → slice_get [] n ≡ Some found → ⊥
-    empty n is = cc
+none_found world classes none = none_held (IsFoundClass world) classes none
 
 pub nothing_more : (old new : List FoundClass) (asked : AskedName) (class : FrameId) (replaceable : Bool) → new ≡ old → OldOrMade old new asked class replaceable
-nothing_more old new asked class replaceable same held is = inl (subst (λ xs. IsHeld xs held) same is)
+nothing_more old new asked class replaceable same = none_more (λ held. IsMade held asked class replaceable) old new same
 
-pub one_more : (old new : List FoundClass) (made : FoundClass) (asked : AskedName) (class : FrameId) (replaceable : Bool) → new ≡ old ++ made ∷ [] → IsMade made asked class replaceable → OldOrMade old new asked class replaceable
-one_more old new made asked class replaceable pushed is_made held is =
-    elim (at_append old made is.at held (ap (λ xs. slice_get xs is.at) (sym pushed) ∙ is.is)) [
-      | inl before ↦ inl (record { at = is.at; is = before })
-      | inr last ↦ inr (subst (λ x. IsMade x asked class replaceable) last.1 is_made)
-    ]
+pub one_class_more : (old new : List FoundClass) (made : FoundClass) (asked : AskedName) (class : FrameId) (replaceable : Bool) → new ≡ old ++ made ∷ [] → IsMade made asked class replaceable → OldOrMade old new asked class replaceable
+one_class_more old new made asked class replaceable pushed is_made = one_more (λ held. IsMade held asked class replaceable) old new made pushed is_made
 
 -- ---- in later worlds
-
-is_frame_grown : (old new : World) (n : ℕ) → Grows old new → IsFrame old n → IsFrame new n
-is_frame_grown old new n grows at =
-    let long : length new.entries ≡ length old.entries + length grows.more = ap length grows.entries ∙ length-append old.entries grows.more in
-    omega (arith, at, long)
 
 finds_grown : (old new : World) (behind : Bool) (left : ℕ) (busy : List ℕ) (frame : ℕ) (place : Place) (name : List ℕ) (class : ℕ) (replaceable : Bool) → Grows old new → IsFrame old frame → IsFrame old class →
     FindsClass old behind left busy frame place name class replaceable → FindsClass new behind left busy frame place name class replaceable
 finds_grown old new true left busy frame place name class replaceable grows at real finds =
-    ap (λ files. behind_class (table_of files) (asking_for (table_of files) left busy) place place (Some place) (frame_at new frame) name) grows.files
-    ∙ ap (λ (f : Frame). behind_class (table_in old) (asking_for (table_in old) left busy) place place (Some place) f name) (frames_stay old new grows frame at)
+    ap (λ files. behind_class (table_of files) (asking_at (table_of files) left busy) place place (Some place) (frame_at new frame) name) grows.files
+    ∙ ap (λ (f : Frame). behind_class (table_in old) (asking_at (table_in old) left busy) place place (Some place) f name) (frames_stay old new grows frame at)
     ∙ finds
     ∙ ap (λ (f : Frame). Ok (Class f replaceable)) (sym (frames_stay old new grows class real))
 finds_grown old new false left busy frame place name class replaceable grows at real finds =
-    ap (λ files. found_from (table_of files) (asking_for (table_of files) left busy) false false (frame_at new frame) place name) grows.files
-    ∙ ap (λ (f : Frame). found_from (table_in old) (asking_for (table_in old) left busy) false false f place name) (frames_stay old new grows frame at)
+    ap (λ files. found_from (table_of files) (asking_at (table_of files) left busy) false false (frame_at new frame) place name) grows.files
+    ∙ ap (λ (f : Frame). found_from (table_in old) (asking_at (table_in old) left busy) false false f place name) (frames_stay old new grows frame at)
     ∙ finds
     ∙ ap (λ (f : Frame). Ok (record { found = Class f replaceable; near = false })) (sym (frames_stay old new grows class real))
 
@@ -100,4 +88,4 @@ found_more world old new asked class replaceable all change frame real finds fou
       | inr made ↦ made_found world found asked class replaceable made frame real finds
     ]
 
-pub ruleset keeping = (nothing_more, one_more)
+pub ruleset keeping = (nothing_more, one_class_more)

@@ -1,6 +1,8 @@
 pub mod AlikePaths
 pub mod Entering
+pub mod Kept
 pub mod KeptClasses
+pub mod KeptComponents
 pub mod Keys
 pub mod Lists
 pub mod Mentioned

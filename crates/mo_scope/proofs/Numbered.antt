@@ -10,7 +10,7 @@ use Rattle.mo_scope.specs.Frames.{Frame, Top, In, Source, gathered, listed, sour
 use Rattle.mo_scope.specs.Rows.{number_of_classes, table_of}
 use Rattle.mo_scope.specs.Names.{elements_of}
 use Rattle.mo_syntax.specs.SoundTree.{IsSoundTree}
-use Rattle.mo_scope.specs.Worlds.{SourceEntry, FrameEntry, MemberEntry, World, Grows, AreFrames, IsFrameOrNone, IsEntry, IsSound, IsTable, kept_table, table_in, frame_in, frame_or_top, source_in, sources_in, member_in, frame_of_entry, frames_from, frames_of, frame_at}
+use Rattle.mo_scope.specs.Worlds.{SourceEntry, FrameEntry, MemberEntry, World, Grows, AreFrames, IsFrame, IsFrameOrNone, IsEntry, IsSound, IsTable, kept_table, table_in, frame_in, frame_or_top, source_in, sources_in, member_in, frame_of_entry, frames_from, frames_of, frame_at}
 
 -- frames that are alike below a number
 abbrev pub Alike : List Frame → List Frame → ℕ → Type 0
@@ -96,6 +96,11 @@ frame_at_entry w c n e at is =
     ∙ frames_from_at [] w.entries c n e at (subst (λ k. IsEntry c k e) from_zero is)
 
 -- each old number keeps its frame
+pub is_frame_grown : (old new : World) (n : ℕ) → Grows old new → IsFrame old n → IsFrame new n
+is_frame_grown old new n grows at =
+    let long : length new.entries ≡ length old.entries + length grows.more = ap length grows.entries ∙ length-append old.entries grows.more in
+    omega (arith, at, long)
+
 pub frames_stay : (old new : World) → Grows old new → Alike (frames_of new) (frames_of old) (length old.entries)
 unfolding frames_of
 frames_stay old new grows m below =

@@ -4,6 +4,7 @@ use Rattle.mo_scope.specs.declared.scopes.Scopes.TheInside.{Inside}
 use Rattle.mo_scope.specs.Bare.{AreEntered, entered_held}
 use Rattle.mo_scope.specs.Classes.{AreClasses}
 use Rattle.mo_scope.specs.KeptClasses.{AreFound}
+use Rattle.mo_scope.specs.KeptComponents.{AreEnteredComponents}
 use Rattle.mo_scope.specs.Worlds.{World, IsSound}
 use Rattle.mo_scope.specs.Entries.{entry_seen, table_seen}
 
@@ -21,3 +22,5 @@ pub record IsSoundInside (scopes : Inside) : Type 0 where
   pub entered : AreEntered (map entry_seen scopes.frames.items) (entered_held scopes.entered)
   -- the classes that names found while other classes were having their bases found are those that they find
   pub found : AreFound (world_of scopes) scopes.found.classes.items
+  -- the frames that components were entered as are those that they are entered as
+  pub components : AreEnteredComponents (world_of scopes) scopes.components.components.items

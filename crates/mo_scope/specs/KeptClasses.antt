@@ -1,24 +1,20 @@
 -- The classes that names find while other classes are having their bases found.
-use Rattle.std.specs.Prelude.{◌≡◌, ◌⊎◌, ℕ, Bool, true, false, List, Some, Ok, slice_get}
+use Rattle.std.specs.Prelude.{◌≡◌, ℕ, Bool, true, false, List, Some, Ok}
 use Rattle.mo_syntax.specs.declared.meaning.FrameId.{FrameId}
 use Rattle.mo_syntax.specs.declared.place.Place.{Place}
 use Rattle.mo_scope.specs.declared.found_classes.AskedName.{AskedName}
 use Rattle.mo_scope.specs.declared.found_classes.FoundClass.{FoundClass}
-use Rattle.mo_scope.specs.Lookup.{Asking, Class, behind_class, found_from, walked}
-use Rattle.mo_scope.specs.Rows.{Table}
+use Rattle.mo_scope.specs.Kept.{IsHeld, OldOr}
+use Rattle.mo_scope.specs.Lookup.{Class, asking_at, behind_class, found_from}
 use Rattle.mo_scope.specs.Worlds.{World, IsFrame, frame_at, table_in}
-
--- how the elements of frames are asked, while these classes are having their bases found and so many others may
-abbrev pub asking_for : Table → (left : ℕ) (busy : List ℕ) → Asking
-asking_for table left busy = record { busy = busy; elements = walked table left busy }
 
 -- Asked for at that place, the name finds that class: behind the class of the frame, where a component would break rule 13 there; or outwards
 -- from the frame.
 abbrev pub FindsClass : World → (behind : Bool) (left : ℕ) (busy : List ℕ) (frame : ℕ) → Place → List ℕ → (class : ℕ) (replaceable : Bool) → Type 0
 FindsClass world true left busy frame place name class replaceable =
-    behind_class (table_in world) (asking_for (table_in world) left busy) place place (Some place) (frame_at world frame) name ≡ Ok (Class (frame_at world class) replaceable)
+    behind_class (table_in world) (asking_at (table_in world) left busy) place place (Some place) (frame_at world frame) name ≡ Ok (Class (frame_at world class) replaceable)
 FindsClass world false left busy frame place name class replaceable =
-    found_from (table_in world) (asking_for (table_in world) left busy) false false (frame_at world frame) place name
+    found_from (table_in world) (asking_at (table_in world) left busy) false false (frame_at world frame) place name
     ≡ Ok (record { found = Class (frame_at world class) replaceable; near = false })
 
 -- it is what was found for that name
@@ -37,13 +33,9 @@ pub record IsMade (made : FoundClass) (asked : AskedName) (class : FrameId) (rep
   pub finds : made.class ≡ class
   pub kind : made.replaceable ≡ replaceable
 
-pub record IsHeld (classes : List FoundClass) (class : FoundClass) : Type 0 where
-  pub at : ℕ
-  pub is : slice_get classes at ≡ Some class
-
 -- nothing else is held than before but this class, found for that name
 abbrev pub OldOrMade : (old new : List FoundClass) → AskedName → FrameId → Bool → Type 0
-OldOrMade old new asked class replaceable = (held : FoundClass) → IsHeld new held → IsHeld old held ⊎ IsMade held asked class replaceable
+OldOrMade old new asked class replaceable = OldOr old new (λ held. IsMade held asked class replaceable)
 
 -- the name that it was found for finds that class, and both frames exist
 pub record IsFoundClass (world : World) (found : FoundClass) : Type 0 where

@@ -11,7 +11,9 @@ pub mod Held
 pub mod Insides
 pub mod Instances
 pub mod Mentions
+pub mod Kept
 pub mod KeptClasses
+pub mod KeptComponents
 pub mod Lookup
 pub mod Names
 pub mod Open

@@ -572,6 +572,10 @@ walked table (suc left) busy place frame = walked_by table (walked table left) b
 abbrev pub asking_of : Table → Asking
 asking_of table = record { busy = []; elements = walked table (number_of_classes table) [] }
 
+-- what they are while those of these classes are being found, and so many others may
+abbrev pub asking_at : Table → (left : ℕ) (busy : List ℕ) → Asking
+asking_at table left busy = record { busy = busy; elements = walked table left busy }
+
 -- what they are while those of one class are being found
 abbrev pub asking_in : Table → (class : ℕ) → Asking
 asking_in table class = record { busy = class ∷ []; elements = walked table (number_of_classes table) (class ∷ []) }

@@ -96,6 +96,10 @@ abbrev pub component_frame : Member → List ℕ → Child → Frame
 component_frame member index child =
     In (class_of child.class) (gathered child.sources) (outer_of child.class) (path_below (at_of member.home) member.name index) member.home
 
+-- the frame of a component, entered at an index
+abbrev pub component_entered : Table → Member → List ℕ → Outcome Frame
+component_entered table member index = and_then (child_of_member table member index) (λ child. Ok (component_frame member index child))
+
 -- ---- components that stand for the inner one
 
 abbrev pub is_inner_for : Member → Member → Bool

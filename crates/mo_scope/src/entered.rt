@@ -46,6 +46,15 @@ fn number_with(number: u64, next: u32) -> u64 {
     number.wrapping_mul(1_000_003).wrapping_add(u64::from(next))
 }
 
+/// A number for some numbers, the same one wherever it is asked for.
+pub(crate) fn number_of_all(numbers: &[u32]) -> u64 {
+    let mut number: u64 = 0;
+    for next in numbers {
+        number = number_with(number, *next);
+    }
+    number
+}
+
 /// A number for a name, the same one wherever it is asked for.
 fn number_of_text(text: &Text) -> u64 {
     let mut number: u64 = 0;

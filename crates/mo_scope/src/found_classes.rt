@@ -1,7 +1,9 @@
 //! The classes that names find while other classes are having their bases found.
 ghost use Rattle.std.specs.Prelude.{◌≡◌, [], true, IfOk, IfSome};
-ghost use Rattle.mo_scope.specs.KeptClasses.{IsAskedSo, IsHeld, IsMade, OldOrMade};
+ghost use Rattle.mo_scope.specs.Kept.{IsHeld};
+ghost use Rattle.mo_scope.specs.KeptClasses.{IsAskedSo, IsMade, OldOrMade};
 
+use crate::entered::number_of_all;
 use mo_syntax::{FrameId, List, NoMemory, Place, Text};
 use std::alloc::Global;
 use std::collections::HashMap;
@@ -49,17 +51,6 @@ pub(crate) struct FoundClasses {
     places: HashMap<AskedKey, usize>,
 }
 
-/// A number for some classes, the same one wherever it is asked for.
-fn number_of_classes(classes: &[u32]) -> u64 {
-    let mut number: u64 = 0;
-    for class in classes {
-        number = number
-            .wrapping_mul(1_000_003)
-            .wrapping_add(u64::from(*class));
-    }
-    number
-}
-
 /// What a name is looked for by.
 fn key_of(asked: &AskedName) -> AskedKey {
     AskedKey {
@@ -68,7 +59,7 @@ fn key_of(asked: &AskedName) -> AskedKey {
         file: asked.place.file,
         byte: asked.place.byte,
         left: asked.left,
-        busy: number_of_classes(asked.busy),
+        busy: number_of_all(asked.busy),
     }
 }
 

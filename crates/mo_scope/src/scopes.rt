@@ -1,11 +1,13 @@
 //! Frames by number, and the tables of their elements.
-ghost use Rattle.std.specs.Prelude.{◌≡◌, List as Seq, ◌+◌, ◌<◌, [], ◌∷◌, ◌++◌, length, map, Some, None, option_map, slice_get, IfOk, IfSome, IsSome, ℕ, OnErr, IsTrue, IsNone, ◌↔◌, set, option_copied};
+ghost use Rattle.std.specs.Prelude.{◌≡◌, List as Seq, ◌+◌, ◌<◌, [], ◌∷◌, ◌++◌, length, map, Some, None, option_map, slice_get, IfOk, IfSome, IsSome, ℕ, OnErr, IsTrue, IsNone, ◌↔◌, set, option_copied, Ok};
 ghost use Rattle.mo_syntax.specs.SoundTree.{IsSoundTree};
 ghost use Rattle.mo_scope.specs.Frames.{class_of, sources_of, outer_of, at_of, owner_of, is_top, In, gathered};
 ghost use Rattle.mo_scope.specs.Rows.{number_of_classes, row_at, number_at, number_of_element, class_number, top_number};
 ghost use Rattle.mo_scope.specs.Extending.{is_extending};
 ghost use Rattle.mo_scope.specs.KeptClasses.{FindsClass};
 ghost use Rattle.mo_scope.specs.Lookup.{named, own_members};
+ghost use Rattle.mo_scope.specs.Names.{component_entered as entered_as};
+ghost use Rattle.mo_scope.specs.Own.{IsOwnElement};
 ghost use Rattle.mo_scope.specs.Parts.{declared_in};
 ghost use Rattle.mo_scope.specs.Sights.{source_seen, row_seen, declares_seen, frame_at_or_top, member_at, sources_at};
 ghost use Rattle.mo_scope.specs.Entries.{entry_seen, table_seen, number_of};
@@ -15,6 +17,7 @@ ghost use Rattle.mo_scope.specs.Calls.{RowExists, bare_frame, IsBareEntry, IsEnt
 use crate::classes::Classes;
 use crate::declaring::declared_by;
 use crate::entered::{Entered, standing_of};
+use crate::entered_components::EnteredComponents;
 use crate::found_classes::{AskedName, FoundClasses};
 use crate::frame::FrameData;
 use crate::frame_sources::FrameSources;
@@ -35,6 +38,7 @@ pub struct Scopes<'t> {
     frames: Vec<FrameData<'t>>,
     entered: Entered,
     found: FoundClasses,
+    components: EnteredComponents,
     depth: u32,
 }
 
@@ -73,6 +77,7 @@ impl<'t> Scopes<'t> {
             frames: Vec::new(alloc),
             entered: Entered::new(alloc),
             found: FoundClasses::new(alloc),
+            components: EnteredComponents::new(alloc),
             depth: 0,
         })
     }
@@ -449,5 +454,34 @@ impl<'t> Scopes<'t> {
         ensures { self.new ≡ self.old }
     {
         self.found.put(alloc, asked, class, replaceable)
+    }
+
+    /// The frame of a component that was entered at an index, None where it was not kept.
+    pub fn entered_component(&self, member: &Member<'t>, index: &[u32]) -> Option<FrameId>
+        requires { IsOwnElement (table_in self.now) (member_at self.now member.now) }
+        ensures is { IfSome result (λ frame. entered_as (table_in self.now) (member_at self.now member.now) index.now ≡ Ok (frame_at self.now frame.0)) }
+        ensures exists { IfSome result (λ frame. IsFrame self.now frame.0) }
+    {
+        match self.components.found(member, index) {
+            Some(component) => Some(component.frame),
+            None => None,
+        }
+    }
+
+    /// Keeps the frame of a component that was entered at an index.
+    pub fn keep_component(
+        &mut self,
+        alloc: Global,
+        member: &Member<'t>,
+        index: &[u32],
+        frame: FrameId,
+    ) -> Result<(), NoMemory>
+        requires home { IsFrame self.old member.now.home.0 }
+        requires own { IsOwnElement (table_in self.old) (member_at self.old member.now) }
+        requires frame { IsFrame self.old frame.0 }
+        requires enters { entered_as (table_in self.old) (member_at self.old member.now) index.now ≡ Ok (frame_at self.old frame.0) }
+        ensures { self.new ≡ self.old }
+    {
+        self.components.put(alloc, member, index, frame)
     }
 }

@@ -4,14 +4,14 @@ use Rattle.mo_syntax.specs.Outcome.{Outcome}
 use Rattle.mo_syntax.specs.declared.place.Place.{Place}
 use Rattle.mo_scope.specs.Rows.{Table, row_at}
 use Rattle.mo_scope.specs.Frames.{Frame, class_of}
-use Rattle.mo_scope.specs.Lookup.{Asking, Walked, contains, walked, walked_class, with_base}
+use Rattle.mo_scope.specs.Lookup.{Asking, Walked, contains, walked, walked_class, with_base, asking_at}
 use Rattle.mo_scope.specs.Places.{Every}
 use Rattle.mo_scope.specs.Worlds.{World, IsFrame, frame_at, frames_of, table_in}
 use Rattle.mo_names.specs.declared.owning.Owned.{Owned}
 use Rattle.mo_names.specs.declared.settled.Settled.{Settled}
 use Rattle.mo_names.specs.declared.settled.Settling.{Settling}
 use Rattle.mo_names.specs.steps.Twins.{owned_by, owned_walk, unowned}
-use Rattle.mo_names.specs.Sights.{IsAdded, added_seen, asking_at, walk_seen}
+use Rattle.mo_names.specs.Sights.{IsAdded, added_seen, walk_seen}
 
 -- ---- classes that are free
 

@@ -1,7 +1,7 @@
 use Rattle.std.proofs.Common.{◌≡◌, Err, ap, rules}
 use Rattle.mo_syntax.specs.declared.meaning.FrameId.{FrameId}
 use Rattle.mo_scope.specs.Worlds.{frame_at, frames_of, table_in}
-use Rattle.mo_names.specs.Children.{component_entered}
+use Rattle.mo_scope.specs.Names.{component_entered}
 use Rattle.mo_names.specs.Sights.{member_of}
 use Rattle.mo_names.proofs.Later.{grows_trans, table_later}
 use Rattle.mo_eval.specs.steps.Selecting.{component_in}

@@ -3,9 +3,9 @@ use Rattle.mo_names.proofs.Circling.{is_busy_still, none_left, walked_further}
 use Rattle.mo_names.proofs.HandedOn.{behind_told, inherited_told, open_told, walked_told}
 use Rattle.mo_names.proofs.Later.{grows_trans, grows_refl, is_frame_later}
 use Rattle.mo_names.proofs.Outcomes.{gives_same}
-use Rattle.mo_names.specs.Sights.{asking_at, walk_at}
+use Rattle.mo_names.specs.Sights.{walk_at}
 use Rattle.mo_scope.specs.Frames.{Frame, class_of}
-use Rattle.mo_scope.specs.Lookup.{contains, walked_class}
+use Rattle.mo_scope.specs.Lookup.{contains, walked_class, asking_at}
 use Rattle.mo_scope.specs.Rows.{row_at}
 use Rattle.mo_scope.specs.Worlds.{frame_at, table_in}
 use Rattle.std.proofs.Common.{◌-◌, ◌<◌, ◌++◌, ◌∷◌, [], List, ℕ, ap, arith, sym, ◌≡◌, ◌∙◌}

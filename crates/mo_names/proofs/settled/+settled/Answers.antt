@@ -3,7 +3,7 @@ use Rattle.std.proofs.Common.{◌≡◌, Option, Some, ap, arith, sym, subst, �
 use Rattle.std.specs.Prelude.{slice_get}
 use Rattle.mo_scope.specs.Frames.{Frame, class_of}
 use Rattle.mo_scope.specs.declared.row.Part.{Part as PartAt}
-use Rattle.mo_scope.specs.Lookup.{Walked}
+use Rattle.mo_scope.specs.Lookup.{Walked, asking_at}
 use Rattle.mo_scope.specs.Rows.{Part, Row, Table, number_of_classes, row_at}
 use Rattle.mo_scope.specs.Sights.{clause_seen, declares_seen, part_seen}
 use Rattle.mo_scope.specs.Worlds.{frame_at, table_in}
@@ -11,7 +11,7 @@ use Rattle.mo_names.specs.steps.Bases.{IsOwnPart, PartExists, part_walked, parts
 use Rattle.mo_names.specs.steps.Settled.{AreSettled, ToldFree, ToldOwned}
 use Rattle.mo_names.specs.steps.Lookup.{next_item}
 use Rattle.mo_names.specs.steps.Parts.{parts_of}
-use Rattle.mo_names.specs.Sights.{asking_at, walk_at}
+use Rattle.mo_names.specs.Sights.{walk_at}
 use Rattle.mo_names.specs.steps.Twins.{owned_walk}
 use Rattle.mo_names.proofs.Later.{grows_refl, grows_trans, is_frame_later, is_walk_later}
 use Rattle.mo_names.proofs.OwnElements.{counted_next, own_part, own_part_later}

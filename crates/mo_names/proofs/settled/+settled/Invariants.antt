@@ -5,7 +5,8 @@ use Rattle.mo_scope.specs.Worlds.{Grows, table_in, frame_at, row_of_frame}
 use Rattle.mo_names.specs.steps.Bases.{parts_walked}
 use Rattle.mo_names.specs.steps.Parts.{parts_of}
 use Rattle.mo_names.specs.steps.Settled.{AreFree, AreSettled}
-use Rattle.mo_names.specs.Sights.{IsWalk, asking_at, walk_at}
+use Rattle.mo_names.specs.Sights.{IsWalk, walk_at}
+use Rattle.mo_scope.specs.Lookup.{asking_at}
 use Rattle.mo_names.specs.steps.Twins.{owned_walk, unowned}
 use Rattle.mo_names.proofs.OwnElements.{elements_before}
 use Rattle.mo_names.proofs.settled.+settled.Given as goal

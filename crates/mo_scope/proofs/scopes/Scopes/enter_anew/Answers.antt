@@ -7,6 +7,7 @@ use Rattle.mo_scope.specs.Frames.{Frame, In, gathered}
 use Rattle.mo_scope.specs.Worlds.{AreFrames, IsSound, frame_or_top, frames_of, sources_in}
 use Rattle.mo_scope.proofs.Entering.{entered_pushed, entered_same, taken_back}
 use Rattle.mo_scope.proofs.KeptClasses.{found_grown}
+use Rattle.mo_scope.proofs.KeptComponents.{entered_grown}
 use Rattle.mo_scope.proofs.Numbered.{world, grows_pushed, grows_same, sound_pushed, frame_pushed}
 use Rattle.mo_scope.proofs.scopes.Scopes.enter_anew.Goals as goal
 
@@ -20,6 +21,10 @@ invariant_of-self c = record {
       (grows_same entry_seen table_seen c.self.inside.tree.now.files c.self.inside.frames.items c.push.new.self.items
       (world entry_seen table_seen c.self.inside.tree.now.files c.self.inside.frames.items) refl c.in_err-push.ensures.items)
       c.self.invariant.found;
+  components = entered_grown (world entry_seen table_seen c.self.inside.tree.now.files c.self.inside.frames.items) _ c.self.inside.components.components.items
+      (grows_same entry_seen table_seen c.self.inside.tree.now.files c.self.inside.frames.items c.push.new.self.items
+      (world entry_seen table_seen c.self.inside.tree.now.files c.self.inside.frames.items) refl c.in_err-push.ensures.items)
+      c.self.invariant.components;
 }
 
 pub invariant_of-self-in-Ok : goal.invariant_of-self-in-Ok
@@ -33,6 +38,10 @@ invariant_of-self-in-Ok c = record {
       (grows_pushed entry_seen table_seen c.self.inside.tree.now.files c.self.inside.frames.items c.push.new.self.items _ (world entry_seen table_seen c.self.inside.tree.now.files c.self.inside.frames.items)
       refl c.in_ok-push.ensures.items)
       c.self.invariant.found;
+  components = entered_grown (world entry_seen table_seen c.self.inside.tree.now.files c.self.inside.frames.items) _ c.self.inside.components.components.items
+      (grows_pushed entry_seen table_seen c.self.inside.tree.now.files c.self.inside.frames.items c.push.new.self.items _ (world entry_seen table_seen c.self.inside.tree.now.files c.self.inside.frames.items)
+      refl c.in_ok-push.ensures.items)
+      c.self.invariant.components;
 }
 
 pub invariant_of-self-in-Err : goal.invariant_of-self-in-Err
@@ -48,6 +57,10 @@ invariant_of-self-in-Err c =
           (grows_same entry_seen table_seen c.self.inside.tree.now.files c.self.inside.frames.items c.truncate.new.self.items
           (world entry_seen table_seen c.self.inside.tree.now.files c.self.inside.frames.items) refl back)
           c.self.invariant.found;
+      components = entered_grown (world entry_seen table_seen c.self.inside.tree.now.files c.self.inside.frames.items) _ c.self.inside.components.components.items
+          (grows_same entry_seen table_seen c.self.inside.tree.now.files c.self.inside.frames.items c.truncate.new.self.items
+          (world entry_seen table_seen c.self.inside.tree.now.files c.self.inside.frames.items) refl back)
+          c.self.invariant.components;
     }
 
 pub returns-in-Err-clause-grows : goal.returns-in-Err-clause-grows

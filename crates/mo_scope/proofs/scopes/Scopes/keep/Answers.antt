@@ -4,6 +4,7 @@ use Rattle.mo_scope.specs.Bare.{entered_held}
 use Rattle.mo_scope.specs.Entries.{entry_seen, table_seen}
 use Rattle.mo_scope.proofs.Entering.{entered_same}
 use Rattle.mo_scope.proofs.KeptClasses.{found_grown}
+use Rattle.mo_scope.proofs.KeptComponents.{entered_grown}
 use Rattle.mo_scope.proofs.Numbered.{grows_set, kept_set, sound_set, world}
 use Rattle.mo_scope.proofs.scopes.Scopes.keep.Goals as goal
 
@@ -21,6 +22,9 @@ invariant_of-self c = record {
   found = found_grown (world entry_seen table_seen c.self.inside.tree.now.files c.self.inside.frames.items) _ c.self.inside.found.classes.items
       (grows_set entry_seen table_seen c.self.inside.tree.now.files c.self.inside.frames.items c.args.frame.0 c.index_mut.result.now _ c.index_mut.ensures.value refl)
       c.self.invariant.found;
+  components = entered_grown (world entry_seen table_seen c.self.inside.tree.now.files c.self.inside.frames.items) _ c.self.inside.components.components.items
+      (grows_set entry_seen table_seen c.self.inside.tree.now.files c.self.inside.frames.items c.args.frame.0 c.index_mut.result.now _ c.index_mut.ensures.value refl)
+      c.self.invariant.components;
 }
 
 pub returns : goal.returns
