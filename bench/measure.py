@@ -76,6 +76,42 @@ end L;
     return library + model(["extends L.Icons.Part"] + [f"L.Parts.Bar b{k}(h = {k}.0)" for k in range(n)], [])
 
 
+LIBRARY = """package L
+  partial package Icon end Icon;
+  package Units
+    extends L.Icon;
+    type ElectricPotential = Real(final quantity = "ElectricPotential", final unit = "V");
+    type Voltage = ElectricPotential;
+    type Current = Real(final quantity = "ElectricCurrent", final unit = "A");
+    type Resistance = Real(final quantity = "Resistance", final unit = "Ohm");
+    type Capacitance = Real(final quantity = "Capacitance", final unit = "F", min = 0);
+  end Units;
+  package Interfaces
+    extends L.Icon;
+    connector Pin L.Units.ElectricPotential v; flow L.Units.Current i; end Pin;
+    connector PositivePin extends Pin; end PositivePin;
+    connector NegativePin extends Pin; end NegativePin;
+    partial model TwoPin L.Units.Voltage v; PositivePin p; NegativePin n; equation v = p.v - n.v; end TwoPin;
+    partial model OnePort extends TwoPin; L.Units.Current i; equation 0 = p.i + n.i; i = p.i; end OnePort;
+  end Interfaces;
+  package Basic
+    extends L.Icon;
+    model Ground Interfaces.Pin p; equation p.v = 0; end Ground;
+    model Resistor parameter L.Units.Resistance R = 1; extends Interfaces.OnePort; equation v = R*i; end Resistor;
+    model Capacitor extends L.Interfaces.OnePort; parameter L.Units.Capacitance C = 1; equation i = C*der(v); end Capacitor;
+  end Basic;
+end L;
+"""
+
+
+def parts(n):
+    """Components of a library: n resistors, each with a capacitor to the ground, as the standard library declares them."""
+    declared = [f"Resistor r{k}(R = {k + 1}.0)" for k in range(n)] + [f"L.Basic.Capacitor c{k}(C = {k + 1}.0)" for k in range(n)]
+    equations = [f"connect(r{k}.n, c{k}.p); connect(c{k}.n, ground.p)" for k in range(n)]
+    equations += [f"connect(r{k}.n, r{k + 1}.p)" for k in range(n - 1)] + ["r0.p.v = time"]
+    return LIBRARY + model(["extends L.Icon", "import L.Basic.*", "Ground ground"] + declared, equations)
+
+
 def apart(n):
     """n equations that have nothing to do with one another."""
     return model([f"Real x{k}" for k in range(n)], [f"der(x{k}) = time - x{k}" for k in range(n)])
@@ -140,6 +176,7 @@ SERIES = {
     "parameters": (parameters, "flat", (5000, 15000, 45000)),
     "typed": (typed, "flat", (2500, 7500, 22500)),
     "icons": (icons, "flat", (500, 1500, 4500)),
+    "parts": (parts, "flat", (100, 300, 900)),
     "apart": (apart, "report", (5000, 15000, 45000)),
     "circuit": (circuit, "report", (2500, 7500, 22500)),
     "dense": (dense, "report", (25000, 75000, 225000)),
