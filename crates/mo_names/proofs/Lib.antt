@@ -3,6 +3,7 @@ pub mod Asked
 pub mod Circling
 pub mod Counting
 pub mod Ends
+pub mod EnteredBases
 pub mod HandedOn
 pub mod Joining
 pub mod Later

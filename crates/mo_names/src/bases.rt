@@ -4,13 +4,13 @@
 ghost use Rattle.std.specs.Prelude.{◌≡◌, ◌<◌, true, false, drop, IfOk, Some};
 ghost use Rattle.mo_scope.specs.Lookup.{base_class as class_of_base, behind_class as found_behind_class, class_behind as classes_behind, class_named as named_class, found_from as found_outwards, walked_class as class_walked};
 ghost use Rattle.mo_scope.specs.Outcome.{Gives};
-ghost use Rattle.mo_scope.specs.Rows.{number_of_classes};
+ghost use Rattle.mo_scope.specs.Rows.{Base_of, number_of_classes};
 ghost use Rattle.mo_scope.specs.Sights.{clause_seen, part_seen, scope_at};
 ghost use Rattle.mo_scope.specs.Worlds.{Grows, IsFrame, frame_at, frames_of, table_in, row_of_frame};
 ghost use Rattle.mo_names.specs.Sights.{IsFound, IsWalk, asks, classed_seen, found_at, met_seen, walk_at};
 ghost use Rattle.mo_names.specs.steps.Parts.{parts_of};
 ghost use Rattle.mo_names.specs.Past.{first_met};
-ghost use Rattle.mo_names.specs.steps.Bases.{IsOwnPart, PartExists, base_walked as walked_base, base_with_elements, first_of_parts, part_walked as walked_part, parts_walked as walked_parts_from};
+ghost use Rattle.mo_names.specs.steps.Bases.{IsOwnPart, PartExists, StandsAt, base_walked as walked_base, base_with_elements, first_of_parts, part_walked as walked_part, parts_walked as walked_parts_from};
 ghost use Rattle.mo_names.specs.steps.Lookup.{base_at, class_step as classed_step, first_class as classed_first, next_item};
 
 use crate::circle::{behind_class, found_in, walked};
@@ -20,7 +20,7 @@ use crate::found_before::{found_before_behind, found_before_outwards, kept_behin
 use crate::given::{classed_given, classed_met, met_at_top};
 use crate::join::with_base;
 use crate::own_walk::own_walked;
-use crate::parts::{part_at, part_count};
+use crate::parts::{NumberedClause, NumberedPart, part_at, part_count};
 use crate::past::{Next, next_past};
 use crate::reach::iteration;
 use crate::start::{base_entered, last_place, started, walk_checked};
@@ -53,7 +53,7 @@ fn found_from<'t>(
     }
 }
 
-/// The same, from what was kept of it while classes are having their bases found.
+/// The same, from what was kept of it.
 #[cycle(names)]
 fn found_around<'t>(
     alloc: Global,
@@ -183,7 +183,7 @@ fn behind_first(parts: &[Identifier]) -> &[Identifier]
     &parts[1..]
 }
 
-/// What one more identifier finds behind a class, from what was kept of it while classes are having their bases found.
+/// What one more identifier finds behind a class, from what was kept of it.
 #[cycle(names)]
 fn found_behind<'t>(
     alloc: Global,
@@ -312,17 +312,18 @@ pub(crate) fn base_found<'t>(
     s: &mut Scopes<'t>,
     ask: &Ask,
     frame: FrameId,
-    clause: &Clause<'t>,
+    clause: &NumberedClause<'t>,
 ) -> Result<FrameId, Stop>
-    requires { IsFrame s.old frame.0 }
+    requires frame { IsFrame s.old frame.0 }
+    requires clause { StandsAt (row_of_frame s.old frame.0) clause.now.at (Base_of (clause_seen clause.now.clause)) }
     ensures grows { Grows s.old s.new }
-    ensures value { Gives (λ base. frame_at s.new base.0) result (base_at (table_in s.old) (asks (table_in s.old) ask.now) (frame_at s.old frame.0) (row_of_frame s.old frame.0) (clause_seen clause.now)) }
+    ensures value { Gives (λ base. frame_at s.new base.0) result (base_at (table_in s.old) (asks (table_in s.old) ask.now) (frame_at s.old frame.0) (row_of_frame s.old frame.0) (clause_seen clause.now.clause)) }
     ensures stand { IfOk result (λ base. IsFrame s.new base.0) }
 {
     if s.row(s.class_of(frame)).is_none() {
         return Ok(frame);
     }
-    let class = base_class(alloc, s, ask, frame, clause)?;
+    let class = base_class(alloc, s, ask, frame, &clause.clause)?;
     Ok(base_entered(alloc, s, frame, clause, class)?)
 }
 
@@ -333,18 +334,19 @@ fn base_elements<'t>(
     s: &mut Scopes<'t>,
     ask: &Ask,
     frame: FrameId,
-    clause: &Clause<'t>,
+    clause: &NumberedClause<'t>,
 ) -> Result<(FrameId, Walk<'t>), Stop>
-    requires { IsFrame s.old frame.0 }
+    requires frame { IsFrame s.old frame.0 }
+    requires clause { StandsAt (row_of_frame s.old frame.0) clause.now.at (Base_of (clause_seen clause.now.clause)) }
     ensures grows { Grows s.old s.new }
-    ensures value { Gives (λ base. (frame_at s.new base.0.0, walk_at s.new base.1)) result (base_with_elements (table_in s.old) (asks (table_in s.old) ask.now) (frame_at s.old frame.0) (row_of_frame s.old frame.0) (clause_seen clause.now)) }
+    ensures value { Gives (λ base. (frame_at s.new base.0.0, walk_at s.new base.1)) result (base_with_elements (table_in s.old) (asks (table_in s.old) ask.now) (frame_at s.old frame.0) (row_of_frame s.old frame.0) (clause_seen clause.now.clause)) }
     ensures stand { IfOk result (λ base. IsFrame s.new base.0.0 × IsWalk s.new base.1) }
 {
     let base = base_found(alloc, s, ask, frame, clause)?;
     let here = Ask {
         left: ask.left,
         busy: ask.busy,
-        place: last_place(clause.base.parts.as_slice()),
+        place: last_place(clause.clause.base.parts.as_slice()),
         depth: ask.depth,
     };
     Ok((base, walked(alloc, s, &here, base)?))
@@ -357,17 +359,18 @@ fn base_walked<'t>(
     s: &mut Scopes<'t>,
     ask: &Ask,
     frame: FrameId,
-    clause: &Clause<'t>,
+    clause: &NumberedClause<'t>,
     so_far: &mut Walk<'t>,
 ) -> Result<(), Stop>
     requires frame { IsFrame s.old frame.0 }
+    requires clause { StandsAt (row_of_frame s.old frame.0) clause.now.at (Base_of (clause_seen clause.now.clause)) }
     requires so_far { IsWalk s.old so_far.old }
     ensures grows { Grows s.old s.new }
-    ensures value { Gives (λ _. walk_at s.new so_far.new) result (walked_base (table_in s.old) (asks (table_in s.old) ask.now) (frame_at s.old frame.0) (row_of_frame s.old frame.0) (clause_seen clause.now) (walk_at s.old so_far.old)) }
+    ensures value { Gives (λ _. walk_at s.new so_far.new) result (walked_base (table_in s.old) (asks (table_in s.old) ask.now) (frame_at s.old frame.0) (row_of_frame s.old frame.0) (clause_seen clause.now.clause) (walk_at s.old so_far.old)) }
     ensures stand { IfOk result (λ _. IsWalk s.new so_far.new) }
 {
     let (base, walk) = base_elements(alloc, s, ask, frame, clause)?;
-    with_base(alloc, s, clause.hidden, base, walk, so_far)
+    with_base(alloc, s, clause.clause.hidden, base, walk, so_far)
 }
 
 /// One part of the class of a frame, put behind those before. The answer is how many elements of its own the class has up to
@@ -379,25 +382,30 @@ fn part_walked<'t>(
     ask: &Ask,
     frame: FrameId,
     item: u32,
-    part: &Part<'t>,
+    part: &NumberedPart<'t>,
     so_far: &mut Walk<'t>,
 ) -> Result<u32, Stop>
     requires frame { IsFrame s.old frame.0 }
     requires so_far { IsWalk s.old so_far.old }
-    requires part { PartExists (number_of_classes (table_in s.old)) (part_seen part.now) }
-    requires own { IsOwnPart (table_in s.old) (frame_at s.old frame.0) item (part_seen part.now) }
+    requires part { PartExists (number_of_classes (table_in s.old)) (part_seen part.now.part) }
+    requires own { IsOwnPart (table_in s.old) (frame_at s.old frame.0) item (part_seen part.now.part) }
+    requires placed { StandsAt (row_of_frame s.old frame.0) part.now.at (part_seen part.now.part) }
     ensures grows { Grows s.old s.new }
-    ensures value { Gives (λ _. walk_at s.new so_far.new) result (walked_part (table_in s.old) (asks (table_in s.old) ask.now) (frame_at s.old frame.0) (row_of_frame s.old frame.0) item (part_seen part.now) (walk_at s.old so_far.old)) }
-    ensures item { IfOk result (λ next. next ≡ next_item (part_seen part.now) item) }
+    ensures value { Gives (λ _. walk_at s.new so_far.new) result (walked_part (table_in s.old) (asks (table_in s.old) ask.now) (frame_at s.old frame.0) (row_of_frame s.old frame.0) item (part_seen part.now.part) (walk_at s.old so_far.old)) }
+    ensures item { IfOk result (λ next. next ≡ next_item (part_seen part.now.part) item) }
     ensures stand { IfOk result (λ _. IsWalk s.new so_far.new) }
 {
-    match part {
+    match &part.part {
         Part::Element(declares) => {
             own_walked(alloc, s, frame, item, declares, so_far)?;
             item.checked_add(1).ok_or(Stop::NoMemory)
         }
         Part::Base(clause) => {
-            base_walked(alloc, s, ask, frame, clause, so_far)?;
+            let clause = NumberedClause {
+                at: part.at,
+                clause: *clause,
+            };
+            base_walked(alloc, s, ask, frame, &clause, so_far)?;
             Ok(item)
         }
     }

@@ -1,22 +1,24 @@
 //! The elements of frames and their bases.
 #![tactic(auto, using(crate::proofs::Later::later))]
 
-ghost use Rattle.std.specs.Prelude.{◌≡◌, ◌<◌, length, map, option_map, slice_get, IfOk, IfSome};
+ghost use Rattle.std.specs.Prelude.{◌≡◌, ◌<◌, Some, length, map, option_map, slice_get, IfOk, IfSome};
 ghost use Rattle.mo_scope.specs.Names.{base_frame_of, clauses_of, walk_of as walk_of_frame};
 ghost use Rattle.mo_scope.specs.Outcome.{Gives};
 ghost use Rattle.mo_scope.specs.Places.{Every};
-ghost use Rattle.mo_scope.specs.Rows.{clauses_in};
+ghost use Rattle.mo_scope.specs.Rows.{Base_of, clauses_in};
 ghost use Rattle.mo_scope.specs.Sights.{clause_seen, part_seen};
-ghost use Rattle.mo_scope.specs.Worlds.{Grows, IsFrame, frame_at, frames_of, table_in};
+ghost use Rattle.mo_scope.specs.Worlds.{Grows, IsFrame, frame_at, frames_of, row_of_frame, table_in};
 ghost use Rattle.mo_names.specs.Sights.{IsMember, IsWalk, member_of, walk_at};
+ghost use Rattle.mo_names.specs.steps.Bases.{StandsAt};
 ghost use Rattle.mo_names.specs.Calls.{GivesBase, elements_of_frame};
 
 use crate::bases::base_found;
 use crate::found::Ask;
 use crate::free::{class_count, elements_at};
 use crate::kept::{elements_kept, members_held};
+use crate::parts::NumberedClause;
 use crate::walk::Walk;
-use mo_scope::{Clause, Member, Part, Scopes, copied};
+use mo_scope::{Member, Part, Scopes, copied};
 use mo_syntax::{FrameId, List, NoMemory, Place, Stop};
 use std::alloc::Global;
 
@@ -89,14 +91,15 @@ pub fn elements<'t>(
 }
 
 /// The extends clause among some parts with so many before it.
-fn clause_among<'t>(parts: &[Part<'t>], clause: u32) -> Option<Clause<'t>>
-    ensures { option_map clause_seen result ≡ slice_get (clauses_in (map part_seen parts.now)) clause }
+fn clause_among<'t>(parts: &[Part<'t>], clause: u32) -> Option<NumberedClause<'t>>
+    ensures is { option_map (λ found. clause_seen found.clause) result ≡ slice_get (clauses_in (map part_seen parts.now)) clause }
+    ensures stands { IfSome result (λ found. slice_get (map part_seen parts.now) found.at ≡ Some (Base_of (clause_seen found.clause))) }
 {
     let mut left = clause;
-    for part in parts {
-        if let Part::Base(found) = part {
+    for at in 0..parts.len() {
+        if let Part::Base(found) = parts[at] {
             if left == 0 {
-                return Some(*found);
+                return Some(NumberedClause { at, clause: found });
             }
             left -= 1;
         }
@@ -105,9 +108,10 @@ fn clause_among<'t>(parts: &[Part<'t>], clause: u32) -> Option<Clause<'t>>
 }
 
 /// The extends clause of a frame's class with so many before it.
-fn clause_at<'t>(s: &Scopes<'t>, frame: FrameId, clause: u32) -> Option<Clause<'t>>
+fn clause_at<'t>(s: &Scopes<'t>, frame: FrameId, clause: u32) -> Option<NumberedClause<'t>>
     requires { IsFrame s.now frame.0 }
-    ensures { option_map clause_seen result ≡ slice_get (clauses_of (table_in s.now) (frame_at s.now frame.0)) clause }
+    ensures is { option_map (λ found. clause_seen found.clause) result ≡ slice_get (clauses_of (table_in s.now) (frame_at s.now frame.0)) clause }
+    ensures stands { IfSome result (λ found. StandsAt (row_of_frame s.now frame.0) found.at (Base_of (clause_seen found.clause))) }
 {
     match s.row(s.class_of(frame)) {
         Some(row) => clause_among(row.parts.as_slice(), clause),
@@ -120,11 +124,12 @@ fn base_at<'t>(
     alloc: Global,
     s: &mut Scopes<'t>,
     frame: FrameId,
-    clause: &Clause<'t>,
+    clause: &NumberedClause<'t>,
 ) -> Result<FrameId, Stop>
-    requires { IsFrame s.old frame.0 }
+    requires frame { IsFrame s.old frame.0 }
+    requires clause { StandsAt (row_of_frame s.old frame.0) clause.now.at (Base_of (clause_seen clause.now.clause)) }
     ensures grows { Grows s.old s.new }
-    ensures value { Gives (λ base. frame_at s.new base.0) result (base_frame_of (table_in s.old) (frame_at s.old frame.0) (clause_seen clause.now)) }
+    ensures value { Gives (λ base. frame_at s.new base.0) result (base_frame_of (table_in s.old) (frame_at s.old frame.0) (clause_seen clause.now.clause)) }
     ensures stand { IfOk result (λ base. IsFrame s.new base.0) }
 {
     let busy = [s.class_of(frame).0];

@@ -6,8 +6,22 @@ ghost use Rattle.mo_scope.specs.Worlds.{table_in};
 ghost use Rattle.mo_names.specs.steps.Bases.{PartExists};
 ghost use Rattle.mo_names.specs.steps.Parts.{parts_of};
 
-use mo_scope::{Part, Scopes};
+use mo_scope::{Clause, Part, Scopes};
 use mo_syntax::ClassId;
+
+/// A part of a class, with its place among the parts.
+#[derive(Clone, Copy)]
+pub(crate) struct NumberedPart<'t> {
+    pub at: usize,
+    pub part: Part<'t>,
+}
+
+/// An extends clause, with its place among the parts of its class.
+#[derive(Clone, Copy)]
+pub(crate) struct NumberedClause<'t> {
+    pub at: usize,
+    pub clause: Clause<'t>,
+}
 
 /// How many parts a class has, none where it is predefined.
 pub(crate) fn part_count(s: &Scopes, class: ClassId) -> usize
@@ -20,13 +34,17 @@ pub(crate) fn part_count(s: &Scopes, class: ClassId) -> usize
 }
 
 /// The part of a class with so many before it.
-pub(crate) fn part_at<'t>(s: &Scopes<'t>, class: ClassId, at: usize) -> Part<'t>
+pub(crate) fn part_at<'t>(s: &Scopes<'t>, class: ClassId, at: usize) -> NumberedPart<'t>
     requires { at < length (parts_of (row_at (table_in s.now) class.0)) }
-    ensures is { slice_get (parts_of (row_at (table_in s.now) class.0)) at ≡ Some (part_seen result) }
-    ensures exists { PartExists (number_of_classes (table_in s.now)) (part_seen result) }
+    ensures at { result.at ≡ at }
+    ensures is { slice_get (parts_of (row_at (table_in s.now) class.0)) at ≡ Some (part_seen result.part) }
+    ensures exists { PartExists (number_of_classes (table_in s.now)) (part_seen result.part) }
 {
     match s.row(class) {
-        Some(row) => row.parts.as_slice()[at],
+        Some(row) => NumberedPart {
+            at,
+            part: row.parts.as_slice()[at],
+        },
         None => unreachable!(),
     }
 }

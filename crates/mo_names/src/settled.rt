@@ -7,10 +7,10 @@ ghost use Rattle.mo_syntax.specs.declared.place.Place.{Place as PlaceAt};
 ghost use Rattle.mo_scope.specs.Frames.{class_of, sources_of};
 ghost use Rattle.mo_scope.specs.Lookup.{asking_of, contains, walked_class as class_walked, with_member as joined_member, asking_at};
 ghost use Rattle.mo_scope.specs.Own.{own_declared};
-ghost use Rattle.mo_scope.specs.Rows.{class_number, number_of_classes};
+ghost use Rattle.mo_scope.specs.Rows.{Base_of, class_number, number_of_classes};
 ghost use Rattle.mo_scope.specs.Sights.{clause_seen, declares_seen, part_seen};
 ghost use Rattle.mo_scope.specs.Worlds.{Grows, IsFrame, frame_at, table_in, row_of_frame};
-ghost use Rattle.mo_names.specs.steps.Bases.{IsOwnPart, PartExists, base_walked as walked_base, part_walked as walked_part, parts_walked as walked_parts_from};
+ghost use Rattle.mo_names.specs.steps.Bases.{IsOwnPart, PartExists, StandsAt, base_walked as walked_base, part_walked as walked_part, parts_walked as walked_parts_from};
 ghost use Rattle.mo_names.specs.steps.Parts.{parts_of};
 ghost use Rattle.mo_names.specs.steps.Settled.{AreSettled, ClassOwned, IsFurther, IsJoined, IsSettled, ToldFree, ToldOwned};
 ghost use Rattle.mo_names.specs.Sights.{IsWalk, walk_at};
@@ -24,7 +24,7 @@ use crate::join::{Added, with_elements, without_names};
 use crate::own::own_named;
 use crate::own_walk::own_walked;
 use crate::owning::walk_owned;
-use crate::parts::{part_at, part_count};
+use crate::parts::{NumberedClause, NumberedPart, part_at, part_count};
 use crate::reach::is_busy;
 use crate::start::{is_unowned, leaf_checked, started};
 use crate::top::looked_up_class;
@@ -166,11 +166,12 @@ fn base_named<'t>(
     alloc: Global,
     s: &mut Scopes<'t>,
     frame: FrameId,
-    clause: &Clause<'t>,
+    clause: &NumberedClause<'t>,
 ) -> Result<FrameId, Stop>
-    requires { IsFrame s.old frame.0 }
+    requires frame { IsFrame s.old frame.0 }
+    requires clause { StandsAt (row_of_frame s.old frame.0) clause.now.at (Base_of (clause_seen clause.now.clause)) }
     ensures grows { Grows s.old s.new }
-    ensures value { IfOk result (λ base. base_at (table_in s.old) (asking_at (table_in s.old) 0 []) (frame_at s.old frame.0) (row_of_frame s.old frame.0) (clause_seen clause.now) ≡ Ok (frame_at s.new base.0)) }
+    ensures value { IfOk result (λ base. base_at (table_in s.old) (asking_at (table_in s.old) 0 []) (frame_at s.old frame.0) (row_of_frame s.old frame.0) (clause_seen clause.now.clause) ≡ Ok (frame_at s.new base.0)) }
     ensures stand { IfOk result (λ base. IsFrame s.new base.0) }
 {
     let ask = Ask {
@@ -225,25 +226,33 @@ fn base_settled<'t>(
     s: &mut Scopes<'t>,
     left: usize,
     frame: FrameId,
-    clause: &Clause<'t>,
+    clause: &NumberedClause<'t>,
     known: &mut List<Settled<'t>>,
     so_far: &mut Settling<'t>,
 ) -> Result<(), Stop>
     requires frame { IsFrame s.old frame.0 }
+    requires clause { StandsAt (row_of_frame s.old frame.0) clause.now.at (Base_of (clause_seen clause.now.clause)) }
     requires known { AreSettled s.old known.old }
     requires so_far { IsWalk s.old so_far.old.walk }
     ensures grows { Grows s.old s.new }
     ensures known { IfOk result (λ _. AreSettled s.new known.new) }
-    ensures told { IfOk result (λ _. ToldFree (table_in s.old) so_far.new.classes so_far.new.deep (λ asking. walked_base (table_in s.old) asking (frame_at s.old frame.0) (row_of_frame s.old frame.0) (clause_seen clause.now) (walk_at s.old so_far.old.walk)) (walk_at s.new so_far.new.walk)) }
-    ensures owned { IfOk result (λ _. so_far.new.alike ≡ true → ToldOwned (table_in s.old) so_far.new.classes so_far.new.deep (frame_at s.old frame.0) (λ asking owned walk. walked_base (table_in s.old) asking owned (row_of_frame s.old frame.0) (clause_seen clause.now) walk) (walk_at s.old so_far.old.walk) (walk_at s.new so_far.new.walk)) }
+    ensures told { IfOk result (λ _. ToldFree (table_in s.old) so_far.new.classes so_far.new.deep (λ asking. walked_base (table_in s.old) asking (frame_at s.old frame.0) (row_of_frame s.old frame.0) (clause_seen clause.now.clause) (walk_at s.old so_far.old.walk)) (walk_at s.new so_far.new.walk)) }
+    ensures owned { IfOk result (λ _. so_far.new.alike ≡ true → ToldOwned (table_in s.old) so_far.new.classes so_far.new.deep (frame_at s.old frame.0) (λ asking owned walk. walked_base (table_in s.old) asking owned (row_of_frame s.old frame.0) (clause_seen clause.now.clause) walk) (walk_at s.old so_far.old.walk) (walk_at s.new so_far.new.walk)) }
     ensures further { IfOk result (λ _. IsFurther so_far.old so_far.new) }
     ensures item { IfOk result (λ _. so_far.new.item ≡ so_far.old.item) }
     ensures stand { IfOk result (λ _. IsWalk s.new so_far.new.walk) }
 {
     let base = base_named(alloc, s, frame, clause)?;
     settle(alloc, s, left, base, known)?;
-    base_joined(alloc, s, clause.hidden, base, known.as_slice(), so_far)?;
-    let alike = is_base_alike(s, frame, clause, base);
+    base_joined(
+        alloc,
+        s,
+        clause.clause.hidden,
+        base,
+        known.as_slice(),
+        so_far,
+    )?;
+    let alike = is_base_alike(s, frame, &clause.clause, base);
     so_far.alike = are_both(so_far.alike, alike);
     Ok(())
 }
@@ -277,30 +286,35 @@ fn part_settled<'t>(
     s: &mut Scopes<'t>,
     left: usize,
     frame: FrameId,
-    part: &Part<'t>,
+    part: &NumberedPart<'t>,
     known: &mut List<Settled<'t>>,
     so_far: &mut Settling<'t>,
 ) -> Result<(), Stop>
     requires frame { IsFrame s.old frame.0 }
     requires known { AreSettled s.old known.old }
     requires so_far { IsWalk s.old so_far.old.walk }
-    requires part { PartExists (number_of_classes (table_in s.old)) (part_seen part.now) }
-    requires own { IsOwnPart (table_in s.old) (frame_at s.old frame.0) so_far.old.item (part_seen part.now) }
+    requires part { PartExists (number_of_classes (table_in s.old)) (part_seen part.now.part) }
+    requires own { IsOwnPart (table_in s.old) (frame_at s.old frame.0) so_far.old.item (part_seen part.now.part) }
+    requires placed { StandsAt (row_of_frame s.old frame.0) part.now.at (part_seen part.now.part) }
     ensures grows { Grows s.old s.new }
     ensures known { IfOk result (λ _. AreSettled s.new known.new) }
-    ensures told { IfOk result (λ _. ToldFree (table_in s.old) so_far.new.classes so_far.new.deep (λ asking. walked_part (table_in s.old) asking (frame_at s.old frame.0) (row_of_frame s.old frame.0) so_far.old.item (part_seen part.now) (walk_at s.old so_far.old.walk)) (walk_at s.new so_far.new.walk)) }
-    ensures owned { IfOk result (λ _. so_far.new.alike ≡ true → ToldOwned (table_in s.old) so_far.new.classes so_far.new.deep (frame_at s.old frame.0) (λ asking owned walk. walked_part (table_in s.old) asking owned (row_of_frame s.old frame.0) so_far.old.item (part_seen part.now) walk) (walk_at s.old so_far.old.walk) (walk_at s.new so_far.new.walk)) }
+    ensures told { IfOk result (λ _. ToldFree (table_in s.old) so_far.new.classes so_far.new.deep (λ asking. walked_part (table_in s.old) asking (frame_at s.old frame.0) (row_of_frame s.old frame.0) so_far.old.item (part_seen part.now.part) (walk_at s.old so_far.old.walk)) (walk_at s.new so_far.new.walk)) }
+    ensures owned { IfOk result (λ _. so_far.new.alike ≡ true → ToldOwned (table_in s.old) so_far.new.classes so_far.new.deep (frame_at s.old frame.0) (λ asking owned walk. walked_part (table_in s.old) asking owned (row_of_frame s.old frame.0) so_far.old.item (part_seen part.now.part) walk) (walk_at s.old so_far.old.walk) (walk_at s.new so_far.new.walk)) }
     ensures further { IfOk result (λ _. IsFurther so_far.old so_far.new) }
-    ensures item { IfOk result (λ _. so_far.new.item ≡ next_item (part_seen part.now) so_far.old.item) }
+    ensures item { IfOk result (λ _. so_far.new.item ≡ next_item (part_seen part.now.part) so_far.old.item) }
     ensures stand { IfOk result (λ _. IsWalk s.new so_far.new.walk) }
 {
-    match part {
+    match &part.part {
         Part::Element(declares) => {
             own_settled(alloc, s, frame, declares, so_far)?;
             Ok(())
         }
         Part::Base(clause) => {
-            base_settled(alloc, s, left, frame, clause, known, so_far)?;
+            let clause = NumberedClause {
+                at: part.at,
+                clause: *clause,
+            };
+            base_settled(alloc, s, left, frame, &clause, known, so_far)?;
             Ok(())
         }
     }

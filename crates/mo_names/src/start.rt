@@ -4,15 +4,17 @@ ghost use Rattle.mo_scope.specs.Entries.{names_of as path_names, number_of};
 ghost use Rattle.mo_scope.specs.Frames.{Frame, In, Top, at_of, class_of, gathered, outer_of, owner_of_base};
 ghost use Rattle.mo_scope.specs.Lookup.{Walked, last_place as place_of_last, leaf_checked as checked_leaf, nothing_walked};
 ghost use Rattle.mo_scope.specs.Outcome.{Gives};
-ghost use Rattle.mo_scope.specs.Rows.{form_in, is_left_out as is_row_left_out, is_other_form, is_record};
+ghost use Rattle.mo_scope.specs.Rows.{Base_of, form_in, is_left_out as is_row_left_out, is_other_form, is_record};
 ghost use Rattle.mo_scope.specs.Sights.{clause_seen, row_seen, source_seen, frame_at_or_top, sources_at};
 ghost use Rattle.mo_scope.specs.Worlds.{AreFrames, Grows, IsFrame, IsFrameOrNone, World, frame_at, frame_in, row_of_frame};
 ghost use Rattle.mo_syntax.specs.Outcome.{Outcome, and_then};
 ghost use Rattle.mo_syntax.specs.declared.class.Body.{out-Body};
 ghost use Rattle.mo_names.specs.Sights.{IsLeaf, IsWalk, walk_seen, walk_at};
+ghost use Rattle.mo_names.specs.steps.Bases.{StandsAt};
 ghost use Rattle.mo_names.specs.steps.Parts.{is_enumeration_form};
 ghost use Rattle.mo_names.specs.steps.Lookup.{entered_base, started as walk_started};
 
+use crate::parts::NumberedClause;
 use crate::top::looked_up_class;
 use crate::walk::Walk;
 use mo_scope::{Clause, Names, Row, Scopes, Source};
@@ -281,7 +283,7 @@ fn base_with<'t>(
 }
 
 /// The base frame of an extends clause of a frame, whose class was found as that frame; a predefined type has no clause.
-pub(crate) fn base_entered<'t>(
+fn base_of_clause<'t>(
     alloc: Global,
     s: &mut Scopes<'t>,
     frame: FrameId,
@@ -299,6 +301,29 @@ pub(crate) fn base_entered<'t>(
         None => return Ok(frame),
     };
     base_with(alloc, s, frame, sources, class)
+}
+
+/// The same, entered once: after that it is the frame that is kept.
+pub(crate) fn base_entered<'t>(
+    alloc: Global,
+    s: &mut Scopes<'t>,
+    frame: FrameId,
+    clause: &NumberedClause<'t>,
+    class: FrameId,
+) -> Result<FrameId, NoMemory>
+    requires frame { IsFrame s.old frame.0 }
+    requires clause { StandsAt (row_of_frame s.old frame.0) clause.now.at (Base_of (clause_seen clause.now.clause)) }
+    requires class { IsFrame s.old class.0 }
+    ensures grows { Grows s.old s.new }
+    ensures value { IfOk result (λ base. frame_at s.new base.0 ≡ entered_base (frame_at s.old frame.0) (row_of_frame s.old frame.0) (clause_seen clause.now.clause) (frame_at s.old class.0)) }
+    ensures stand { IfOk result (λ base. IsFrame s.new base.0) }
+{
+    if let Some(base) = s.entered_base(frame, clause.at, class) {
+        return Ok(base);
+    }
+    let base = base_of_clause(alloc, s, frame, &clause.clause, class)?;
+    s.keep_base(frame, clause.at, class, base)?;
+    Ok(base)
 }
 
 /// The place of the last of some identifiers.

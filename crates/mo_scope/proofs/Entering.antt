@@ -8,7 +8,7 @@ use Rattle.mo_scope.specs.Frames.{Indexed, looked_up}
 use Rattle.mo_scope.specs.Worlds.{FrameEntry, SourceEntry, World, IsSound, frame_at, frame_or_top, frames_of}
 use Rattle.mo_scope.proofs.Numbered.{at_append, entry_is}
 
-both_true : (a b : Bool) → (a && b) ≡ true → (a ≡ true) × (b ≡ true)
+pub both_true : (a b : Bool) → (a && b) ≡ true → (a ≡ true) × (b ≡ true)
 both_true true true h = (refl, refl)
 both_true true false h = cc
 both_true false b h = cc

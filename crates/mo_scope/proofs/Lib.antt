@@ -1,6 +1,7 @@
 pub mod AlikePaths
 pub mod Entering
 pub mod Kept
+pub mod KeptBases
 pub mod KeptClasses
 pub mod KeptComponents
 pub mod Keys

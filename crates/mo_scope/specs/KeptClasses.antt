@@ -1,4 +1,4 @@
--- The classes that names find while other classes are having their bases found.
+-- The classes that names find.
 use Rattle.std.specs.Prelude.{◌≡◌, ℕ, Bool, true, false, List, Some, Ok}
 use Rattle.mo_syntax.specs.declared.meaning.FrameId.{FrameId}
 use Rattle.mo_syntax.specs.declared.place.Place.{Place}

@@ -12,6 +12,7 @@ pub mod Insides
 pub mod Instances
 pub mod Mentions
 pub mod Kept
+pub mod KeptBases
 pub mod KeptClasses
 pub mod KeptComponents
 pub mod Lookup

@@ -1,4 +1,4 @@
-//! The classes that names find while other classes are having their bases found.
+//! The classes that names find.
 ghost use Rattle.std.specs.Prelude.{◌≡◌, [], true, IfOk, IfSome};
 ghost use Rattle.mo_scope.specs.Kept.{IsHeld};
 ghost use Rattle.mo_scope.specs.KeptClasses.{IsAskedSo, IsMade, OldOrMade};

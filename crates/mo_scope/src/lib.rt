@@ -8,7 +8,7 @@
 //!   classes; `enter` makes a frame, or finds it where it has no sources and was made before, and `entered` finds one that only
 //!   looks a class up; `class_of`, `sources`, `outer`, `path` and `owner` read it; `keep` and `table` hold the table of its
 //!   elements, which `MemberTable` finds by name; `keep_class` and `found_class` hold the class that a name finds, an
-//!   `AskedName`, while other classes are having their bases found; `keep_component` and `entered_component` the frame of a component.
+//!   `AskedName`; `keep_component` and `entered_component` the frame of a component; `keep_base` and `entered_base` that of a base.
 //! - `Source`: what modifies a class, by reference into the class tree. `pick_here` finds the value that sources give for it, and
 //!   `pick` the one for a path.
 //! - `redeclared`, `redeclarations`: what redeclares an element. `child_sources`, `element_sources`, `class_sources`,
@@ -27,6 +27,7 @@ mod classes;
 mod copies;
 mod declaring;
 mod entered;
+mod entered_bases;
 mod entered_components;
 mod extending;
 mod found_classes;

@@ -4,6 +4,7 @@ ghost use Rattle.mo_syntax.specs.SoundTree.{IsSoundTree};
 ghost use Rattle.mo_scope.specs.Frames.{class_of, sources_of, outer_of, at_of, owner_of, is_top, In, gathered};
 ghost use Rattle.mo_scope.specs.Rows.{number_of_classes, row_at, number_at, number_of_element, class_number, top_number};
 ghost use Rattle.mo_scope.specs.Extending.{is_extending};
+ghost use Rattle.mo_scope.specs.KeptBases.{EntersBase};
 ghost use Rattle.mo_scope.specs.KeptClasses.{FindsClass};
 ghost use Rattle.mo_scope.specs.Lookup.{named, own_members};
 ghost use Rattle.mo_scope.specs.Names.{component_entered as entered_as};
@@ -17,6 +18,7 @@ ghost use Rattle.mo_scope.specs.Calls.{RowExists, bare_frame, IsBareEntry, IsEnt
 use crate::classes::Classes;
 use crate::declaring::declared_by;
 use crate::entered::{Entered, standing_of};
+use crate::entered_bases::EnteredBases;
 use crate::entered_components::EnteredComponents;
 use crate::found_classes::{AskedName, FoundClasses};
 use crate::frame::FrameData;
@@ -39,6 +41,7 @@ pub struct Scopes<'t> {
     entered: Entered,
     found: FoundClasses,
     components: EnteredComponents,
+    bases: EnteredBases,
     depth: u32,
 }
 
@@ -78,6 +81,7 @@ impl<'t> Scopes<'t> {
             entered: Entered::new(alloc),
             found: FoundClasses::new(alloc),
             components: EnteredComponents::new(alloc),
+            bases: EnteredBases::new(alloc),
             depth: 0,
         })
     }
@@ -483,5 +487,30 @@ impl<'t> Scopes<'t> {
         ensures { self.new ≡ self.old }
     {
         self.components.put(alloc, member, index, frame)
+    }
+    /// The frame that a base was entered as: that of the extends clause that stands there among the parts of a frame's class, whose
+    /// class was found as that frame. None where it was not kept.
+    pub fn entered_base(&self, frame: FrameId, at: usize, class: FrameId) -> Option<FrameId>
+        ensures is { IfSome result (λ base. EntersBase self.now frame.0 at class.0 base.0) }
+        ensures exists { IfSome result (λ base. IsFrame self.now base.0) }
+    {
+        self.bases.base(frame, at, class)
+    }
+
+    /// Keeps the frame that a base was entered as.
+    pub fn keep_base(
+        &mut self,
+        frame: FrameId,
+        at: usize,
+        class: FrameId,
+        base: FrameId,
+    ) -> Result<(), NoMemory>
+        requires frame { IsFrame self.old frame.0 }
+        requires class { IsFrame self.old class.0 }
+        requires base { IsFrame self.old base.0 }
+        requires enters { EntersBase self.old frame.0 at class.0 base.0 }
+        ensures { self.new ≡ self.old }
+    {
+        self.bases.put(frame, at, class, base)
     }
 }

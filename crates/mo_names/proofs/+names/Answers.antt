@@ -679,6 +679,9 @@ bases::base_found-base_class-requires = bases.base_found-base_class-requires
 pub bases::base_found-base_entered-requires-clause-frame : goal.bases::base_found-base_entered-requires-clause-frame
 bases::base_found-base_entered-requires-clause-frame = bases.base_found-base_entered-requires-clause-frame
 
+pub bases::base_found-base_entered-requires-clause-clause : goal.bases::base_found-base_entered-requires-clause-clause
+bases::base_found-base_entered-requires-clause-clause = bases.base_found-base_entered-requires-clause-clause
+
 pub bases::base_found-base_entered-requires-clause-class : goal.bases::base_found-base_entered-requires-clause-class
 bases::base_found-base_entered-requires-clause-class = bases.base_found-base_entered-requires-clause-class
 

@@ -8,6 +8,7 @@ use Rattle.mo_scope.specs.Frames.{Frame, Scope}
 use Rattle.mo_scope.specs.Own.{own_declared}
 use Rattle.mo_scope.specs.Lookup.{Classed, Walked, Asking, last_place, with_member, with_base}
 use Rattle.mo_names.specs.steps.Lookup.{base_at, first_class, next_item, own_inherited}
+use Rattle.mo_names.specs.steps.Parts.{parts_of}
 use Rattle.mo_syntax.specs.declared.rules.TheConstants.{NAME_NOT_FOUND}
 
 -- the first of the identifiers of a name
@@ -46,3 +47,7 @@ IsOwnPart table frame item (Base_of clause) = Unit {0}
 abbrev pub PartExists : ℕ → Part → Type 0
 PartExists classes (Element_of declares) = class_number declares < classes
 PartExists classes (Base_of clause) = Unit {0}
+
+-- the part stands there among the parts of the class
+abbrev pub StandsAt : Option Row → (at : ℕ) → Part → Type 0
+StandsAt row at part = slice_get (parts_of row) at ≡ Some part

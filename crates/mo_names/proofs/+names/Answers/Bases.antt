@@ -1,20 +1,22 @@
 -- What is answered of bases, of the elements that they bring, and of the parts of a class.
 use Rattle.mo_names.proofs.Circling.{then_ok, left_read, class_is}
+use Rattle.mo_names.proofs.EnteredBases.{part_stands, stands_later}
 use Rattle.mo_names.proofs.Later.{grows_trans, grows_refl, is_frame_later, is_walk_later}
 use Rattle.mo_names.proofs.Outcomes.{gives_same, exit_same, then_same_ok}
 use Rattle.mo_names.proofs.OwnElements.{counted_next, own_part, own_part_later}
 use Rattle.mo_names.proofs.Walking.{part_read, part_told}
-use Rattle.mo_names.specs.steps.Bases.{part_walked, parts_walked}
+use Rattle.mo_names.specs.steps.Bases.{StandsAt, part_walked, parts_walked}
 use Rattle.mo_names.specs.steps.Parts.{parts_of}
 use Rattle.mo_names.specs.Sights.{asks, walk_at}
 use Rattle.mo_names.specs.steps.Lookup.{next_item, started}
 use Rattle.mo_scope.specs.Frames.{Frame, class_of}
 use Rattle.mo_scope.specs.Lookup.{Asking, Walked, leaf_checked}
-use Rattle.mo_scope.specs.Rows.{row_at, Part, Row}
-use Rattle.mo_scope.specs.Sights.{part_seen}
+use Rattle.mo_scope.specs.Rows.{Base_of, row_at, Part, Row}
+use Rattle.mo_scope.specs.Sights.{clause_seen, part_seen}
+use Rattle.mo_scope.specs.declared.row.Part.{Part as PartAt}
 use Rattle.mo_scope.specs.Worlds.{frame_at, table_in}
 use Rattle.mo_syntax.specs.Outcome.{and_then}
-use Rattle.std.proofs.Common.{ℕ, ap, arith, ◌≡◌, ◌∙◌, ◌+◌, Option, drop, Err, Some, refl}
+use Rattle.std.proofs.Common.{ℕ, ap, arith, ◌≡◌, ◌∙◌, ◌+◌, Option, drop, Err, Some, refl, subst}
 use Rattle.std.proofs.lemmas.Result.{err_from_is_err_and}
 use Rattle.std.specs.Prelude.{slice_get}
 use Rattle.mo_names.proofs.+names.Goals as goal
@@ -37,10 +39,14 @@ pub base_class-returns-clause-stand : goal.bases::base_class-returns-clause-stan
 base_class-returns-clause-stand t c = c.in_ok-class.ensures.stand
 
 pub base_found-base_class-requires : goal.bases::base_found-base_class-requires
-base_found-base_class-requires t c = (omega arith, c.requires)
+base_found-base_class-requires t c = (omega arith, c.requires.frame)
 
 pub base_found-base_entered-requires-clause-frame : goal.bases::base_found-base_entered-requires-clause-frame
-base_found-base_entered-requires-clause-frame t c = is_frame_later _ _ _ c.in_ok-class.ensures.grows c.requires
+base_found-base_entered-requires-clause-frame t c = is_frame_later _ _ _ c.in_ok-class.ensures.grows c.requires.frame
+
+pub base_found-base_entered-requires-clause-clause : goal.bases::base_found-base_entered-requires-clause-clause
+base_found-base_entered-requires-clause-clause t c =
+    stands_later c.args.s.now c.base_class.new.s c.args.frame.0 c.args.clause.now.at (Base_of (clause_seen c.args.clause.now.clause)) c.in_ok-class.ensures.grows c.requires.frame c.requires.clause
 
 pub base_found-base_entered-requires-clause-class : goal.bases::base_found-base_entered-requires-clause-class
 base_found-base_entered-requires-clause-class t c = c.in_ok-class.ensures.stand
@@ -71,10 +77,10 @@ pub base_found-returns-clause-stand : goal.bases::base_found-returns-clause-stan
 base_found-returns-clause-stand t c = c.in_ok-base_entered.ensures.stand
 
 pub base_found-returns-then-is_none-clause-stand : goal.bases::base_found-returns-then-is_none-clause-stand
-base_found-returns-then-is_none-clause-stand t c = c.requires
+base_found-returns-then-is_none-clause-stand t c = c.requires.frame
 
 pub base_elements-base_found-requires : goal.bases::base_elements-base_found-requires
-base_elements-base_found-requires t c = (omega arith, c.requires)
+base_elements-base_found-requires t c = (omega arith, (c.requires.frame, c.requires.clause))
 
 pub base_elements-returns-in_err-base-clause-grows : goal.bases::base_elements-returns-in_err-base-clause-grows
 base_elements-returns-in_err-base-clause-grows t c = c.in_err-base.ensures.grows
@@ -102,7 +108,7 @@ pub base_walked-with_base-requires-clause-so_far : goal.bases::base_walked-with_
 base_walked-with_base-requires-clause-so_far t c = is_walk_later c.args.s.now c.base_elements.new.s c.args.so_far.now c.in_ok-base.ensures.grows c.requires.so_far
 
 pub base_walked-base_elements-requires : goal.bases::base_walked-base_elements-requires
-base_walked-base_elements-requires t c = (omega arith, c.requires.frame)
+base_walked-base_elements-requires t c = (omega arith, (c.requires.frame, c.requires.clause))
 
 pub base_walked-returns-in_err-base-clause-grows : goal.bases::base_walked-returns-in_err-base-clause-grows
 base_walked-returns-in_err-base-clause-grows t c = c.in_err-base.ensures.grows
@@ -119,7 +125,13 @@ pub base_walked-returns-clause-stand : goal.bases::base_walked-returns-clause-st
 base_walked-returns-clause-stand t c = c.with_base.ensures.stand
 
 pub part_walked-base_walked-requires : goal.bases::part_walked-base_walked-requires
-part_walked-base_walked-requires t c = (omega arith, (c.requires.frame, c.requires.so_far))
+part_walked-base_walked-requires t c = (
+  omega arith,
+  (
+    c.requires.frame,
+    (subst (λ (p : PartAt). StandsAt (row_at (table_in c.args.s.now) (class_of (frame_at c.args.s.now c.args.frame.0))) c.args.part.now.at (part_seen p)) c.in-Base.is c.requires.placed, c.requires.so_far),
+  ),
+)
 
 pub part_walked-returns-in_err-own_walked-in-Element-clause-grows : goal.bases::part_walked-returns-in_err-own_walked-in-Element-clause-grows
 part_walked-returns-in_err-own_walked-in-Element-clause-grows t c = grows_refl c.args.s.now
@@ -140,7 +152,7 @@ walked_parts-returns-in_err-item-clause-value t c =
     let A : Asking = asks (table_in c.args.s.now) c.args.ask.now in
     let row : Option Row = row_at (table_in c.args.s.now) (class_of F) in
     let W : Walked = walk_at c.loop-at.s c.loop-at.so_far in
-    let part : Part = part_seen c.part_at-part.result in
+    let part : Part = part_seen c.part_at-part.result.part in
     let read : slice_get (parts_of row) c.loop-at.at ≡ Some part = part_read c.args.s.now c.loop-at.s c.class_of-class.result.0 F c.loop-at.at part c.loop-at.invariant.grows c.class_of-class.ensures.is c.part_at-part.ensures.is in
     exit_same {T = ℕ} (λ _. walk_at c.part_walked.new.s c.part_walked.new.so_far) _ c.from_residual.result c.in_err-item.field-0.0 _ (part_walked (table_in c.args.s.now) A F row c.loop-at.item part W)
     (λ w. parts_walked (table_in c.args.s.now) A F row (next_item part c.loop-at.item) (drop (c.loop-at.at + 1) (parts_of row)) w) _
@@ -150,7 +162,7 @@ walked_parts-returns-in_err-item-clause-value t c =
 pub walked_parts-part_walked-requires : goal.bases::walked_parts-part_walked-requires
 walked_parts-part_walked-requires t c =
     let F : Frame = frame_at c.args.s.now c.args.frame.0 in
-    let part : Part = part_seen c.part_at-part.result in (
+    let part : Part = part_seen c.part_at-part.result.part in (
       omega arith,
       (
         is_frame_later c.args.s.now c.loop-at.s c.args.frame.0 c.loop-at.invariant.grows c.requires.frame,
@@ -158,10 +170,14 @@ walked_parts-part_walked-requires t c =
           c.loop-at.invariant.stand,
           (
             c.part_at-part.ensures.exists,
-            own_part_later c.args.s.now c.loop-at.s c.args.frame.0 c.loop-at.item part c.loop-at.invariant.grows c.requires.frame
-                (own_part (table_in c.args.s.now) F c.loop-at.at c.loop-at.item part
-                (part_read c.args.s.now c.loop-at.s c.class_of-class.result.0 F c.loop-at.at part c.loop-at.invariant.grows c.class_of-class.ensures.is c.part_at-part.ensures.is)
-                c.loop-at.invariant.counted),
+            (
+              own_part_later c.args.s.now c.loop-at.s c.args.frame.0 c.loop-at.item part c.loop-at.invariant.grows c.requires.frame
+                  (own_part (table_in c.args.s.now) F c.loop-at.at c.loop-at.item part
+                  (part_read c.args.s.now c.loop-at.s c.class_of-class.result.0 F c.loop-at.at part c.loop-at.invariant.grows c.class_of-class.ensures.is c.part_at-part.ensures.is)
+                  c.loop-at.invariant.counted),
+              part_stands c.args.s.now c.loop-at.s c.class_of-class.result.0 c.args.frame.0 c.loop-at.at c.part_at-part.result.at part c.loop-at.invariant.grows c.requires.frame c.class_of-class.ensures.is
+                  c.part_at-part.ensures.at c.part_at-part.ensures.is,
+            ),
           ),
         ),
       ),
@@ -173,7 +189,7 @@ walked_parts-loop-at-preserved t c =
     let A : Asking = asks (table_in c.args.s.now) c.args.ask.now in
     let row : Option Row = row_at (table_in c.args.s.now) (class_of F) in
     let W : Walked = walk_at c.loop-at.s c.loop-at.so_far in
-    let part : Part = part_seen c.part_at-part.result in
+    let part : Part = part_seen c.part_at-part.result.part in
     let read : slice_get (parts_of row) c.loop-at.at ≡ Some part = part_read c.args.s.now c.loop-at.s c.class_of-class.result.0 F c.loop-at.at part c.loop-at.invariant.grows c.class_of-class.ensures.is c.part_at-part.ensures.is in
     record {
       grows = grows_trans c.args.s.now c.loop-at.s c.part_walked.new.s c.loop-at.invariant.grows c.in_ok-item.ensures.grows;

@@ -5,5 +5,5 @@ use Rattle.mo_scope.specs.Rows.{clauses_in}
 use Rattle.mo_scope.specs.Sights.{part_seen}
 use Rattle.mo_names.proofs.element_list.clause_among.Given as goal
 
-abbrev pub invariant-loop-part : goal.invariant-loop-part
-invariant-loop-part l = slice_get (clauses_in (map part_seen (drop l.part-index l.parts))) l.left ≡ slice_get (clauses_in (map part_seen l.parts)) l.clause
+abbrev pub invariant-loop-at : goal.invariant-loop-at
+invariant-loop-at l = slice_get (clauses_in (map part_seen (drop l.at l.parts))) l.left ≡ slice_get (clauses_in (map part_seen l.parts)) l.clause

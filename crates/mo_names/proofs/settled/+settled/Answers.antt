@@ -7,12 +7,13 @@ use Rattle.mo_scope.specs.Lookup.{Walked, asking_at}
 use Rattle.mo_scope.specs.Rows.{Part, Row, Table, number_of_classes, row_at}
 use Rattle.mo_scope.specs.Sights.{clause_seen, declares_seen, part_seen}
 use Rattle.mo_scope.specs.Worlds.{frame_at, table_in}
-use Rattle.mo_names.specs.steps.Bases.{IsOwnPart, PartExists, part_walked, parts_walked}
+use Rattle.mo_names.specs.steps.Bases.{IsOwnPart, PartExists, StandsAt, part_walked, parts_walked}
 use Rattle.mo_names.specs.steps.Settled.{AreSettled, ToldFree, ToldOwned}
 use Rattle.mo_names.specs.steps.Lookup.{next_item}
 use Rattle.mo_names.specs.steps.Parts.{parts_of}
 use Rattle.mo_names.specs.Sights.{walk_at}
 use Rattle.mo_names.specs.steps.Twins.{owned_walk}
+use Rattle.mo_names.proofs.EnteredBases.{part_stands}
 use Rattle.mo_names.proofs.Later.{grows_refl, grows_trans, is_frame_later, is_walk_later}
 use Rattle.mo_names.proofs.OwnElements.{counted_next, own_part, own_part_later}
 use Rattle.mo_names.proofs.Settling.{are_settled_later, base_told, base_told_owned, class_owned_later, class_told, class_told_later, class_told_owned, own_told, own_told_owned, part_on, part_told_free, part_told_owned}
@@ -33,12 +34,12 @@ base_settled-base_joined-requires-clause-so_far t c =
 pub base_settled-returns-clause-told : goal.base_settled-returns-clause-told
 base_settled-returns-clause-told t c =
     let F : Frame = frame_at c.args.s.now c.args.frame.0 in
-    base_told c.args.s.now c.base_named.new.s c.settle.new.s F (row_at (table_in c.args.s.now) (class_of F)) (clause_seen c.args.clause.now) c.in_ok-base.base.0 c.args.so_far.now c.base_joined.new.so_far
+    base_told c.args.s.now c.base_named.new.s c.settle.new.s F (row_at (table_in c.args.s.now) (class_of F)) (clause_seen c.args.clause.now.clause) c.in_ok-base.base.0 c.args.so_far.now c.base_joined.new.so_far
     c.in_ok-base.ensures.grows c.in_ok-settle.ensures.grows c.in_ok-base.ensures.stand c.requires.so_far c.in_ok-base.ensures.value c.in_ok-base_joined.ensures.joined
 
 pub base_settled-returns-clause-owned : goal.base_settled-returns-clause-owned
 base_settled-returns-clause-owned t c =
-    λ alike. base_told_owned c.args.s.now c.base_named.new.s c.settle.new.s c.args.frame.0 (clause_seen c.args.clause.now) c.in_ok-base.base.0 c.args.so_far.now c.base_joined.new.so_far
+    λ alike. base_told_owned c.args.s.now c.base_named.new.s c.settle.new.s c.args.frame.0 (clause_seen c.args.clause.now.clause) c.in_ok-base.base.0 c.args.so_far.now c.base_joined.new.so_far
     c.in_ok-base.ensures.grows c.in_ok-settle.ensures.grows c.requires.frame c.in_ok-base.ensures.stand c.requires.so_far c.in_ok-base.ensures.value c.in_ok-base_joined.ensures.joined
     (c.are_both-so_far.ensures.first alike) (c.is_base_alike-alike.ensures.row (c.are_both-so_far.ensures.second alike)) (c.is_base_alike-alike.ensures.unowned (c.are_both-so_far.ensures.second alike))
     (c.is_base_alike-alike.ensures.sources (c.are_both-so_far.ensures.second alike)) (c.is_base_alike-alike.ensures.elsewhere (c.are_both-so_far.ensures.second alike))
@@ -78,7 +79,7 @@ parts_settled-loop-at-init t c =
 pub parts_settled-part_settled-requires : goal.parts_settled-part_settled-requires
 parts_settled-part_settled-requires t c =
     let F : Frame = frame_at c.args.s.now c.args.frame.0 in
-    let part : Part = part_seen c.part_at-part.result in (
+    let part : Part = part_seen c.part_at-part.result.part in (
       omega arith,
       (
         is_frame_later c.args.s.now c.loop-at.s c.args.frame.0 c.loop-at.invariant.grows c.requires.frame,
@@ -88,10 +89,14 @@ parts_settled-part_settled-requires t c =
             c.loop-at.invariant.stand,
             (
               c.part_at-part.ensures.exists,
-              own_part_later c.args.s.now c.loop-at.s c.args.frame.0 c.loop-at.so_far.item part c.loop-at.invariant.grows c.requires.frame
-                  (own_part (table_in c.args.s.now) F c.loop-at.at c.loop-at.so_far.item part
-                  (part_read c.args.s.now c.loop-at.s c.class_of-class.result.0 F c.loop-at.at part c.loop-at.invariant.grows c.class_of-class.ensures.is c.part_at-part.ensures.is)
-                  c.loop-at.invariant.counted),
+              (
+                own_part_later c.args.s.now c.loop-at.s c.args.frame.0 c.loop-at.so_far.item part c.loop-at.invariant.grows c.requires.frame
+                    (own_part (table_in c.args.s.now) F c.loop-at.at c.loop-at.so_far.item part
+                    (part_read c.args.s.now c.loop-at.s c.class_of-class.result.0 F c.loop-at.at part c.loop-at.invariant.grows c.class_of-class.ensures.is c.part_at-part.ensures.is)
+                    c.loop-at.invariant.counted),
+                part_stands c.args.s.now c.loop-at.s c.class_of-class.result.0 c.args.frame.0 c.loop-at.at c.part_at-part.result.at part c.loop-at.invariant.grows c.requires.frame
+                    c.class_of-class.ensures.is c.part_at-part.ensures.at c.part_at-part.ensures.is,
+              ),
             ),
           ),
         ),
@@ -102,7 +107,7 @@ pub parts_settled-loop-at-preserved : goal.parts_settled-loop-at-preserved
 parts_settled-loop-at-preserved t c =
     let F : Frame = frame_at c.args.s.now c.args.frame.0 in
     let row : Option Row = row_at (table_in c.args.s.now) (class_of F) in
-    let part : Part = part_seen c.part_at-part.result in
+    let part : Part = part_seen c.part_at-part.result.part in
     let read : slice_get (parts_of row) c.loop-at.at ≡ Some part = part_read c.args.s.now c.loop-at.s c.class_of-class.result.0 F c.loop-at.at part c.loop-at.invariant.grows c.class_of-class.ensures.is c.part_at-part.ensures.is in
     record {
       grows = grows_trans c.args.s.now c.loop-at.s c.part_settled.new.s c.loop-at.invariant.grows c.in_ok-part_settled.ensures.grows;
@@ -350,7 +355,16 @@ pub part_settled-own_settled-requires-clause-so_far : goal.part_settled-own_sett
 part_settled-own_settled-requires-clause-so_far t c = c.requires.so_far
 
 pub part_settled-base_settled-requires : goal.part_settled-base_settled-requires
-part_settled-base_settled-requires t c = (omega arith, (c.requires.frame, (c.requires.known, c.requires.so_far)))
+part_settled-base_settled-requires t c = (
+  omega arith,
+  (
+    c.requires.frame,
+    (
+      subst (λ (p : PartAt). StandsAt (row_at (table_in c.args.s.now) (class_of (frame_at c.args.s.now c.args.frame.0))) c.args.part.now.at (part_seen p)) c.in-Base.is c.requires.placed,
+      (c.requires.known, c.requires.so_far),
+    ),
+  ),
+)
 
 pub parts_settled-returns-in_err-part_settled-clause-grows : goal.parts_settled-returns-in_err-part_settled-clause-grows
 parts_settled-returns-in_err-part_settled-clause-grows t c = grows_trans c.args.s.now c.loop-at.s c.part_settled.new.s c.loop-at.invariant.grows c.in_err-part_settled.ensures.grows

@@ -4,8 +4,10 @@ use Rattle.mo_scope.specs.Bare.{entered_held}
 use Rattle.std.specs.Prelude.{option_map}
 use Rattle.mo_scope.specs.Entries.{entry_seen, names_of, number_of, table_seen}
 use Rattle.mo_scope.specs.Frames.{Frame, In, gathered}
+use Rattle.mo_scope.specs.KeptBases.{base_held}
 use Rattle.mo_scope.specs.Worlds.{AreFrames, IsSound, frame_or_top, frames_of, sources_in}
 use Rattle.mo_scope.proofs.Entering.{entered_pushed, entered_same, taken_back}
+use Rattle.mo_scope.proofs.KeptBases.{bases_grown}
 use Rattle.mo_scope.proofs.KeptClasses.{found_grown}
 use Rattle.mo_scope.proofs.KeptComponents.{entered_grown}
 use Rattle.mo_scope.proofs.Numbered.{world, grows_pushed, grows_same, sound_pushed, frame_pushed}
@@ -25,6 +27,10 @@ invariant_of-self c = record {
       (grows_same entry_seen table_seen c.self.inside.tree.now.files c.self.inside.frames.items c.push.new.self.items
       (world entry_seen table_seen c.self.inside.tree.now.files c.self.inside.frames.items) refl c.in_err-push.ensures.items)
       c.self.invariant.components;
+  bases = bases_grown (world entry_seen table_seen c.self.inside.tree.now.files c.self.inside.frames.items) _ (base_held c.self.inside.bases)
+      (grows_same entry_seen table_seen c.self.inside.tree.now.files c.self.inside.frames.items c.push.new.self.items
+      (world entry_seen table_seen c.self.inside.tree.now.files c.self.inside.frames.items) refl c.in_err-push.ensures.items)
+      c.self.invariant.bases;
 }
 
 pub invariant_of-self-in-Ok : goal.invariant_of-self-in-Ok
@@ -42,6 +48,10 @@ invariant_of-self-in-Ok c = record {
       (grows_pushed entry_seen table_seen c.self.inside.tree.now.files c.self.inside.frames.items c.push.new.self.items _ (world entry_seen table_seen c.self.inside.tree.now.files c.self.inside.frames.items)
       refl c.in_ok-push.ensures.items)
       c.self.invariant.components;
+  bases = bases_grown (world entry_seen table_seen c.self.inside.tree.now.files c.self.inside.frames.items) _ (base_held c.self.inside.bases)
+      (grows_pushed entry_seen table_seen c.self.inside.tree.now.files c.self.inside.frames.items c.push.new.self.items _ (world entry_seen table_seen c.self.inside.tree.now.files c.self.inside.frames.items)
+      refl c.in_ok-push.ensures.items)
+      c.self.invariant.bases;
 }
 
 pub invariant_of-self-in-Err : goal.invariant_of-self-in-Err
@@ -61,6 +71,10 @@ invariant_of-self-in-Err c =
           (grows_same entry_seen table_seen c.self.inside.tree.now.files c.self.inside.frames.items c.truncate.new.self.items
           (world entry_seen table_seen c.self.inside.tree.now.files c.self.inside.frames.items) refl back)
           c.self.invariant.components;
+      bases = bases_grown (world entry_seen table_seen c.self.inside.tree.now.files c.self.inside.frames.items) _ (base_held c.self.inside.bases)
+          (grows_same entry_seen table_seen c.self.inside.tree.now.files c.self.inside.frames.items c.truncate.new.self.items
+          (world entry_seen table_seen c.self.inside.tree.now.files c.self.inside.frames.items) refl back)
+          c.self.invariant.bases;
     }
 
 pub returns-in-Err-clause-grows : goal.returns-in-Err-clause-grows

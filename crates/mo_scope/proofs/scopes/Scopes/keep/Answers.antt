@@ -3,6 +3,8 @@ use Rattle.std.proofs.Common.{map, ap, sym, refl, ◌∙◌}
 use Rattle.mo_scope.specs.Bare.{entered_held}
 use Rattle.mo_scope.specs.Entries.{entry_seen, table_seen}
 use Rattle.mo_scope.proofs.Entering.{entered_same}
+use Rattle.mo_scope.specs.KeptBases.{base_held}
+use Rattle.mo_scope.proofs.KeptBases.{bases_grown}
 use Rattle.mo_scope.proofs.KeptClasses.{found_grown}
 use Rattle.mo_scope.proofs.KeptComponents.{entered_grown}
 use Rattle.mo_scope.proofs.Numbered.{grows_set, kept_set, sound_set, world}
@@ -25,6 +27,9 @@ invariant_of-self c = record {
   components = entered_grown (world entry_seen table_seen c.self.inside.tree.now.files c.self.inside.frames.items) _ c.self.inside.components.components.items
       (grows_set entry_seen table_seen c.self.inside.tree.now.files c.self.inside.frames.items c.args.frame.0 c.index_mut.result.now _ c.index_mut.ensures.value refl)
       c.self.invariant.components;
+  bases = bases_grown (world entry_seen table_seen c.self.inside.tree.now.files c.self.inside.frames.items) _ (base_held c.self.inside.bases)
+      (grows_set entry_seen table_seen c.self.inside.tree.now.files c.self.inside.frames.items c.args.frame.0 c.index_mut.result.now _ c.index_mut.ensures.value refl)
+      c.self.invariant.bases;
 }
 
 pub returns : goal.returns

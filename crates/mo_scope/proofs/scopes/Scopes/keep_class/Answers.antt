@@ -13,4 +13,5 @@ invariant_of-self c = record {
       (found_more c.args.self.now c.self.inside.found.classes.items c.put.new.self.classes.items c.args.asked.now c.args.class c.args.replaceable
       (subst (λ w. AreFound w c.self.inside.found.classes.items) c.self.view_is c.self.invariant.found) c.put.ensures c.requires.frame c.requires.class c.requires.finds);
   components = c.self.invariant.components;
+  bases = c.self.invariant.bases;
 }

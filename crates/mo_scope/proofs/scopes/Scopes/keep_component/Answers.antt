@@ -13,4 +13,5 @@ invariant_of-self c = record {
   components = subst (λ w. AreEnteredComponents w c.put.new.self.components.items) (sym c.self.view_is)
       (entered_more c.args.self.now c.self.inside.components.components.items c.put.new.self.components.items c.args.member.now c.args.index.now c.args.frame
       (subst (λ w. AreEnteredComponents w c.self.inside.components.components.items) c.self.view_is c.self.invariant.components) c.put.ensures c.requires.home c.requires.frame c.requires.own c.requires.enters);
+  bases = c.self.invariant.bases;
 }
