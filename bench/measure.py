@@ -104,6 +104,12 @@ end L;
 """
 
 
+def table(n):
+    """The binding of an array: a matrix of n rows with ten numbers each, and one that is computed of it."""
+    rows = ",\n".join("{" + ", ".join(f"{10*k + j}.5" for j in range(10)) + "}" for k in range(n))
+    return model([f"parameter Real a[{n}, 10] = {{{rows}}}", f"parameter Real b[{n}, 10] = 2*a"], [])
+
+
 def parts(n):
     """Components of a library: n resistors, each with a capacitor to the ground, as the standard library declares them."""
     declared = [f"Resistor r{k}(R = {k + 1}.0)" for k in range(n)] + [f"L.Basic.Capacitor c{k}(C = {k + 1}.0)" for k in range(n)]
@@ -177,6 +183,7 @@ SERIES = {
     "typed": (typed, "flat", (2500, 7500, 22500)),
     "icons": (icons, "flat", (500, 1500, 4500)),
     "parts": (parts, "flat", (100, 300, 900)),
+    "table": (table, "flat", (100, 300, 900)),
     "apart": (apart, "report", (5000, 15000, 45000)),
     "circuit": (circuit, "report", (2500, 7500, 22500)),
     "dense": (dense, "report", (25000, 75000, 225000)),

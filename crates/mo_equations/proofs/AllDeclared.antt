@@ -15,6 +15,7 @@ use Rattle.mo_scope.specs.Instances.{Instance, Leaf}
 use Rattle.mo_scope.specs.Trees.{IsInstance, IsLeaf, attribute_in, chosen_in, instance_in, leaf_in}
 use Rattle.mo_scope.specs.Worlds.{World, Grows, frames_of}
 use Rattle.mo_typing.specs.Outcome.{Gives, each}
+use Rattle.mo_eval.specs.FrameBindings.{IsBoundAs, IsBoundByFrame}
 use Rattle.mo_equations.specs.declared.desk.Desk.{Desk}
 use Rattle.mo_equations.specs.declared.flat.Flat.{Flat}
 use Rattle.mo_equations.specs.declared.variables.Variable.{Variable as VariableAt}
@@ -190,6 +191,10 @@ attributes_end F (x ∷ xs) (suc i) above = let rest = attributes_end F xs i (om
 -- the leaf of an instance that exists
 pub leaf_exists : (world : World) (instance : InstanceAt) (leaf : LeafAt) → IsInstance world instance → instance.leaf ≡ Some leaf → IsLeaf world leaf
 leaf_exists world instance leaf is some = rw some at is.leaf
+
+-- what binds it
+pub leaf_bound : (world : World) (instance : InstanceAt) (leaf : LeafAt) → IsBoundByFrame world instance → instance.leaf ≡ Some leaf → IsBoundAs world instance.frame.0 leaf
+leaf_bound world instance leaf is some = rw some at is
 
 -- a variable that is read in a later world is the one of the first
 leaf_same : (u v : World) (x : InstanceAt) (leaf : LeafAt) → Grows u v → IsInstance u x → x.leaf ≡ Some leaf → leaf_in (frames_of v) leaf ≡ leaf_in (frames_of u) leaf

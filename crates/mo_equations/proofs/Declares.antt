@@ -42,13 +42,14 @@ use Rattle.mo_equations.specs.Leaves.{Tree, Variable}
 use Rattle.mo_equations.specs.Replacing.{flat_at, value_or}
 use Rattle.mo_equations.specs.Size.{most_nodes, nodes_of_option, nodes_of_variable}
 use Rattle.mo_equations.specs.Variables.{Declared, binding_equation, declared_with, fits_along, fits_leaf, flat_binding, flat_of_leaf, is_parameter, known_of_leaf, variable_with}
+use Rattle.mo_equations.specs.steps.Arrays.{IsChosenBy}
 use Rattle.mo_equations.specs.steps.Declaring.{AreAttributes, AreDeclared, HasOneMore, IsAskedSo, IsBound, IsOneOf, built_held, equation_of, equation_part, equation_with, known_of_binding, known_of_leaf_at, nodes_held, nodes_of_attributes, nodes_of_declared, place_of_option, printed_part, unknowns_with, variable_in}
 use Rattle.mo_equations.specs.steps.Desks.{Goes, IsDesk, replacing_in, tree_in}
 use Rattle.mo_equations.specs.steps.Flats.{IsFlat, capped}
 use Rattle.mo_equations.specs.steps.Layers.{fit_of, wanted_of}
 use Rattle.mo_equations.specs.steps.Makings.{IsFlatOption, IsMade}
 use Rattle.mo_equations.specs.steps.Ranges.{known_so}
-use Rattle.mo_equations.proofs.Staying.{chosen_later, instance_later, is_instance_later, same_tree}
+use Rattle.mo_equations.proofs.Staying.{chosen_later, instance_later, is_instance_later, leaf_bound_later, same_tree}
 
 -- ---- sizes
 
@@ -104,6 +105,19 @@ known_asked world leaves asked chosen indices sizes variable is same =
     ∙ ap (λ (e : Expr). known_so table (wanted_of (Accepted kind) place) (fits_leaf (tree_in world leaves) variable (chosen_in F chosen)) (scope_in F chosen.scope.frame.0 chosen.scope.iters) e asked.index.now) is.value
     ∙ ap (known_so table (wanted_of (Accepted kind) place) (fits_leaf (tree_in world leaves) variable (chosen_in F chosen)) (scope_in F chosen.scope.frame.0 chosen.scope.iters) chosen.value.now) is.index
 
+-- what is asked of the binding of a leaf is what its frame gives
+pub chosen_asked : (world : World) (variable : VariableAt) (binding : ChosenAt) (asked : Asked) (kind : Kind) (indices sizes : List ℕ) → IsOneOf world variable → variable.leaf.now.binding ≡ Some binding →
+    IsAskedSo asked binding kind indices sizes → IsChosenBy world variable.instance.now.frame.0 asked
+chosen_asked world variable binding asked kind indices sizes one own so = record {
+  pending = binding.pending;
+  is = sym one.bound ∙ (ap (option_map (chosen_in F)) own
+      ∙ (ap (λ (at : ScopeAt). Some (record { value = binding.value.now; scope = scope_in F at.frame.0 at.iters; pending = binding.pending })) (sym so.at)
+      ∙ ap (λ (e : Expr). Some (record { value = e; scope = scope_in F asked.at.now.frame.0 asked.at.now.iters; pending = binding.pending })) (sym so.value)));
+}
+  where
+    F : List Frame
+    F = frames_of world
+
 -- ---- later worlds
 
 -- the instance of a leaf, with that leaf
@@ -135,6 +149,7 @@ pub is_one_of_later : (u v : World) (variable : VariableAt) → Grows u v → Is
 is_one_of_later u v variable g is = record {
   instance = is_instance_later u v variable.instance.now g is.instance;
   leaf = (is_instance_later u v (whole variable) g (is_whole u variable is)).leaf;
+  bound = leaf_bound_later u v variable.instance.now.frame.0 variable.leaf.now g is.instance.frame is.leaf is.bound;
 }
 
 pub is_chosen_later : (u v : World) (chosen : ChosenAt) → Grows u v → IsChosen u chosen → IsChosen v chosen

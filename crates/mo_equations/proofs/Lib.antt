@@ -4,6 +4,7 @@ pub mod ElementLaw
 pub mod Ended
 pub mod AllDeclared
 pub mod Along
+pub mod ArrayBindings
 pub mod Answering
 pub mod Arguments
 pub mod ByCount

@@ -17,9 +17,9 @@ use Rattle.mo_scope.specs.Names.{Child, child_of_member, path_below}
 use Rattle.mo_scope.specs.Parts.{Picked, picked_here}
 use Rattle.mo_scope.specs.Instances.{Chosen}
 use Rattle.mo_scope.specs.Places.{Every}
-use Rattle.mo_scope.specs.Worlds.{World, Grows, frames_of, table_in}
+use Rattle.mo_scope.specs.Worlds.{World, Grows, IsFrame, frames_of, scope_in, table_in}
 use Rattle.mo_names.specs.Sights.{IsMember}
-use Rattle.mo_names.proofs.Later.{table_later}
+use Rattle.mo_names.proofs.Later.{frame_later, table_later}
 use Rattle.mo_typing.specs.Outcome as told
 use Rattle.mo_syntax.specs.declared.rules.TheConstants.{REFERENCE_CHAIN_TOO_LONG, NO_VALUE}
 use Rattle.mo_typing.specs.Dims.{Dims}
@@ -38,10 +38,12 @@ use Rattle.mo_eval.specs.Virtuals.{Element, Virtual, Component_element, Resolved
 use Rattle.mo_eval.proofs.Grown.{same_element}
 use Rattle.mo_equations.specs.declared.desk.Desk.{Desk}
 use Rattle.mo_equations.specs.declared.flat.Flat.{Flat}
+use Rattle.mo_equations.specs.declared.standing.Asked.{Asked}
 use Rattle.mo_equations.specs.Replacing.{Replacing, constant, constant_by, flat_at, flat_chosen, flat_element, flat_value, of_variable, of_virtual, standing, value_or, with_variables}
 use Rattle.mo_equations.specs.steps.Counting.{variables_in}
 use Rattle.mo_equations.specs.steps.Desks.{Goes, IsDesk, replacing_in}
 use Rattle.mo_equations.specs.steps.Flats.{Answers, IsFlat}
+use Rattle.mo_equations.specs.steps.Layers.{fit_of, wanted_of}
 use Rattle.mo_equations.specs.steps.Standing.{AreReplaced, IsAskedAt, IsVirtualThere, constant_expression, constant_known}
 use Rattle.mo_equations.proofs.Answering.{answers_halt, answers_stop}
 use Rattle.mo_equations.proofs.Asking.{IsThere, breaks_first}
@@ -210,6 +212,18 @@ pub chosen_now : (u v : World) (desk : Desk) (left : ℕ) (kind : Kind) (fit : D
 chosen_now u v desk left kind fit chosen is g =
     ap (λ (table : Table). flat_chosen table left (replacing_in v desk.leaves left) kind fit chosen) (table_later u v g)
     ∙ ap (λ (replace : Replacing). flat_chosen (table_in u) left replace kind fit chosen) (same_replacing u v desk desk left is (stays_grown u v desk g is).goes)
+
+-- what is asked of an expression is answered alike in a later world
+pub asked_now : (u v : World) (before after : Desk) (asked : Asked) → IsDesk u before → Goes u v before after → IsFrame u asked.at.now.frame.0 →
+    flat_at (table_in v) asked.left (replacing_in v after.leaves asked.left) (wanted_of asked.layers.want asked.layers.place) (fit_of asked.layers.fit asked.layers.place) (scope_in (frames_of v) asked.at.now.frame.0 asked.at.now.iters) asked.value.now asked.index.now
+    ≡ flat_at (table_in u) asked.left (replacing_in u before.leaves asked.left) (wanted_of asked.layers.want asked.layers.place) (fit_of asked.layers.fit asked.layers.place) (scope_in (frames_of u) asked.at.now.frame.0 asked.at.now.iters) asked.value.now asked.index.now
+asked_now u v before after asked is goes at =
+    let want = wanted_of asked.layers.want asked.layers.place in
+    let fit = fit_of asked.layers.fit asked.layers.place in
+    let iterations = asked.at.now.iters in
+    ap (λ (table : Table). flat_at table asked.left (replacing_in v after.leaves asked.left) want fit (scope_in (frames_of v) asked.at.now.frame.0 iterations) asked.value.now asked.index.now) (table_later u v goes.grows)
+    ∙ (ap (λ (replace : Replacing). flat_at (table_in u) asked.left replace want fit (scope_in (frames_of v) asked.at.now.frame.0 iterations) asked.value.now asked.index.now) (same_replacing u v before after asked.left is goes)
+    ∙ ap (λ (frame : Frame). flat_at (table_in u) asked.left (replacing_in u before.leaves asked.left) want fit (record { frame = frame; iterations = iterations }) asked.value.now asked.index.now) (frame_later u v asked.at.now.frame.0 goes.grows at))
 
 -- the first variable that stops
 pub breaks_on : (variable : ℕ → Outcome FlatExpr) (e : FlatExpr) (i n : ℕ) (stop : Stop) → Every (IsThere variable) (take i (variables_in e)) → i < length (variables_in e) →

@@ -10,14 +10,17 @@ use Rattle.mo_scope.specs.Rows.{Table}
 use Rattle.mo_scope.specs.Instances.{Chosen, Leaf, Instance}
 use Rattle.mo_scope.specs.Places.{Every}
 use Rattle.mo_scope.specs.Trees.{IsChosen, IsInstance, IsLeaf, attribute_in, chosen_in, instance_in, instances_in, leaf_in}
-use Rattle.mo_scope.specs.Worlds.{World, Grows, frame_in, frames_of, table_in}
+use Rattle.mo_scope.specs.Worlds.{World, Grows, IsFrame, frame_in, frames_of, table_in}
 use Rattle.mo_names.proofs.Later.{grows_refl, grows_trans, table_later, frame_later, is_frame_later, member_later, is_member_later}
 use Rattle.mo_names.specs.Sights.{IsMember}
 use Rattle.mo_eval.specs.declared.reader.Reader.{Reader}
 use Rattle.mo_eval.specs.declared.virtuals.Element.{Element as ElementAt}
 use Rattle.mo_eval.specs.Keeping.{IsKept}
 use Rattle.mo_eval.specs.Seen.{element_seen}
+use Rattle.mo_eval.specs.FrameBindings.{IsBoundAs, IsBoundByFrame}
+use Rattle.mo_eval.proofs.FrameBound.{bound_later}
 use Rattle.mo_eval.proofs.Grown.{kept_still}
+use Rattle.mo_equations.specs.declared.desk.ArrayBinding.{ArrayBinding}
 use Rattle.mo_equations.specs.declared.desk.Desk.{Desk}
 use Rattle.mo_equations.specs.declared.desk.KeptConstant.{KeptConstant}
 use Rattle.mo_equations.specs.declared.leaves.Leaves.{Leaves}
@@ -25,8 +28,10 @@ use Rattle.mo_equations.specs.Connectors.{is_connector, is_declared_flow}
 use Rattle.mo_equations.specs.Counted.{IsTreeOf}
 use Rattle.mo_equations.specs.Leaves.{Tree, number_of, place_of_root}
 use Rattle.mo_equations.specs.Replacing.{constant, flat_variable}
+use Rattle.mo_equations.specs.steps.Arrays.{IsArrayBinding}
 use Rattle.mo_equations.specs.steps.Desks.{Goes, IsConstantKept, IsDesk, Stays, replacing_in, tree_in}
 use Rattle.mo_equations.specs.steps.LeafTables.{AreLeaves, is_flow_by, leaves_in, paths_that}
+use Rattle.mo_equations.proofs.ArrayBindings.{array_binding_later}
 
 -- ---- chosen expressions
 
@@ -76,6 +81,18 @@ instance_later u v i g is =
 pub is_instance_later : (u v : World) (i : InstanceAt) → Grows u v → IsInstance u i → IsInstance v i
 is_instance_later u v i g is = record { frame = is_frame_later u v i.frame.0 g is.frame; leaf = is_leaf_later u v i.leaf g is.leaf }
 
+is_bound_later : (u v : World) (frame : ℕ) (o : Option LeafAt) → Grows u v → IsFrame u frame → IfSome o (IsLeaf u) → IfSome o (IsBoundAs u frame) → IfSome o (IsBoundAs v frame)
+is_bound_later u v frame None g at is bound = tt
+is_bound_later u v frame (Some l) g at is bound = bound_later u v frame l g at (choice_later u v l.binding g is.binding) bound
+
+pub are_bound_later : (u v : World) (xs : List InstanceAt) → Grows u v → Every (IsInstance u) xs → Every (IsBoundByFrame u) xs → Every (IsBoundByFrame v) xs
+are_bound_later u v [] g are bound = tt
+are_bound_later u v (x ∷ xs) g are bound = (is_bound_later u v x.frame.0 x.leaf g are.0.frame are.0.leaf bound.0, are_bound_later u v xs g are.1 bound.1)
+
+-- that of a leaf
+pub leaf_bound_later : (u v : World) (frame : ℕ) (leaf : LeafAt) → Grows u v → IsFrame u frame → IsLeaf u leaf → IsBoundAs u frame leaf → IsBoundAs v frame leaf
+leaf_bound_later u v frame leaf g at is bound = bound_later u v frame leaf g at (choice_later u v leaf.binding g is.binding) bound
+
 pub instances_later : (u v : World) (xs : List InstanceAt) → Grows u v → Every (IsInstance u) xs → instances_in v xs ≡ instances_in u xs
 instances_later u v [] g are = refl
 instances_later u v (x ∷ xs) g are =
@@ -97,6 +114,7 @@ tree_later u v leaves g are =
 pub leaves_later : (u v : World) (leaves : Leaves) → Grows u v → AreLeaves u leaves → AreLeaves v leaves
 leaves_later u v leaves g is = record {
   exist = are_instances_later u v leaves.instances.now g is.exist;
+  bound = are_bound_later u v leaves.instances.now g is.exist is.bound;
   tree = subst (λ (tree : Tree). IsTreeOf tree.classes tree.instances) (sym (tree_later u v leaves g is.exist)) is.tree;
   places = is.places;
   whole = is.whole;
@@ -122,12 +140,17 @@ constant_later u v leaves kept g are is = record {
   flat = is.flat;
 }
 
+binding_later : (u v : World) (o : Option ArrayBinding) → Grows u v → IfSome o (IsArrayBinding u) → IfSome o (IsArrayBinding v)
+binding_later u v None g is = tt
+binding_later u v (Some binding) g is = array_binding_later u v binding g is
+
 -- a desk whose reader has read more, in a later world
 pub desk_later : (u v : World) (desk : Desk) (reader : Reader) → Grows u v → IsKept v reader → IsDesk u desk → IsDesk v (record desk { reader = reader })
 desk_later u v desk reader g kept is = record {
   reader = kept;
   leaves = leaves_later u v desk.leaves g is.leaves;
   constants = λ k one at. constant_later u v desk.leaves one g is.leaves.exist (is.constants k one at);
+  binding = binding_later u v desk.binding g is.binding;
   asked = is.asked ∙ ap place_of_root (sym (tree_later u v desk.leaves g is.leaves.exist));
 }
 
@@ -164,6 +187,29 @@ pub stays_still : (u : World) (a : Desk) → IsDesk u a → Stays u u a a
 stays_still u a is = record {
   goes = record { grows = grows_refl u; leaves = refl; asked = refl; desk = is };
   turns = refl;
+}
+
+-- the binding of an array, taken out and put back
+pub without_binding : (u : World) (a : Desk) → IsDesk u a → Stays u u a (record a { binding = None })
+without_binding u a is = record {
+  goes = record {
+    grows = grows_refl u;
+    leaves = refl;
+    asked = refl;
+    desk = record { reader = is.reader; leaves = is.leaves; constants = is.constants; binding = tt; asked = is.asked };
+  };
+  turns = refl;
+}
+
+pub with_binding : (u v : World) (a b : Desk) (binding : ArrayBinding) → Stays u v a b → IsArrayBinding v binding → Stays u v a (record b { binding = Some binding })
+with_binding u v a b binding stays is = record {
+  goes = record {
+    grows = stays.goes.grows;
+    leaves = stays.goes.leaves;
+    asked = stays.goes.asked;
+    desk = record { reader = stays.goes.desk.reader; leaves = stays.goes.desk.leaves; constants = stays.goes.desk.constants; binding = is; asked = stays.goes.desk.asked };
+  };
+  turns = stays.turns;
 }
 
 pub constant_now : (u v : World) (before after : Desk) (left : ℕ) (element : ElementAt) → IsDesk u before → Goes u v before after → IsMember u element.member →

@@ -1,4 +1,5 @@
 pub mod Flats
+pub mod Arrays
 pub mod Asserts
 pub mod Choices
 pub mod Counting

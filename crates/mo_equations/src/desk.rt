@@ -1,8 +1,9 @@
 //! What is held while a tree of instances is expanded.
 use crate::flat::Flat;
 use crate::leaves::Leaves;
-use mo_eval::{Element, Reader};
-use mo_syntax::{List, Place};
+use mo_eval::{Element, Reader, Resolved};
+use mo_scope::Member;
+use mo_syntax::{Kind, List, Place};
 
 /// What replaces an element of a constant where so many references were left.
 #[derive(Drop)]
@@ -12,11 +13,24 @@ pub(crate) struct KeptConstant<'t> {
     pub flat: Flat,
 }
 
-/// The reader of values, what replaces constants, the tables of the leaves, and how many turns of loops were taken.
+/// The binding of a component, resolved for the flat model with all references left, which is the same for all its elements. It breaks no
+/// rule of kinds, dimensions and subscripts.
+#[derive(Drop)]
+pub(crate) struct ArrayBinding<'t> {
+    pub member: Member<'t>,
+    pub resolved: Resolved<'t>,
+    pub kind: Kind,
+    pub dims: List<u32>,
+}
+
+/// The reader of values, what replaces constants, the last binding of an array, the tables of the leaves, and how many turns of loops
+/// were taken.
 #[derive(Drop)]
 pub(crate) struct Desk<'i, 't> {
     pub reader: Reader<'t>,
     pub constants: List<KeptConstant<'t>>,
+    /// None while an element is made of it.
+    pub binding: Option<ArrayBinding<'t>>,
     pub leaves: Leaves<'i, 't>,
     /// Where the name of the asked class stands.
     pub asked: Place,

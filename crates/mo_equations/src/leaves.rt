@@ -6,6 +6,7 @@ ghost use Rattle.std.specs.Str.{bytes_eq};
 ghost use Rattle.mo_scope.specs.Places.{Every};
 ghost use Rattle.mo_scope.specs.Trees.{IsInstance, instance_in, instances_in};
 ghost use Rattle.mo_scope.specs.Worlds.{frames_of, table_in};
+ghost use Rattle.mo_eval.specs.FrameBindings.{IsBoundByFrame};
 ghost use Rattle.mo_equations.specs.Connectors.{is_connector as is_connector_of, is_connector_class as is_connector_number, is_connector_kind as is_connector_by, is_declared_flow as declared_flow, is_joined_role};
 ghost use Rattle.mo_equations.specs.Counted.{IsTreeOf};
 ghost use Rattle.mo_equations.specs.Leaves.{behind};
@@ -345,6 +346,7 @@ pub(crate) fn leaves_of<'i, 't>(
     instances: &'i [Instance<'t>],
 ) -> Result<Leaves<'i, 't>, NoMemory>
     requires exist { Every (IsInstance s.now) instances.now }
+    requires bound { Every (IsBoundByFrame s.now) instances.now }
     requires tree { IsTreeOf (table_in s.now) (instances_in s.now instances.now) }
     ensures is { IfOk result (AreLeaves s.now) }
     ensures instances { IfOk result (λ made. made.instances.now ≡ instances.now) }

@@ -148,7 +148,7 @@ pub(crate) fn flat_at<'i, 't>(
 
 /// The element of a resolved expression at an index.
 #[cycle(standing)]
-fn flat_element<'i, 't>(
+pub(crate) fn flat_element<'i, 't>(
     alloc: Global,
     s: &mut Scopes<'t>,
     desk: &mut Desk<'i, 't>,

@@ -1,7 +1,7 @@
 //! The variables of the flat model, with the equations of the bindings of unknowns.
 #![tactic(auto, using(crate::proofs::Staying::staying))]
 
-ghost use Rattle.std.specs.Prelude.{◌≡◌, ◌++◌, ◌∷◌, [], ℕ, List as Seq, Option, Ok, Err, IfOk, OnOk, drop, length};
+ghost use Rattle.std.specs.Prelude.{◌≡◌, ◌++◌, ◌∷◌, [], ℕ, List as Seq, Option, Ok, Err, Some, IfOk, OnOk, drop, length};
 ghost use Rattle.mo_flat.specs.declared.expr.FlatExpr.{FlatExpr as Expression};
 ghost use Rattle.mo_scope.specs.Frames.{at_of};
 ghost use Rattle.mo_scope.specs.Trees.{IsChosen, chosen_in};
@@ -17,6 +17,7 @@ ghost use Rattle.mo_equations.specs.steps.Flats.{Answers, IsFlat};
 ghost use Rattle.mo_equations.specs.steps.LeafTables.{AreLeaves};
 ghost use Rattle.mo_equations.specs.steps.Makings.{IsFlatOption, IsMade};
 
+use crate::arrays::flat_of_element;
 use crate::desk::Desk;
 use crate::flat::{Flat, is_past};
 use crate::kinds::{attribute_kind, is_parameter, kind_text};
@@ -208,6 +209,30 @@ fn flat_of_leaf<'i, 't>(
     flat_at(alloc, s, desk, &asked)
 }
 
+/// The binding of a leaf, as an expression of its kind: where indices are pending it is resolved once for all elements of an array.
+fn expression_of_binding<'i, 't>(
+    alloc: Global,
+    s: &mut Scopes<'t>,
+    desk: &mut Desk<'i, 't>,
+    variable: &Variable<'_, 't>,
+    binding: &Chosen<'t>,
+) -> Result<Flat, Stop>
+    requires variable { IsOneOf s.old variable.now }
+    requires chosen { IsChosen s.old binding.now }
+    requires own { variable.now.leaf.now.binding ≡ Some binding.now }
+    requires desk { IsDesk s.old desk.old }
+    ensures stays { Stays s.old s.new desk.old desk.new }
+    ensures exact { Answers IsFlat result (expression_of_leaf (tree_in s.old desk.old.leaves) (variable_in (frames_of s.old) variable.now) variable.now.leaf.now.kind (chosen_in (frames_of s.old) binding.now)) }
+{
+    let kind = variable.leaf.kind;
+    if binding.pending.is_empty() {
+        return flat_of_leaf(alloc, s, desk, variable, kind, binding);
+    }
+    let ranges = ranges_of(alloc, s, &desk.leaves, variable.instance, binding)?;
+    let asked = asked_of(binding, kind, &ranges);
+    flat_of_element(alloc, s, desk, &asked, variable.instance)
+}
+
 /// What is known of a leaf's binding.
 fn known_of_leaf<'i, 't>(
     alloc: Global,
@@ -258,6 +283,7 @@ fn flat_binding<'i, 't>(
 ) -> Result<Flat, Stop>
     requires variable { IsOneOf s.old variable.now }
     requires chosen { IsChosen s.old binding.now }
+    requires own { variable.now.leaf.now.binding ≡ Some binding.now }
     requires desk { IsDesk s.old desk.old }
     ensures stays { Stays s.old s.new desk.old desk.new }
     ensures exact { Answers IsFlat result (binding_of_leaf (tree_in s.old desk.old.leaves) (variable_in (frames_of s.old) variable.now) (chosen_in (frames_of s.old) binding.now)) }
@@ -265,7 +291,7 @@ fn flat_binding<'i, 't>(
     let known = known_binding(alloc, s, desk, variable, binding)?;
     match known {
         Some(scalar) => Ok(Flat::of(flat_value(alloc, s, scalar)?)),
-        None => flat_of_leaf(alloc, s, desk, variable, variable.leaf.kind, binding),
+        None => expression_of_binding(alloc, s, desk, variable, binding),
     }
 }
 

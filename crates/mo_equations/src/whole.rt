@@ -7,6 +7,7 @@ ghost use Rattle.mo_flat.specs.SoundConnects.{IsSoundConnects};
 ghost use Rattle.mo_scope.specs.Places.{Every};
 ghost use Rattle.mo_scope.specs.Trees.{IsInstance, instances_in};
 ghost use Rattle.mo_scope.specs.Worlds.{World, Grows, table_in};
+ghost use Rattle.mo_eval.specs.FrameBindings.{IsBoundByFrame};
 ghost use Rattle.mo_equations.specs.Connectors.{all_flows as flows_of_tree};
 ghost use Rattle.mo_equations.specs.Counted.{GivesExpansion, HasInstances, IsExpansion, IsTreeOf, tree_of};
 ghost use Rattle.mo_equations.specs.Expansion.{Parts as PartsOf, name_of_root as name_of_tree};
@@ -49,6 +50,7 @@ pub struct Expansion {
 /// Frames are only added to the tree. `NoMemory` is the only other answer.
 pub fn expand<'t>(alloc: Global, tree: &mut InstanceTree<'t>) -> Result<Expansion, Stop>
     requires frames { Every (IsInstance tree.old.scopes) tree.old.instances }
+    requires bound { Every (IsBoundByFrame tree.old.scopes) tree.old.instances }
     requires instances { HasInstances tree.old }
     ensures grows { Grows tree.old.scopes tree.new.scopes }
     ensures instances { tree.new.instances ≡ tree.old.instances }
@@ -234,6 +236,7 @@ fn first_desk<'i, 't>(
     instances: &'i [Instance<'t>],
 ) -> Result<Desk<'i, 't>, NoMemory>
     requires exist { Every (IsInstance s.now) instances.now }
+    requires bound { Every (IsBoundByFrame s.now) instances.now }
     requires tree { IsTreeOf (table_in s.now) (instances_in s.now instances.now) }
     ensures desk { IfOk result (IsDesk s.now) }
     ensures instances { IfOk result (λ desk. desk.leaves.instances.now ≡ instances.now) }
@@ -246,6 +249,7 @@ fn first_desk<'i, 't>(
     Ok(Desk {
         reader,
         constants,
+        binding: None,
         leaves,
         asked,
         turns: 0,
@@ -324,6 +328,7 @@ fn expanded<'t>(
     instances: &[Instance<'t>],
 ) -> Result<Expansion, Stop>
     requires frames { Every (IsInstance s.old) instances.now }
+    requires bound { Every (IsBoundByFrame s.old) instances.now }
     requires instances { IsTreeOf (table_in s.old) (instances_in s.old instances.now) }
     ensures grows { Grows s.old s.new }
     ensures exact { GivesExpansion result (record { classes = table_in s.old; instances = instances_in s.old instances.now }) }

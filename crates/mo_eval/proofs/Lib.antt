@@ -1,6 +1,7 @@
 pub mod Arguing
 pub mod Bindings
 mod Bound
+pub mod FrameBound
 pub mod Calling
 pub mod Choosing
 pub mod Dividing
@@ -10,7 +11,7 @@ pub mod Grown
 pub mod Layering
 pub mod OneDeeper
 pub mod Prefixes
-mod SamePicks
+pub mod SamePicks
 pub mod Telling
 pub mod Sizing
 pub mod Subscripting

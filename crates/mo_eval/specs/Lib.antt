@@ -12,3 +12,4 @@ pub mod Ends
 pub mod InScope
 pub mod Heights
 pub mod Keeping
+pub mod FrameBindings

@@ -18,6 +18,8 @@ use Rattle.mo_names.specs.Sights.{IsWalk, walk_seen}
 use Rattle.mo_lookup.proofs.Children.{wins_later, wins_stand_later, sources_later}
 use Rattle.mo_scope.specs.Sights.{redeclaration_in, source_seen}
 use Rattle.mo_eval.proofs.Grown.{kept_still}
+use Rattle.mo_eval.proofs.FrameBound.{bound_later}
+use Rattle.mo_eval.specs.FrameBindings.{IsBoundAs, IsBoundByFrame}
 use Rattle.mo_scope.specs.declared.instance.Chosen.{Chosen as ChosenAt}
 use Rattle.mo_scope.specs.declared.instance.Instance.{Instance as InstanceAt}
 use Rattle.mo_scope.specs.declared.instance.Leaf.{Leaf as LeafAt}
@@ -77,6 +79,11 @@ is_leaf_later u v (Some l) g is = record {
   binding = is_choice_later u v l.binding g is.binding;
 }
 
+is_bound_later : (u v : World) (frame : ℕ) (o : Option LeafAt) → Grows u v → IsFrame u frame → IfSome o (IsLeaf u) → IfSome o (IsBoundAs u frame) → IfSome o (IsBoundAs v frame)
+is_bound_later u v frame None g at is bound = tt
+is_bound_later u v frame (Some l) g at is bound =
+    bound_later u v frame l g at (choice_later u v l.binding g is.binding) bound
+
 pub instance_later : (u v : World) (i : InstanceAt) → Grows u v → IsEntered u i → instance_in (frames_of v) i ≡ instance_in (frames_of u) i
 instance_later u v i g is =
     ap (λ (frame : Frame). record { frame = frame; path = names_of i.path; place = i.place; dims = i.dims; leaf = option_map (leaf_in (frames_of v)) i.leaf }) (frame_later u v i.frame.0 g is.frame)
@@ -89,6 +96,7 @@ is_instance_later u v i g is = record {
       subst (λ (f : Frame). class_of f < number_of_classes (table_in v)) (sym (frame_later u v i.frame.0 g is.frame))
       (subst (λ (t : Table). class_of (frame_in (frames_of u) i.frame.0) < number_of_classes t) (sym (table_later u v g)) is.class);
   leaf = is_leaf_later u v i.leaf g is.leaf;
+  bound = is_bound_later u v i.frame.0 i.leaf g is.frame is.leaf is.bound;
 }
 
 pub instances_later : (u v : World) (xs : List InstanceAt) → Grows u v → Every (IsEntered u) xs → instances_in v xs ≡ instances_in u xs
@@ -104,6 +112,10 @@ are_instances_later u v (x ∷ xs) g are = (is_instance_later u v x g are.0, are
 pub are_instances : (w : World) (xs : List InstanceAt) → Every (IsEntered w) xs → Every (IsInstance w) xs
 are_instances w [] are = tt
 are_instances w (x ∷ xs) are = (record { frame = are.0.frame; leaf = are.0.leaf }, are_instances w xs are.1)
+
+pub are_bound : (w : World) (xs : List InstanceAt) → Every (IsEntered w) xs → Every (IsBoundByFrame w) xs
+are_bound w [] are = tt
+are_bound w (x ∷ xs) are = (are.0.bound, are_bound w xs are.1)
 
 pub classes_exist : (w : World) (xs : List InstanceAt) → Every (IsEntered w) xs → Every (λ one. class_of one.frame < number_of_classes (table_in w)) (instances_in w xs)
 classes_exist w [] are = tt

@@ -7,6 +7,7 @@ ghost use Rattle.mo_scope.specs.Outcome.{Gives};
 ghost use Rattle.mo_scope.specs.Places.{Every};
 ghost use Rattle.mo_scope.specs.Rows.{number_of_classes, row_at, table_of};
 ghost use Rattle.mo_scope.specs.Worlds.{Grows, IsFrame, frame_at, table_in};
+ghost use Rattle.mo_eval.specs.FrameBindings.{IsBoundByFrame};
 ghost use Rattle.mo_instance.specs.Instances.{AreTreeOf, instances_of as instances_of_class};
 ghost use Rattle.mo_instance.specs.steps.Instances.{instances_made, root_alone};
 ghost use Rattle.mo_scope.specs.Trees.{IsInstance, instances_in as instances_seen, tree_seen};
@@ -122,6 +123,7 @@ pub fn instantiate<'t>(
     ensures exact { Gives tree_seen result (instances_of_class (table_of tree.now.files) class.0) }
     ensures files { IfOk result (λ made. made.scopes.files ≡ tree.now.files) }
     ensures exist { IfOk result (λ made. Every (IsInstance made.scopes) made.instances) }
+    ensures bound { IfOk result (λ made. Every (IsBoundByFrame made.scopes) made.instances) }
     ensures sound { IfOk result (λ made. AreTreeOf tree.now.files class.0 (tree_seen made)) }
 {
     let mut scopes = Scopes::new(alloc, tree)?;

@@ -9,6 +9,7 @@ ghost use Rattle.mo_scope.specs.Outcome.{Gives};
 ghost use Rattle.mo_scope.specs.Sights.{declares_seen, redeclaration_in, member_at};
 ghost use Rattle.mo_scope.specs.Worlds.{Grows, IsFrame, frame_at, frames_of, table_in};
 ghost use Rattle.mo_names.specs.Sights.{IsMember, IsWalk, member_of, walk_at};
+ghost use Rattle.mo_eval.specs.FrameBindings.{IsBoundAs};
 ghost use Rattle.mo_instance.specs.Elements.{class_place as place_of_class, instance_of as instance_for, place_of_type as type_place};
 ghost use Rattle.mo_scope.specs.Trees.{IsLeaf, instance_in, leaf_in};
 ghost use Rattle.mo_instance.specs.steps.Sights.{IsEntered, around_seen};
@@ -97,7 +98,7 @@ fn instance_of<'t>(
 ) -> Result<Instance<'t>, NoMemory>
     requires { IsFrame s.now frame.0 }
     ensures is { IfOk result (λ made. instance_in (frames_of s.now) made ≡ instance_for (member_at s.now member.now) dims.now (frame_at s.now frame.0) (option_map (leaf_in (frames_of s.now)) leaf.entry)) }
-    ensures exists { IfSome leaf.entry (IsLeaf s.now) → IfOk result (IsEntered s.now) }
+    ensures exists { IfSome leaf.entry (IsLeaf s.now) → IfSome leaf.entry (IsBoundAs s.now frame.0) → IfOk result (IsEntered s.now) }
 {
     // The class exists.
     let _class = s.class_of(frame);

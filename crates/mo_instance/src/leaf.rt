@@ -12,6 +12,7 @@ ghost use Rattle.mo_names.specs.Sights.{IsWalk, walk_at};
 ghost use Rattle.mo_mods.specs.Merged.{StandsFor, binding};
 ghost use Rattle.mo_mods.specs.Scopes.{ScopesExist};
 ghost use Rattle.mo_mods.specs.Sights.{merged_in, value_in};
+ghost use Rattle.mo_eval.specs.FrameBindings.{IsBoundAs};
 ghost use Rattle.mo_instance.specs.Attributes.{attribute_as, chosen_attributes as attributes_chosen};
 ghost use Rattle.mo_instance.specs.Elements.{is_free as vary_is_free, is_real as kind_is_real, leaf_by as leaf_decided, leaf_made as leaf_for, leaf_of as leaf_of_frame, no_leaf as leaf_of_none};
 ghost use Rattle.mo_scope.specs.Trees.{IsChosen, IsLeaf, attribute_in, chosen_in, leaf_in};
@@ -154,6 +155,7 @@ fn leaf_made<'t>(
     requires leaf { IsFrame s.now leaf.0 }
     ensures is { IfOk result (λ made. leaf_in (frames_of s.now) made ≡ leaf_for (table_in s.now) (around_seen around.now) (frame_at s.now frame.0) (frame_at s.now leaf.0)) }
     ensures exists { IfOk result (IsLeaf s.now) }
+    ensures bound { IfOk result (IsBoundAs s.now frame.0) }
 {
     let parts = both(
         chosen_attributes(alloc, s, leaf),
@@ -188,6 +190,7 @@ fn leaf_by<'t>(
     requires leaf { IsFrame s.now leaf.0 }
     ensures value { Gives (option_map (leaf_in (frames_of s.now))) result (leaf_decided (table_in s.now) (around_seen around.now) (member_at s.now member.now) (frame_at s.now frame.0) (frame_at s.now leaf.0)) }
     ensures stand { IfOk result (λ made. IfSome made (IsLeaf s.now)) }
+    ensures bound { IfOk result (λ made. IfSome made (IsBoundAs s.now frame.0)) }
 {
     let kind = kind_of_leaf(s, leaf);
     if is_left_out(around.vary, kind) {
@@ -202,6 +205,7 @@ fn no_leaf<'t>(alloc: Global, s: &Scopes<'t>, frame: FrameId) -> Result<Option<L
     requires { IsFrame s.now frame.0 }
     ensures value { Gives (option_map (leaf_in (frames_of s.now))) result (leaf_of_none (picked (table_in s.now) (sources_of (frame_at s.now frame.0)) [])) }
     ensures stand { IfOk result (λ made. IfSome made (IsLeaf s.now)) }
+    ensures bound { IfOk result (λ made. IfSome made (IsBoundAs s.now frame.0)) }
 {
     let found = binding_of(alloc, s, frame)?;
     match found {
@@ -224,6 +228,7 @@ pub(crate) fn leaf_of<'t>(
     requires walk { IsWalk s.now walk.now }
     ensures value { Gives (option_map (leaf_in (frames_of s.now))) result (leaf_of_frame (table_in s.now) (around_seen around.now) (member_at s.now member.now) (frame_at s.now frame.0) (walk_at s.now walk.now)) }
     ensures stand { IfOk result (λ made. IfSome made (IsLeaf s.now)) }
+    ensures bound { IfOk result (λ made. IfSome made (IsBoundAs s.now frame.0)) }
 {
     match walk.leaf {
         Some(leaf) => leaf_by(alloc, s, around, member, frame, leaf),

@@ -38,6 +38,7 @@ use Rattle.mo_typing.specs.Dims.{Dims}
 use Rattle.mo_typing.specs.Kinds.{accepts}
 use Rattle.mo_typing.specs.Subscripts.{Checked}
 use Rattle.mo_eval.specs.Components.{place_of}
+use Rattle.mo_eval.specs.FrameBindings.{IsBoundAs}
 use Rattle.mo_eval.specs.Values.{most_references}
 
 -- ---- leaves
@@ -58,6 +59,7 @@ binding_in frames variable = option_map (chosen_in frames) variable.leaf.now.bin
 pub record IsOneOf (world : World) (variable : VariableAt) : Type 0 where
   pub instance : IsInstance world variable.instance.now
   pub leaf : IsLeaf world variable.leaf.now
+  pub bound : IsBoundAs world variable.instance.now.frame.0 variable.leaf.now
 
 -- what is known of the binding of a leaf, whatever its kind
 abbrev pub known_of_leaf_at : Tree → Variable → Chosen → Outcome Known

@@ -1,5 +1,5 @@
 -- What is held while a tree of instances is expanded, and what stays.
-use Rattle.std.specs.Prelude.{◌≡◌, ℕ, Some, Ok, slice_get}
+use Rattle.std.specs.Prelude.{◌≡◌, ℕ, Some, Ok, IfSome, slice_get}
 use Rattle.mo_flat.specs.declared.expr.FlatExpr.{FlatExpr}
 use Rattle.mo_scope.specs.Trees.{instances_in}
 use Rattle.mo_scope.specs.Worlds.{World, Grows, frames_of, table_in}
@@ -11,6 +11,7 @@ use Rattle.mo_equations.specs.declared.desk.KeptConstant.{KeptConstant}
 use Rattle.mo_equations.specs.declared.leaves.Leaves.{Leaves}
 use Rattle.mo_equations.specs.Leaves.{Tree, number_of, place_of_root}
 use Rattle.mo_equations.specs.Replacing.{Replacing, constant, flat_variable}
+use Rattle.mo_equations.specs.steps.Arrays.{IsArrayBinding}
 use Rattle.mo_equations.specs.steps.Flats.{IsFlat}
 use Rattle.mo_equations.specs.steps.LeafTables.{AreLeaves}
 
@@ -33,6 +34,7 @@ pub record IsDesk (world : World) (desk : Desk) : Type 0 where
   pub reader : IsKept world desk.reader
   pub leaves : AreLeaves world desk.leaves
   pub constants : (k : ℕ) (kept : KeptConstant) → slice_get desk.constants k ≡ Some kept → IsConstantKept world desk.leaves kept
+  pub binding : IfSome desk.binding (IsArrayBinding world)
   pub asked : desk.asked ≡ place_of_root (tree_in world desk.leaves)
 
 -- Frames are only added, the tables stay, and the desk is still one.

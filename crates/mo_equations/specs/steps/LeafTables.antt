@@ -11,6 +11,7 @@ use Rattle.mo_scope.specs.Instances.{Instance}
 use Rattle.mo_scope.specs.Places.{Every}
 use Rattle.mo_scope.specs.Trees.{IsInstance, instances_in}
 use Rattle.mo_scope.specs.Worlds.{World, table_in}
+use Rattle.mo_eval.specs.FrameBindings.{IsBoundByFrame}
 use Rattle.mo_equations.specs.declared.leaves.Leaves.{Leaves}
 use Rattle.mo_equations.specs.Counted.{IsTreeOf}
 use Rattle.mo_equations.specs.Connectors.{is_connector, is_declared_flow, is_flow, is_joined_role}
@@ -99,6 +100,7 @@ PlacesAreThose leaves = instances_at leaves.instances.now leaves.places ≡ map 
 
 pub record AreLeaves (world : World) (leaves : Leaves) : Type 0 where
   pub exist : Every (IsInstance world) leaves.instances.now
+  pub bound : Every (IsBoundByFrame world) leaves.instances.now
   pub tree : IsTreeOf (table_in world) (instances_in world leaves.instances.now)
   pub places : PlacesAreThose leaves
   pub whole : IsPathTable leaves.all

@@ -4,6 +4,7 @@ use Rattle.mo_equations.proofs.leaves.leaves_of.Goals as goal
 pub returns-clause-is : goal.returns-clause-is
 returns-clause-is c = record {
   exist = c.requires.exist;
+  bound = c.requires.bound;
   tree = c.requires.tree;
   places = c.in_ok-places.ensures;
   whole = c.in_ok-all.ensures.is;

@@ -3,11 +3,12 @@ use Rattle.std.proofs.Common.{◌≡◌, ℕ, ◌+◌, ◌++◌, ◌∷◌, [], 
 use Rattle.mo_scope.specs.Trees.{IsInstance}
 use Rattle.mo_scope.specs.Worlds.{frames_of}
 use Rattle.mo_typing.specs.Outcome.{each}
+use Rattle.mo_eval.specs.FrameBindings.{IsBoundByFrame}
 use Rattle.mo_equations.specs.Variables.{all_declared, declared}
 use Rattle.mo_equations.specs.steps.Declaring.{AreDeclared}
 use Rattle.mo_equations.specs.steps.Desks.{tree_in}
-use Rattle.mo_equations.proofs.AllDeclared.{all_break, all_given, counts, declared_there, gives_more, leaf_exists, nowhere, passes, refused_at, variable_of}
-use Rattle.mo_equations.proofs.Staying.{is_instance_later, stays_on}
+use Rattle.mo_equations.proofs.AllDeclared.{all_break, all_given, counts, declared_there, gives_more, leaf_bound, leaf_exists, nowhere, passes, refused_at, variable_of}
+use Rattle.mo_equations.proofs.Staying.{are_bound_later, is_instance_later, stays_on}
 use Rattle.mo_equations.proofs.Tabled.{every_at}
 use Rattle.mo_equations.proofs.variables.all_declared.Goals as goal
 
@@ -26,7 +27,11 @@ declare-requires c =
     let exists = every_at (IsInstance u) xs i item c.requires.desk.leaves.exist small c.instance-item.is in
     let later = is_instance_later u v item before.0.goes.grows exists in
     record {
-      variable = record { instance = later; leaf = leaf_exists v item c.in-Some.leaf later c.in-Some.is };
+      variable = record {
+        instance = later;
+        leaf = leaf_exists v item c.in-Some.leaf later c.in-Some.is;
+        bound = leaf_bound v item c.in-Some.leaf (every_at (IsBoundByFrame v) xs i item (are_bound_later u v xs before.0.goes.grows c.requires.desk.leaves.exist c.requires.desk.leaves.bound) small c.instance-item.is) c.in-Some.is;
+      };
       desk = before.0.goes.desk;
     }
 

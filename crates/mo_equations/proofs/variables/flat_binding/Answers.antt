@@ -26,10 +26,11 @@ returns-in_err-known-clause-exact c =
     rw p (answers_as {T = Flat} IsFlat (Err stop) _ _ (sym (binding_is tree variable binding))
     (value_halts (table_in c.args.s.now) (flat_of_leaf tree variable variable.leaf.kind binding) (known_of_binding tree variable binding) stop c.in_err-known.ensures.exact))
 
-pub flat_of_leaf-requires : goal.flat_of_leaf-requires
-flat_of_leaf-requires c = record {
+pub expression_of_binding-requires : goal.expression_of_binding-requires
+expression_of_binding-requires c = record {
   variable = is_one_of_later c.args.s.now c.known_binding.new.s c.args.variable.now c.in_ok-known.ensures.stays.goes.grows c.requires.variable;
   chosen = is_chosen_later c.args.s.now c.known_binding.new.s c.args.binding.now c.in_ok-known.ensures.stays.goes.grows c.requires.chosen;
+  own = c.requires.own;
   desk = c.in_ok-known.ensures.stays.goes.desk;
 }
 
@@ -53,8 +54,8 @@ returns-in-None-clause-exact c =
     let binding = chosen_in (frames_of c.args.s.now) c.args.binding.now in
     let told = rw c.in-None.is at c.in_ok-known.ensures.exact in
     let now = flat_later c.args.s.now c.known_binding.new.s c.args.desk.now c.known_binding.new.desk c.args.variable.now c.args.variable.now.leaf.now.kind c.args.binding.now c.requires.desk c.in_ok-known.ensures.stays.goes c.requires.variable c.requires.chosen in
-    answers_as IsFlat c.flat_of_leaf.result _ _
-    (now ∙ sym (binding_is tree variable binding ∙ value_none (table_in c.args.s.now) (flat_of_leaf tree variable variable.leaf.kind binding) (known_of_binding tree variable binding) told)) c.flat_of_leaf.ensures.exact
+    answers_as IsFlat c.expression_of_binding.result _ _
+    (now ∙ sym (binding_is tree variable binding ∙ value_none (table_in c.args.s.now) (flat_of_leaf tree variable variable.leaf.kind binding) (known_of_binding tree variable binding) told)) c.expression_of_binding.ensures.exact
 
 -- ---- what stays
 
@@ -68,4 +69,4 @@ pub returns-in_ok-flat_value-in-Some-clause-stays : goal.returns-in_ok-flat_valu
 returns-in_ok-flat_value-in-Some-clause-stays c = c.in_ok-known.ensures.stays
 
 pub returns-in-None-clause-stays : goal.returns-in-None-clause-stays
-returns-in-None-clause-stays c = stays_on c.args.s.now c.known_binding.new.s c.flat_of_leaf.new.s c.args.desk.now c.known_binding.new.desk c.flat_of_leaf.new.desk c.in_ok-known.ensures.stays c.flat_of_leaf.ensures.stays
+returns-in-None-clause-stays c = stays_on c.args.s.now c.known_binding.new.s c.expression_of_binding.new.s c.args.desk.now c.known_binding.new.desk c.expression_of_binding.new.desk c.in_ok-known.ensures.stays c.expression_of_binding.ensures.stays

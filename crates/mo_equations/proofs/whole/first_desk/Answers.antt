@@ -11,5 +11,6 @@ returns-clause-desk c = record {
   reader = c.new-reader.ensures c.args.s.now;
   leaves = c.in_ok-leaves.ensures.is;
   constants = λ k kept at. absurd (let clash : ◌≡◌ {A = Option KeptConstant} None (Some kept) = rw c.new-constants.ensures at at in cc);
+  binding = tt;
   asked = c.place_of_root-asked.ensures c.args.s.now ∙ ap (λ (is : List InstanceAt). place_of_root (tree_with c.args.s.now is)) (sym c.in_ok-leaves.ensures.instances);
 }

@@ -8,7 +8,7 @@ use Rattle.mo_scope.specs.Rows.{Table, number_of_classes, table_of}
 use Rattle.mo_scope.specs.Trees.{instances_in}
 use Rattle.mo_names.proofs.Later.{table_later}
 use Rattle.mo_instance.specs.Instances.{instances_of}
-use Rattle.mo_instance.proofs.Later.{are_instances, classes_exist}
+use Rattle.mo_instance.proofs.Later.{are_bound, are_instances, classes_exist}
 use Rattle.mo_instance.proofs.Trees.{tree_of}
 use Rattle.mo_instance.proofs.asked_class.instantiate.Goals as goal
 
@@ -17,6 +17,9 @@ returns-clause-exact c = ap (λ (files : List FileTree). instances_of (table_of 
 
 pub returns-clause-exist : goal.returns-clause-exist
 returns-clause-exist c = are_instances c.instances_of.new.s c.in_ok-instances.instances c.in_ok-instances.ensures.stand
+
+pub returns-clause-bound : goal.returns-clause-bound
+returns-clause-bound c = are_bound c.instances_of.new.s c.in_ok-instances.instances c.in_ok-instances.ensures.stand
 
 pub returns-clause-sound : goal.returns-clause-sound
 returns-clause-sound c = λ row at.

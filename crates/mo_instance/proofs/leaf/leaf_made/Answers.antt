@@ -26,3 +26,6 @@ returns-clause-exists c = record {
   attributes = rw c.in_ok-parts.ensures.values.0 at c.chosen_attributes.ensures.exist;
   binding = rw c.in_ok-parts.ensures.values.1 at c.binding_of.ensures.exists;
 }
+
+pub returns-clause-bound : goal.returns-clause-bound
+returns-clause-bound c = rw c.in_ok-parts.ensures.values.1 at c.binding_of.ensures.is
