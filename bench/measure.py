@@ -110,6 +110,12 @@ def table(n):
     return model([f"parameter Real a[{n}, 10] = {{{rows}}}", f"parameter Real b[{n}, 10] = 2*a"], [])
 
 
+def bank(n):
+    """An array of n components whose modifiers are arrays."""
+    head = "model R parameter Real R = 1; parameter Real T = 2; end R;\n"
+    return head + model([f"parameter Real Rs[{n}] = fill(3, {n})", f"R r[{n}](R = Rs, T = 2*Rs)"], [])
+
+
 def parts(n):
     """Components of a library: n resistors, each with a capacitor to the ground, as the standard library declares them."""
     declared = [f"Resistor r{k}(R = {k + 1}.0)" for k in range(n)] + [f"L.Basic.Capacitor c{k}(C = {k + 1}.0)" for k in range(n)]
@@ -184,6 +190,7 @@ SERIES = {
     "icons": (icons, "flat", (500, 1500, 4500)),
     "parts": (parts, "flat", (100, 300, 900)),
     "table": (table, "flat", (100, 300, 900)),
+    "bank": (bank, "flat", (300, 900, 2700)),
     "apart": (apart, "report", (5000, 15000, 45000)),
     "circuit": (circuit, "report", (2500, 7500, 22500)),
     "dense": (dense, "report", (25000, 75000, 225000)),

@@ -22,7 +22,8 @@ use Rattle.mo_equations.specs.declared.variables.Variable.{Variable as VariableA
 use Rattle.mo_equations.specs.Leaves.{Tree, Variable, variables_from, with_leaf}
 use Rattle.mo_equations.specs.Variables.{declared, declared_with, flat_attribute, flat_binding, flat_option}
 use Rattle.mo_equations.specs.steps.Declaring.{IsBound, IsOneOf, binding_in, variable_in}
-use Rattle.mo_equations.specs.steps.Desks.{Goes, IsDesk, tree_in}
+use Rattle.mo_equations.specs.steps.Desks.{Goes, IsDesk}
+use Rattle.mo_equations.specs.steps.Standing.{tree_in}
 use Rattle.mo_equations.specs.steps.Flats.{Answers, IsFlat}
 use Rattle.mo_equations.specs.steps.Makings.{IsFlatOption}
 use Rattle.mo_equations.proofs.Declares.{variable_later}

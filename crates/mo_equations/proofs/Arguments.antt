@@ -24,7 +24,8 @@ use Rattle.mo_equations.specs.Asserts.{assertion_level, flat_argument, value_of_
 use Rattle.mo_equations.specs.Gathering.{made_assert}
 use Rattle.mo_equations.specs.Leaves.{Tree}
 use Rattle.mo_equations.specs.steps.Asserts.{GivesAssert, IsRest, assert_with_level, level_of, made_with, rest_of, values_seen}
-use Rattle.mo_equations.specs.steps.Desks.{Goes, IsDesk, tree_in}
+use Rattle.mo_equations.specs.steps.Desks.{Goes, IsDesk}
+use Rattle.mo_equations.specs.steps.Standing.{tree_in}
 use Rattle.mo_equations.specs.steps.Flats.{Answers, IsFlat}
 use Rattle.mo_equations.specs.steps.Makings.{IsFlatOption, IsMade}
 use Rattle.mo_equations.proofs.Staying.{same_tree}

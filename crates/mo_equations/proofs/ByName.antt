@@ -47,10 +47,6 @@ pub are_members_later : (u v : World) (members : List MemberAt) → Grows u v �
 are_members_later u v [] grows are = tt
 are_members_later u v (m ∷ ms) grows are = (is_member_later u v m grows are.0, are_members_later u v ms grows are.1)
 
-pub every_last : {A : Type 0} (P : A → Type 0) (xs : List A) (x : A) → Every P xs → P x → Every P (xs ++ x ∷ [])
-every_last P [] x are is = (is, tt)
-every_last P (y ∷ ys) x are is = (are.0, every_last P ys x are.1 is)
-
 pub mapped_last : {A B : Type 0} (f : A → B) (xs : List A) (x : A) → map f (xs ++ x ∷ []) ≡ map f xs ++ f x ∷ []
 mapped_last f [] x = refl
 mapped_last {B = B} f (y ∷ ys) x = ap (λ (bs : List B). f y ∷ bs) (mapped_last f ys x)

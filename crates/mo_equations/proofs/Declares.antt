@@ -44,7 +44,8 @@ use Rattle.mo_equations.specs.Size.{most_nodes, nodes_of_option, nodes_of_variab
 use Rattle.mo_equations.specs.Variables.{Declared, binding_equation, declared_with, fits_along, fits_leaf, flat_binding, flat_of_leaf, is_parameter, known_of_leaf, variable_with}
 use Rattle.mo_equations.specs.steps.Arrays.{IsChosenBy}
 use Rattle.mo_equations.specs.steps.Declaring.{AreAttributes, AreDeclared, HasOneMore, IsAskedSo, IsBound, IsOneOf, built_held, equation_of, equation_part, equation_with, known_of_binding, known_of_leaf_at, nodes_held, nodes_of_attributes, nodes_of_declared, place_of_option, printed_part, unknowns_with, variable_in}
-use Rattle.mo_equations.specs.steps.Desks.{Goes, IsDesk, replacing_in, tree_in}
+use Rattle.mo_equations.specs.steps.Desks.{Goes, IsDesk}
+use Rattle.mo_equations.specs.steps.Standing.{replacing_in, tree_in}
 use Rattle.mo_equations.specs.steps.Flats.{IsFlat, capped}
 use Rattle.mo_equations.specs.steps.Layers.{fit_of, wanted_of}
 use Rattle.mo_equations.specs.steps.Makings.{IsFlatOption, IsMade}

@@ -39,7 +39,8 @@ use Rattle.mo_equations.specs.declared.leaves.Leaves.{Leaves}
 use Rattle.mo_equations.specs.Connectors.{leaves_below}
 use Rattle.mo_equations.specs.Ends.{connect_of, end_of, end_with, leaves_of, no_connector, side_of}
 use Rattle.mo_equations.specs.Leaves.{Tree}
-use Rattle.mo_equations.specs.steps.Desks.{Goes, IsDesk, tree_in}
+use Rattle.mo_equations.specs.steps.Desks.{Goes, IsDesk}
+use Rattle.mo_equations.specs.steps.Standing.{tree_in}
 use Rattle.mo_equations.specs.steps.Ends.{elements_in, end_beside, end_selected}
 use Rattle.mo_equations.proofs.Arguments.{scope_later}
 use Rattle.mo_equations.proofs.Staying.{same_tree, tree_later}

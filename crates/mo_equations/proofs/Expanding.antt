@@ -25,7 +25,7 @@ use Rattle.mo_equations.specs.Leaves.{Tree}
 use Rattle.mo_equations.specs.Sections.{frames_of}
 use Rattle.mo_equations.specs.Variables.{Declared, all_declared}
 use Rattle.mo_equations.specs.steps.Declaring.{AreDeclared, expanded_from}
-use Rattle.mo_equations.specs.steps.Desks.{tree_in}
+use Rattle.mo_equations.specs.steps.Standing.{tree_in}
 use Rattle.mo_equations.specs.steps.Flats.{Answers}
 use Rattle.mo_equations.specs.steps.Placing.{GivesParts, frames_of_instances, parts_of_tree}
 use Rattle.mo_equations.proofs.Lists.{flat_mapped}

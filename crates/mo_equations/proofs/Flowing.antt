@@ -12,7 +12,7 @@ use Rattle.mo_equations.specs.Connectors.{is_connector, is_declared_flow}
 use Rattle.mo_equations.specs.declared.leaves.Leaves.{Leaves}
 use Rattle.mo_equations.specs.Leaves.{Tree, Variable, variables_from, variables_of, with_leaf}
 use Rattle.mo_scope.specs.Worlds.{World, frames_of}
-use Rattle.mo_equations.specs.steps.Desks.{tree_in}
+use Rattle.mo_equations.specs.steps.Standing.{tree_in}
 use Rattle.mo_equations.specs.steps.LeafTables.{AreLeaves, PlacesAreThose, flow_at, flow_in, is_flow_by, leaves_in, paths_that}
 use Rattle.mo_equations.proofs.Lists.{flat_mapped, taken_got}
 use Rattle.mo_equations.proofs.Located.{flow_located}

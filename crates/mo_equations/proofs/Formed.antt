@@ -32,7 +32,8 @@ use Rattle.mo_equations.specs.Leaves.{Tree, place_of_root}
 use Rattle.mo_equations.specs.steps.Flats.{Answers, IsFlat}
 use Rattle.mo_equations.specs.steps.Makings.{IsMade}
 use Rattle.mo_equations.specs.steps.Turns.{GivesBranch, GivesChoice, GivesMade, all_made_at, site_in, undecided_at}
-use Rattle.mo_equations.specs.steps.Desks.{Goes, IsDesk, tree_in}
+use Rattle.mo_equations.specs.steps.Desks.{Goes, IsDesk}
+use Rattle.mo_equations.specs.steps.Standing.{tree_in}
 use Rattle.mo_equations.proofs.Staying.{same_tree}
 use Rattle.mo_equations.proofs.Turning.{Gathers, turn_halts}
 
@@ -173,7 +174,7 @@ goes_turned u v a b n g = record {
   grows = g.grows;
   leaves = g.leaves;
   asked = g.asked;
-  desk = record { reader = g.desk.reader; leaves = g.desk.leaves; constants = g.desk.constants; binding = g.desk.binding; asked = g.desk.asked };
+  desk = record { reader = g.desk.reader; leaves = g.desk.leaves; constants = g.desk.constants; binding = g.desk.binding; shared = g.desk.shared; asked = g.desk.asked };
 }
 
 pub goes_taken : (u v : World) (a b c : Desk) → Goes u v a b → c ≡ record b { turns = b.turns + 1 } → Goes u v a c

@@ -5,6 +5,8 @@ pub mod Ended
 pub mod AllDeclared
 pub mod Along
 pub mod ArrayBindings
+pub mod ResolvedOnce
+pub mod SharedExpressions
 pub mod Answering
 pub mod Arguments
 pub mod ByCount

@@ -14,14 +14,14 @@ every_at P [] i x are below is = absurd (omega (arith, below))
 every_at P (y ∷ xs) zero x are below is = subst P (sym is) are.0
 every_at P (y ∷ xs) (suc i) x are below is = every_at P xs i x are.1 (omega (arith, below)) is
 
-with_last : {A : Type 0} (P : A → Type 0) (zs : List A) (x : A) → Every P zs → P x → Every P (zs ++ x ∷ [])
-with_last P [] x none this = (this, tt)
-with_last P (z ∷ zs) x all this = (all.0, with_last P zs x all.1 this)
+pub every_last : {A : Type 0} (P : A → Type 0) (zs : List A) (x : A) → Every P zs → P x → Every P (zs ++ x ∷ [])
+every_last P [] x none this = (this, tt)
+every_last P (z ∷ zs) x all this = (all.0, every_last P zs x all.1 this)
 
 -- all up to a place, and the one there
 pub every_taken : {A : Type 0} (P : A → Type 0) (xs : List A) (i : ℕ) (x d : A) → i < length xs → x ≡ get_or xs i d → Every P (take i xs) → P x → Every P (take (i + 1) xs)
 every_taken P xs i x d small is are this =
-    subst (Every P) (sym (take_more xs i d small)) (with_last P (take i xs) (get_or xs i d) are (subst P is this))
+    subst (Every P) (sym (take_more xs i d small)) (every_last P (take i xs) (get_or xs i d) are (subst P is this))
 
 pub every_mapped : {A : Type 0} (P Q : A → Type 0) → ((x : A) → P x → Q x) → (xs : List A) → Every P xs → Every Q xs
 every_mapped P Q f [] are = tt

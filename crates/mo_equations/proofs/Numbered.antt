@@ -8,7 +8,7 @@ use Rattle.mo_scope.specs.Trees.{instance_in}
 use Rattle.mo_scope.specs.Worlds.{World, frames_of}
 use Rattle.mo_equations.specs.declared.leaves.Leaves.{Leaves}
 use Rattle.mo_equations.specs.Leaves.{Variable, number_of, variables_from}
-use Rattle.mo_equations.specs.steps.Desks.{tree_in}
+use Rattle.mo_equations.specs.steps.Standing.{tree_in}
 use Rattle.mo_equations.specs.steps.LeafTables.{AreLeaves, is_leaf, number_by}
 use Rattle.mo_equations.specs.steps.Tables.{paths_seen, place_among}
 

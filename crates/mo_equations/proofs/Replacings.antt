@@ -41,10 +41,10 @@ use Rattle.mo_equations.specs.declared.flat.Flat.{Flat}
 use Rattle.mo_equations.specs.declared.standing.Asked.{Asked}
 use Rattle.mo_equations.specs.Replacing.{Replacing, constant, constant_by, flat_at, flat_chosen, flat_element, flat_value, of_variable, of_virtual, standing, value_or, with_variables}
 use Rattle.mo_equations.specs.steps.Counting.{variables_in}
-use Rattle.mo_equations.specs.steps.Desks.{Goes, IsDesk, replacing_in}
+use Rattle.mo_equations.specs.steps.Desks.{Goes, IsDesk}
 use Rattle.mo_equations.specs.steps.Flats.{Answers, IsFlat}
 use Rattle.mo_equations.specs.steps.Layers.{fit_of, wanted_of}
-use Rattle.mo_equations.specs.steps.Standing.{AreReplaced, IsAskedAt, IsVirtualThere, constant_expression, constant_known}
+use Rattle.mo_equations.specs.steps.Standing.{AreReplaced, IsAskedAt, IsVirtualThere, constant_expression, constant_known, replacing_in}
 use Rattle.mo_equations.proofs.Answering.{answers_halt, answers_stop}
 use Rattle.mo_equations.proofs.Asking.{IsThere, breaks_first}
 use Rattle.mo_equations.proofs.Staying.{same_replacing, stays_grown}

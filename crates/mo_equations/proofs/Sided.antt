@@ -27,7 +27,8 @@ use Rattle.mo_equations.specs.Gathering.{Made, beside, made_equations, nothing}
 use Rattle.mo_equations.specs.Leaves.{Tree}
 use Rattle.mo_equations.specs.Replacing.{Replacing, of_variable, with_variables}
 use Rattle.mo_equations.specs.Variables.{replacing}
-use Rattle.mo_equations.specs.steps.Desks.{Goes, IsDesk, replacing_in, tree_in}
+use Rattle.mo_equations.specs.steps.Desks.{Goes, IsDesk}
+use Rattle.mo_equations.specs.steps.Standing.{replacing_in, tree_in}
 use Rattle.mo_equations.specs.declared.flat.Flat.{Flat}
 use Rattle.mo_equations.specs.steps.Equalities.{GivesEquations, PutsEquations}
 use Rattle.mo_equations.specs.steps.Flats.{Answers, IsFlat}

@@ -1,6 +1,7 @@
 -- What is seen of instances stays the same in later worlds, and so do the tree of instances and what stands for elements.
 use Rattle.std.proofs.Common.{◌≡◌, ℕ, List, [], ◌∷◌, map, Option, Some, None, refl, ap, sym, ◌∙◌, subst}
-use Rattle.std.specs.Prelude.{option_map, IfSome}
+use Rattle.std.specs.Prelude.{option_map, IfSome, Vec}
+use Rattle.std.specs.Global.{Global}
 use Rattle.mo_scope.specs.declared.instance.Chosen.{Chosen as ChosenAt}
 use Rattle.mo_scope.specs.declared.instance.Instance.{Instance as InstanceAt}
 use Rattle.mo_scope.specs.declared.instance.Leaf.{Leaf as LeafAt}
@@ -23,15 +24,19 @@ use Rattle.mo_eval.proofs.Grown.{kept_still}
 use Rattle.mo_equations.specs.declared.desk.ArrayBinding.{ArrayBinding}
 use Rattle.mo_equations.specs.declared.desk.Desk.{Desk}
 use Rattle.mo_equations.specs.declared.desk.KeptConstant.{KeptConstant}
+use Rattle.mo_equations.specs.declared.desk.SharedExpression.{SharedExpression}
 use Rattle.mo_equations.specs.declared.leaves.Leaves.{Leaves}
 use Rattle.mo_equations.specs.Connectors.{is_connector, is_declared_flow}
 use Rattle.mo_equations.specs.Counted.{IsTreeOf}
 use Rattle.mo_equations.specs.Leaves.{Tree, number_of, place_of_root}
 use Rattle.mo_equations.specs.Replacing.{constant, flat_variable}
 use Rattle.mo_equations.specs.steps.Arrays.{IsArrayBinding}
-use Rattle.mo_equations.specs.steps.Desks.{Goes, IsConstantKept, IsDesk, Stays, replacing_in, tree_in}
+use Rattle.mo_equations.specs.steps.Desks.{Goes, IsConstantKept, IsDesk, Stays}
+use Rattle.mo_equations.specs.steps.Standing.{replacing_in, tree_in}
 use Rattle.mo_equations.specs.steps.LeafTables.{AreLeaves, is_flow_by, leaves_in, paths_that}
+use Rattle.mo_equations.specs.steps.Sharing.{IsShared}
 use Rattle.mo_equations.proofs.ArrayBindings.{array_binding_later}
+use Rattle.mo_equations.proofs.SharedExpressions.{all_shared_later}
 
 -- ---- chosen expressions
 
@@ -140,9 +145,9 @@ constant_later u v leaves kept g are is = record {
   flat = is.flat;
 }
 
-binding_later : (u v : World) (o : Option ArrayBinding) → Grows u v → IfSome o (IsArrayBinding u) → IfSome o (IsArrayBinding v)
-binding_later u v None g is = tt
-binding_later u v (Some binding) g is = array_binding_later u v binding g is
+binding_later : (u v : World) (leaves : Leaves) (o : Option ArrayBinding) → Grows u v → tree_in v leaves ≡ tree_in u leaves → IfSome o (IsArrayBinding u leaves) → IfSome o (IsArrayBinding v leaves)
+binding_later u v leaves None g same is = tt
+binding_later u v leaves (Some binding) g same is = array_binding_later u v leaves leaves binding g same is
 
 -- a desk whose reader has read more, in a later world
 pub desk_later : (u v : World) (desk : Desk) (reader : Reader) → Grows u v → IsKept v reader → IsDesk u desk → IsDesk v (record desk { reader = reader })
@@ -150,7 +155,8 @@ desk_later u v desk reader g kept is = record {
   reader = kept;
   leaves = leaves_later u v desk.leaves g is.leaves;
   constants = λ k one at. constant_later u v desk.leaves one g is.leaves.exist (is.constants k one at);
-  binding = binding_later u v desk.binding g is.binding;
+  binding = binding_later u v desk.leaves desk.binding g (tree_later u v desk.leaves g is.leaves.exist) is.binding;
+  shared = all_shared_later u v desk.leaves desk.leaves desk.shared.items g (tree_later u v desk.leaves g is.leaves.exist) is.shared;
   asked = is.asked ∙ ap place_of_root (sym (tree_later u v desk.leaves g is.leaves.exist));
 }
 
@@ -196,20 +202,32 @@ without_binding u a is = record {
     grows = grows_refl u;
     leaves = refl;
     asked = refl;
-    desk = record { reader = is.reader; leaves = is.leaves; constants = is.constants; binding = tt; asked = is.asked };
+    desk = record { reader = is.reader; leaves = is.leaves; constants = is.constants; binding = tt; shared = is.shared; asked = is.asked };
   };
   turns = refl;
 }
 
-pub with_binding : (u v : World) (a b : Desk) (binding : ArrayBinding) → Stays u v a b → IsArrayBinding v binding → Stays u v a (record b { binding = Some binding })
+pub with_binding : (u v : World) (a b : Desk) (binding : ArrayBinding) → Stays u v a b → IsArrayBinding v b.leaves binding → Stays u v a (record b { binding = Some binding })
 with_binding u v a b binding stays is = record {
   goes = record {
     grows = stays.goes.grows;
     leaves = stays.goes.leaves;
     asked = stays.goes.asked;
-    desk = record { reader = stays.goes.desk.reader; leaves = stays.goes.desk.leaves; constants = stays.goes.desk.constants; binding = is; asked = stays.goes.desk.asked };
+    desk = record { reader = stays.goes.desk.reader; leaves = stays.goes.desk.leaves; constants = stays.goes.desk.constants; binding = is; shared = stays.goes.desk.shared; asked = stays.goes.desk.asked };
   };
   turns = stays.turns;
+}
+
+-- other expressions that are shared
+pub with_shared : (u : World) (a : Desk) (shared : Vec SharedExpression Global) → IsDesk u a → Every (IsShared u a.leaves) shared.items → Stays u u a (record a { shared = shared })
+with_shared u a shared is are = record {
+  goes = record {
+    grows = grows_refl u;
+    leaves = refl;
+    asked = refl;
+    desk = record { reader = is.reader; leaves = is.leaves; constants = is.constants; binding = is.binding; shared = are; asked = is.asked };
+  };
+  turns = refl;
 }
 
 pub constant_now : (u v : World) (before after : Desk) (left : ℕ) (element : ElementAt) → IsDesk u before → Goes u v before after → IsMember u element.member →

@@ -14,6 +14,8 @@ pub mod Makings
 pub mod Owners
 pub mod Placing
 pub mod Ranges
+pub mod Resolutions
+pub mod Sharing
 pub mod Standing
 pub mod Tables
 pub mod Turns

@@ -11,21 +11,18 @@ ghost use Rattle.mo_eval.specs.InScope.{resolved_in_scope};
 ghost use Rattle.mo_eval.specs.Seen.{resolved_at};
 ghost use Rattle.mo_eval.specs.Values.{most_references};
 ghost use Rattle.mo_equations.specs.Replacing.{flat_at as flat_of_expression};
-ghost use Rattle.mo_equations.specs.steps.Arrays.{IsArrayBinding, IsChosenBy, IsElementOf, IsResolvedSo, HasLayers};
-ghost use Rattle.mo_equations.specs.steps.Desks.{IsDesk, Stays, replacing_in};
+ghost use Rattle.mo_equations.specs.steps.Arrays.{IsArrayBinding, IsChosenBy, IsElementOf};
+ghost use Rattle.mo_equations.specs.steps.Desks.{IsDesk, Stays};
+ghost use Rattle.mo_equations.specs.steps.Standing.{replacing_in};
 ghost use Rattle.mo_equations.specs.steps.Flats.{Answers, IsFlat};
 ghost use Rattle.mo_equations.specs.steps.Layers.{HasRule, fit_of, wanted_of};
 
 use crate::desk::{ArrayBinding, Desk};
 use crate::flat::Flat;
-use crate::layers::layered_so;
-use crate::standing::{Asked, flat_at, flat_element};
-use mo_eval::Resolved;
-use mo_flat::ArrayExpr;
+use crate::resolutions::{flat_of_resolution, resolution_of};
+use crate::standing::{Asked, flat_at};
 use mo_scope::{Instance, Member, Scopes};
-use mo_syntax::{FrameId, Kind, List, NoMemory, Stop};
-use mo_typing::{dims_of, kind_of, subscripts};
-use mo_values::layers::answer;
+use mo_syntax::{FrameId, Stop};
 use std::alloc::Global;
 
 /// Whether a frame is known to be the one that an element of a component is entered as.
@@ -87,7 +84,7 @@ fn taken<'i, 't>(
 ) -> Option<ArrayBinding<'t>>
     requires { IsDesk s.now desk.old }
     ensures stays { Stays s.now s.now desk.old desk.new }
-    ensures binding { IfSome result (IsArrayBinding s.now) }
+    ensures binding { IfSome result (IsArrayBinding s.now desk.new.leaves) }
     ensures element { IfSome result (λ binding. IsElementOf s.now binding.member instance.now.frame.0) }
 {
     let Some(kept) = &desk.binding else {
@@ -97,44 +94,6 @@ fn taken<'i, 't>(
         return None;
     }
     desk.binding.take()
-}
-
-/// The kind and the dimensions of an expression, None where it breaks a rule of kinds, dimensions or subscripts.
-fn layers_of(alloc: Global, e: &ArrayExpr) -> Result<Option<(Kind, List<u32>)>, NoMemory>
-    ensures { IfOk result (λ layers. IfSome layers (λ of. HasLayers e.now of.0 of.1)) }
-{
-    let Ok(kind) = kind_of(e) else {
-        return Ok(None);
-    };
-    let dims = match dims_of(alloc, e) {
-        Ok(dims) => dims,
-        Err(Stop::Broken(_)) => return Ok(None),
-        Err(Stop::NoMemory) => return Err(NoMemory),
-    };
-    match subscripts(alloc, e) {
-        Ok(()) => Ok(Some((kind, dims))),
-        Err(Stop::Broken(_)) => Ok(None),
-        Err(Stop::NoMemory) => Err(NoMemory),
-    }
-}
-
-/// The resolved binding of a component, None where it breaks a rule of kinds, dimensions or subscripts.
-fn with_layers<'t>(
-    alloc: Global,
-    member: Member<'t>,
-    resolved: Resolved<'t>,
-) -> Result<Option<ArrayBinding<'t>>, NoMemory>
-    ensures { IfOk result (λ made. IfSome made (λ binding. IsResolvedSo binding member.entry resolved.entry)) }
-{
-    match layers_of(alloc, &resolved.expression)? {
-        Some((kind, dims)) => Ok(Some(ArrayBinding {
-            member,
-            resolved,
-            kind,
-            dims,
-        })),
-        None => Ok(None),
-    }
 }
 
 /// The binding of an array of which an instance is an element, resolved; None where it breaks a rule of kinds, dimensions or subscripts.
@@ -153,12 +112,15 @@ fn resolved_for<'i, 't>(
     requires element { IsElementOf s.old member _instance.now.frame.0 }
     requires desk { IsDesk s.old desk.old }
     ensures stays { Stays s.old s.new desk.old desk.new }
-    ensures binding { IfOk result (λ found. IfSome found (IsArrayBinding s.new)) }
-    ensures is { IfOk result (λ found. IfSome found (λ binding. resolved_in_scope s.old asked.now.left asked.now.at.now asked.now.value.now ≡ Ok (resolved_at s.new binding.resolved))) }
+    ensures binding { IfOk result (λ found. IfSome found (IsArrayBinding s.new desk.new.leaves)) }
+    ensures is { IfOk result (λ found. IfSome found (λ binding. resolved_in_scope s.old asked.now.left asked.now.at.now asked.now.value.now ≡ Ok (resolved_at s.new binding.resolution.resolved))) }
     ensures refused { IfBroken result (λ broken. resolved_in_scope s.old asked.now.left asked.now.at.now asked.now.value.now ≡ Err broken) }
 {
-    let resolved = desk.reader.resolved(s, asked.at, asked.left, asked.value)?;
-    Ok(with_layers(alloc, member, resolved)?)
+    let found = resolution_of(alloc, s, desk, asked)?;
+    match found {
+        Some(resolution) => Ok(Some(ArrayBinding { member, resolution })),
+        None => Ok(None),
+    }
 }
 
 /// The binding of the array that an instance is an element of, resolved; None where the array is not known, or where the binding breaks
@@ -176,8 +138,8 @@ fn array_binding<'i, 't>(
     requires chosen { IsChosenBy s.old instance.now.frame.0 asked.now }
     requires desk { IsDesk s.old desk.old }
     ensures stays { Stays s.old s.new desk.old desk.new }
-    ensures binding { IfOk result (λ found. IfSome found (IsArrayBinding s.new)) }
-    ensures is { IfOk result (λ found. IfSome found (λ binding. resolved_in_scope s.old asked.now.left asked.now.at.now asked.now.value.now ≡ Ok (resolved_at s.new binding.resolved))) }
+    ensures binding { IfOk result (λ found. IfSome found (IsArrayBinding s.new desk.new.leaves)) }
+    ensures is { IfOk result (λ found. IfSome found (λ binding. resolved_in_scope s.old asked.now.left asked.now.at.now asked.now.value.now ≡ Ok (resolved_at s.new binding.resolution.resolved))) }
     ensures refused { IfBroken result (λ broken. resolved_in_scope s.old asked.now.left asked.now.at.now asked.now.value.now ≡ Err broken) }
 {
     if let Some(binding) = taken(s, desk, instance) {
@@ -195,17 +157,17 @@ fn flat_by<'i, 't>(
     s: &mut Scopes<'t>,
     desk: &mut Desk<'i, 't>,
     asked: &Asked,
-    binding: ArrayBinding<'t>,
+    mut binding: ArrayBinding<'t>,
 ) -> Result<Flat, Stop>
     requires rule { HasRule asked.now.layers.fit }
-    requires binding { IsArrayBinding s.old binding }
-    requires is { resolved_in_scope s.old asked.now.left asked.now.at.now asked.now.value.now ≡ Ok (resolved_at s.old binding.resolved) }
+    requires left { asked.now.left ≡ most_references }
+    requires binding { IsArrayBinding s.old desk.old.leaves binding }
+    requires is { resolved_in_scope s.old asked.now.left asked.now.at.now asked.now.value.now ≡ Ok (resolved_at s.old binding.resolution.resolved) }
     requires desk { IsDesk s.old desk.old }
     ensures stays { Stays s.old s.new desk.old desk.new }
     ensures exact { Answers IsFlat result (flat_of_expression (table_in s.old) asked.now.left (replacing_in s.old desk.old.leaves asked.now.left) (wanted_of asked.now.layers.want asked.now.layers.place) (fit_of asked.now.layers.fit asked.now.layers.place) (scope_at s.old asked.now.at.now) asked.now.value.now asked.now.index.now) }
 {
-    answer(layered_so(&asked.layers, &binding))?;
-    let flat = flat_element(alloc, s, desk, asked.left, &binding.resolved, asked.index)?;
+    let flat = flat_of_resolution(alloc, s, desk, asked, &mut binding.resolution)?;
     desk.binding = Some(binding);
     Ok(flat)
 }

@@ -8,7 +8,8 @@ ghost use Rattle.mo_scope.specs.Sights.{scope_at};
 ghost use Rattle.mo_scope.specs.Worlds.{IsFrame};
 ghost use Rattle.mo_equations.specs.Asserts.{assert_of as assert_by, flat_argument as argument_of, is_assert as is_assert_named, plain_values, values_of as values_of_arguments};
 ghost use Rattle.mo_equations.specs.steps.Asserts.{GivesAssert, IsRest, assert_with_level, level_of, made_with, rest_of, values_seen};
-ghost use Rattle.mo_equations.specs.steps.Desks.{IsDesk, Stays, tree_in};
+ghost use Rattle.mo_equations.specs.steps.Desks.{IsDesk, Stays};
+ghost use Rattle.mo_equations.specs.steps.Standing.{tree_in};
 ghost use Rattle.mo_equations.specs.steps.Flats.{Answers, IsFlat};
 ghost use Rattle.mo_equations.specs.steps.Makings.{IsFlatOption, IsMade};
 

@@ -6,7 +6,8 @@ ghost use Rattle.mo_names.specs.Sights.{IsMember, member_of};
 ghost use Rattle.mo_eval.specs.Seen.{element_at};
 ghost use Rattle.mo_equations.specs.Leaves.{number_of};
 ghost use Rattle.mo_equations.specs.Replacing.{constant as constant_by_left};
-ghost use Rattle.mo_equations.specs.steps.Desks.{IsDesk, Stays, tree_in};
+ghost use Rattle.mo_equations.specs.steps.Desks.{IsDesk, Stays};
+ghost use Rattle.mo_equations.specs.steps.Standing.{tree_in};
 ghost use Rattle.mo_equations.specs.steps.Flats.{IsFlat};
 
 use crate::desk::{Desk, KeptConstant};

@@ -3,7 +3,7 @@ use crate::flat::Flat;
 use crate::leaves::Leaves;
 use mo_eval::{Element, Reader, Resolved};
 use mo_scope::Member;
-use mo_syntax::{Kind, List, Place};
+use mo_syntax::{Expr, FrameId, Kind, List, Place};
 
 /// What replaces an element of a constant where so many references were left.
 #[derive(Drop)]
@@ -13,24 +13,41 @@ pub(crate) struct KeptConstant<'t> {
     pub flat: Flat,
 }
 
-/// The binding of a component, resolved for the flat model with all references left, which is the same for all its elements. It breaks no
-/// rule of kinds, dimensions and subscripts.
+/// What is resolved of an expression for the flat model, with its kind and its dimensions, and what replaces its variables where elements
+/// asked of them. It breaks no rule of kinds, dimensions and subscripts.
 #[derive(Drop)]
-pub(crate) struct ArrayBinding<'t> {
-    pub member: Member<'t>,
+pub(crate) struct Resolution<'t> {
     pub resolved: Resolved<'t>,
     pub kind: Kind,
     pub dims: List<u32>,
+    pub replaced: Vec<Option<Flat>>,
 }
 
-/// The reader of values, what replaces constants, the last binding of an array, the tables of the leaves, and how many turns of loops
-/// were taken.
+/// The binding of a component, resolved with all references left, which is the same for all its elements.
+#[derive(Drop)]
+pub(crate) struct ArrayBinding<'t> {
+    pub member: Member<'t>,
+    pub resolution: Resolution<'t>,
+}
+
+/// An expression of a frame, outside of loops, resolved with all references left.
+#[derive(Drop)]
+pub(crate) struct SharedExpression<'t> {
+    pub frame: FrameId,
+    pub value: &'t Expr,
+    pub resolution: Resolution<'t>,
+}
+
+/// The reader of values, what replaces constants, the last binding of an array, the last expressions that elements share, the tables of
+/// the leaves, and how many turns of loops were taken.
 #[derive(Drop)]
 pub(crate) struct Desk<'i, 't> {
     pub reader: Reader<'t>,
     pub constants: List<KeptConstant<'t>>,
     /// None while an element is made of it.
     pub binding: Option<ArrayBinding<'t>>,
+    /// Without the one that an element is made of.
+    pub shared: Vec<SharedExpression<'t>>,
     pub leaves: Leaves<'i, 't>,
     /// Where the name of the asked class stands.
     pub asked: Place,

@@ -18,7 +18,8 @@ ghost use Rattle.mo_eval.specs.References.{last_of as last_among};
 ghost use Rattle.mo_equations.specs.Connectors.{leaves_below as leaves_below_path};
 ghost use Rattle.mo_equations.specs.Ends.{connect_of as connects_of, declared_behind as behind_declared, declared_by_name as declared_by, end_of as end_by, is_connector_member as is_connector_by, leaves_of as leaves_of_element, side_by, side_of as side_of_name};
 ghost use Rattle.mo_equations.specs.Leaves.{behind as behind_path};
-ghost use Rattle.mo_equations.specs.steps.Desks.{IsDesk, Stays, tree_in};
+ghost use Rattle.mo_equations.specs.steps.Desks.{IsDesk, Stays};
+ghost use Rattle.mo_equations.specs.steps.Standing.{tree_in};
 ghost use Rattle.mo_equations.specs.steps.Ends.{IsBrokenRule, component_in_found, component_or_broken, elements_in, end_beside as end_beside_elements, end_selected, first_component};
 ghost use Rattle.mo_equations.specs.steps.LeafTables.{AreLeaves, leaf_at_number};
 

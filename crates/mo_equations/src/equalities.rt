@@ -6,25 +6,22 @@ ghost use Rattle.mo_scope.specs.Sights.{scope_at};
 ghost use Rattle.mo_scope.specs.Worlds.{IsFrame};
 ghost use Rattle.mo_typing.specs.Indices.{indices};
 ghost use Rattle.mo_typing.specs.Outcome.{each};
-ghost use Rattle.mo_arrays.specs.Elements.{element_of};
 ghost use Rattle.mo_arrays.specs.Equations.{equation as equation_of};
 ghost use Rattle.mo_eval.specs.Seen.{AreThere, virtuals_at};
 ghost use Rattle.mo_eval.specs.Values.{most_references};
 ghost use Rattle.mo_equations.specs.Equalities.{equalities as equalities_of_expressions, replaced_sides};
-ghost use Rattle.mo_equations.specs.Replacing.{of_variable, with_variables};
-ghost use Rattle.mo_equations.specs.steps.Desks.{IsDesk, Stays, replacing_in, tree_in};
+ghost use Rattle.mo_equations.specs.Replacing.{of_variable};
+ghost use Rattle.mo_equations.specs.steps.Desks.{IsDesk, Stays};
 ghost use Rattle.mo_equations.specs.steps.Equalities.{GivesEquations, PutsEquations};
-ghost use Rattle.mo_equations.specs.steps.Flats.{Answers, IsFlat};
-ghost use Rattle.mo_equations.specs.steps.Standing.{AreReplaced};
+ghost use Rattle.mo_equations.specs.steps.Standing.{AreReplaced, replacing_in, tree_in};
 
-use crate::building::{put_together, unreplaced};
+use crate::building::unreplaced;
 use crate::desk::Desk;
 use crate::flat::Flat;
 use crate::made::Made;
-use crate::standing::ask;
-use mo_arrays::{checked_sides, element_at};
-use mo_eval::{MOST_REFERENCES, Sides, Virtual};
-use mo_flat::ArrayExpr;
+use crate::resolutions::flat_of_array;
+use mo_arrays::checked_sides;
+use mo_eval::Sides;
 use mo_scope::{ScopeAt, Scopes};
 use mo_syntax::{Expr, Place, Stop};
 use mo_typing::indexing::has_none;
@@ -36,36 +33,6 @@ use std::alloc::Global;
 struct Row {
     replaced: Vec<Option<Flat>>,
     made: Made,
-}
-
-/// An element of a side with its variables replaced.
-fn flat_side<'i, 't>(
-    alloc: Global,
-    s: &mut Scopes<'t>,
-    desk: &mut Desk<'i, 't>,
-    side: &ArrayExpr,
-    virtuals: &[Virtual<'t>],
-    index: &[u32],
-    replaced: &mut Vec<Option<Flat>>,
-) -> Result<Flat, Stop>
-    requires there { AreThere s.old virtuals.now }
-    requires desk { IsDesk s.old desk.old }
-    requires replaced { AreReplaced (of_variable (replacing_in s.old desk.old.leaves most_references) (virtuals_at s.old virtuals.now)) replaced.old.items }
-    ensures stays { Stays s.old s.new desk.old desk.new }
-    ensures replaced { OnOk result (AreReplaced (of_variable (replacing_in s.old desk.old.leaves most_references) (virtuals_at s.old virtuals.now)) replaced.new.items) }
-    ensures exact { Answers IsFlat result (with_variables (of_variable (replacing_in s.old desk.old.leaves most_references) (virtuals_at s.old virtuals.now)) (element_of side.now index.now)) }
-{
-    let element = element_at(alloc, side, index)?;
-    ask(
-        alloc,
-        s,
-        desk,
-        MOST_REFERENCES,
-        &element,
-        virtuals,
-        replaced,
-    )?;
-    Ok(put_together(alloc, &element, replaced.as_slice())?)
 }
 
 /// Puts the equation of the elements at an index at the end.
@@ -86,7 +53,7 @@ fn put_equation<'i, 't>(
     ensures exact { PutsEquations result row.old.made row.new.made (each (replaced_sides (tree_in s.old desk.old.leaves) (virtuals_at s.old sides.now.virtuals)) (equation_of sides.now.left sides.now.right place index.now ∷ [])) }
 {
     let virtuals = sides.virtuals.as_slice();
-    let left = flat_side(
+    let left = flat_of_array(
         alloc,
         s,
         desk,
@@ -95,7 +62,7 @@ fn put_equation<'i, 't>(
         index,
         &mut row.replaced,
     )?;
-    let right = flat_side(
+    let right = flat_of_array(
         alloc,
         s,
         desk,

@@ -9,7 +9,8 @@ ghost use Rattle.mo_syntax.specs.declared.rules.TheConstants.{FLAT_MODEL_TOO_LAR
 ghost use Rattle.mo_typing.specs.Outcome.{Gives};
 ghost use Rattle.mo_equations.specs.Equations.{condition_known as known_of_condition, flat_condition as flat_of_condition, made_call, made_connect, made_kind, made_loop};
 ghost use Rattle.mo_equations.specs.Gathering.{made_connects, most_turns};
-ghost use Rattle.mo_equations.specs.steps.Desks.{Goes, IsDesk, Stays, tree_in};
+ghost use Rattle.mo_equations.specs.steps.Desks.{Goes, IsDesk, Stays};
+ghost use Rattle.mo_equations.specs.steps.Standing.{tree_in};
 ghost use Rattle.mo_equations.specs.steps.Flats.{Answers, IsFlat};
 ghost use Rattle.mo_equations.specs.steps.Makings.{IsMade};
 ghost use Rattle.mo_equations.specs.steps.Ranges.{numbers_seen};

@@ -4,10 +4,10 @@ ghost use Rattle.mo_typing.specs.Outcome.{Gives};
 ghost use Rattle.mo_values.specs.Asked.{layered as layered_by, only_whole as only_whole_by};
 ghost use Rattle.mo_equations.specs.Equations.{vector_size as size_of_vector};
 ghost use Rattle.mo_equations.specs.Variables.{are_among as stand_among, fits_along as fit_along};
-ghost use Rattle.mo_equations.specs.steps.Arrays.{HasLayers};
+ghost use Rattle.mo_equations.specs.steps.Resolutions.{HasLayers};
 ghost use Rattle.mo_equations.specs.steps.Layers.{HasRule, fit_of, wanted_of};
 
-use crate::desk::ArrayBinding;
+use crate::desk::Resolution;
 use mo_eval::fitted;
 use mo_flat::ArrayExpr;
 use mo_syntax::{Broken, Kind, Place, Stop, broken, rules};
@@ -135,14 +135,14 @@ pub(crate) fn layered(alloc: Global, layers: &Layers, e: &ArrayExpr) -> Result<(
     subscripts(alloc, e)
 }
 
-/// The same of a binding of an array that is resolved.
-pub(crate) fn layered_so<'t>(layers: &Layers, binding: &ArrayBinding<'t>) -> Result<(), Broken>
+/// The same of what is resolved already.
+pub(crate) fn layered_so<'t>(layers: &Layers, resolution: &Resolution<'t>) -> Result<(), Broken>
     requires rule { HasRule layers.now.fit }
-    requires layers { HasLayers binding.now.resolved.expression binding.now.kind binding.now.dims }
-    ensures { result ≡ layered_by (wanted_of layers.now.want layers.now.place) (fit_of layers.now.fit layers.now.place) binding.now.resolved.expression }
+    requires layers { HasLayers resolution.now.resolved.expression resolution.now.kind resolution.now.dims }
+    ensures { result ≡ layered_by (wanted_of layers.now.want layers.now.place) (fit_of layers.now.fit layers.now.place) resolution.now.resolved.expression }
 {
-    wanted(layers.want, layers.place, binding.kind)?;
-    fits(layers.fit, layers.place, binding.dims.as_slice())
+    wanted(layers.want, layers.place, resolution.kind)?;
+    fits(layers.fit, layers.place, resolution.dims.as_slice())
 }
 
 fn only_whole(place: Place, kind: Kind) -> Result<(), Broken>

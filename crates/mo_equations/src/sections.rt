@@ -11,7 +11,8 @@ ghost use Rattle.mo_scope.specs.Worlds.{Grows, IsFrame, frame_at, frames_of, tab
 ghost use Rattle.mo_equations.specs.Expansion.{Parts as PartsOf, made_placed, sections_at};
 ghost use Rattle.mo_equations.specs.Sections.{frames_of as frames_with_sections};
 ghost use Rattle.mo_equations.specs.Gathering.{Made as Gathered, turn_each};
-ghost use Rattle.mo_equations.specs.steps.Desks.{Goes, IsDesk, tree_in};
+ghost use Rattle.mo_equations.specs.steps.Desks.{Goes, IsDesk};
+ghost use Rattle.mo_equations.specs.steps.Standing.{tree_in};
 ghost use Rattle.mo_equations.specs.steps.Makings.{IsMade};
 ghost use Rattle.mo_equations.specs.steps.Placing.{AreFrames, AreParts, GivesParts, PutsParts, frames_of_instances, frames_seen, item_placed, last_frames, part_of_section, placed_in_class, section_placed, sections_with};
 

@@ -15,10 +15,10 @@ ghost use Rattle.mo_syntax.specs.Outcome.{IfBroken};
 ghost use Rattle.mo_typing.specs.Outcome.{Gives};
 ghost use Rattle.mo_values.specs.Scalars.{has_values as kind_has_values};
 ghost use Rattle.mo_equations.specs.Leaves.{number_of};
-ghost use Rattle.mo_equations.specs.steps.Desks.{IsDesk, Stays, replacing_in, tree_in};
+ghost use Rattle.mo_equations.specs.steps.Desks.{IsDesk, Stays};
 ghost use Rattle.mo_equations.specs.steps.Flats.{Answers, IsFlat};
 ghost use Rattle.mo_equations.specs.steps.Layers.{HasRule, fit_of, wanted_of};
-ghost use Rattle.mo_equations.specs.steps.Standing.{AreAsked, AreReplaced, IsVirtualThere, constant_expression as expression_of_constant, constant_known as known_of_constant};
+ghost use Rattle.mo_equations.specs.steps.Standing.{AreAsked, AreReplaced, IsVirtualThere, constant_expression as expression_of_constant, constant_known as known_of_constant, replacing_in, tree_in};
 
 use crate::building::{is_asked, put_asked, put_replaced, unreplaced};
 use crate::constants::{keep_constant, kept_constant};
@@ -148,7 +148,7 @@ pub(crate) fn flat_at<'i, 't>(
 
 /// The element of a resolved expression at an index.
 #[cycle(standing)]
-pub(crate) fn flat_element<'i, 't>(
+fn flat_element<'i, 't>(
     alloc: Global,
     s: &mut Scopes<'t>,
     desk: &mut Desk<'i, 't>,

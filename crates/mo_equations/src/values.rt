@@ -10,7 +10,8 @@ ghost use Rattle.mo_eval.specs.References.{numbers_of as numbers_read};
 ghost use Rattle.mo_eval.specs.Seen.{AreThere, resolved_at};
 ghost use Rattle.mo_eval.specs.Values.{known_of, most_references};
 ghost use Rattle.mo_equations.specs.Equations.{numbers_of_index as numbers_at_index, range_numbers as range_in};
-ghost use Rattle.mo_equations.specs.steps.Desks.{IsDesk, Stays, tree_in};
+ghost use Rattle.mo_equations.specs.steps.Desks.{IsDesk, Stays};
+ghost use Rattle.mo_equations.specs.steps.Standing.{tree_in};
 ghost use Rattle.mo_equations.specs.steps.Layers.{HasRule, fit_of, wanted_of};
 ghost use Rattle.mo_equations.specs.steps.Ranges.{GivesNumbers, known_so, numbers_seen};
 

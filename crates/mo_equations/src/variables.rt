@@ -12,7 +12,8 @@ ghost use Rattle.mo_equations.specs.Gathering.{Made as Gathered, beside, made_eq
 ghost use Rattle.mo_equations.specs.Leaves.{Tree as TreeOf, Variable as VariableOf, sizes_along as sizes_along_path};
 ghost use Rattle.mo_equations.specs.Variables.{Declared as DeclaredOne, all_declared as all_of_tree, declared as declared_one, declared_with, flat_attribute, flat_binding as binding_of_leaf, flat_of_leaf as expression_of_leaf, flat_option as option_of_leaf, fits_along, fits_leaf, indices_if, indices_of as indices_of_path, variable_with};
 ghost use Rattle.mo_equations.specs.steps.Declaring.{AreAttributes, AreDeclared, HasOneMore, IsAskedSo, IsBound, IsOneOf, attributes_in, binding_in, built_held, dims_found, equation_part, equation_with, known_of_binding, known_of_leaf_at, nodes_held, place_of_option, printed_part, unknowns_with, variable_in};
-ghost use Rattle.mo_equations.specs.steps.Desks.{IsDesk, Stays, tree_in};
+ghost use Rattle.mo_equations.specs.steps.Desks.{IsDesk, Stays};
+ghost use Rattle.mo_equations.specs.steps.Standing.{tree_in};
 ghost use Rattle.mo_equations.specs.steps.Flats.{Answers, IsFlat};
 ghost use Rattle.mo_equations.specs.steps.LeafTables.{AreLeaves};
 ghost use Rattle.mo_equations.specs.steps.Makings.{IsFlatOption, IsMade};
@@ -25,6 +26,7 @@ use crate::layers::{Fit, Layers, Want};
 use crate::leaves::Leaves;
 use crate::made::Made;
 use crate::paths::{Step, text_of_path};
+use crate::shared::{flat_of_shared, may_share};
 use crate::standing::{Asked, flat_at, flat_value, has_values};
 use crate::values::known_at;
 use mo_eval::{MOST_REFERENCES, Scalar};
@@ -189,7 +191,7 @@ fn asked_of<'a, 't>(chosen: &'a Chosen<'t>, kind: Kind, ranges: &'a Ranges) -> A
     }
 }
 
-/// What is chosen for a leaf, as an expression of a kind.
+/// What is chosen for a leaf, as an expression of a kind; what leaves share is resolved once.
 fn flat_of_leaf<'i, 't>(
     alloc: Global,
     s: &mut Scopes<'t>,
@@ -206,7 +208,11 @@ fn flat_of_leaf<'i, 't>(
 {
     let ranges = ranges_of(alloc, s, &desk.leaves, variable.instance, chosen)?;
     let asked = asked_of(chosen, kind, &ranges);
-    flat_at(alloc, s, desk, &asked)
+    if may_share(chosen) {
+        flat_of_shared(alloc, s, desk, &asked, chosen.value)
+    } else {
+        flat_at(alloc, s, desk, &asked)
+    }
 }
 
 /// The binding of a leaf, as an expression of its kind: where indices are pending it is resolved once for all elements of an array.
@@ -225,7 +231,7 @@ fn expression_of_binding<'i, 't>(
     ensures exact { Answers IsFlat result (expression_of_leaf (tree_in s.old desk.old.leaves) (variable_in (frames_of s.old) variable.now) variable.now.leaf.now.kind (chosen_in (frames_of s.old) binding.now)) }
 {
     let kind = variable.leaf.kind;
-    if binding.pending.is_empty() {
+    if binding.pending.is_empty() || may_share(binding) {
         return flat_of_leaf(alloc, s, desk, variable, kind, binding);
     }
     let ranges = ranges_of(alloc, s, &desk.leaves, variable.instance, binding)?;

@@ -17,7 +17,8 @@ ghost use Rattle.mo_equations.specs.steps.Flats.{are_over};
 ghost use Rattle.mo_equations.specs.Variables.{Declared as DeclaredOne, all_declared as all_of_tree};
 ghost use Rattle.mo_equations.specs.Sound.{IsSoundExpansion};
 ghost use Rattle.mo_equations.specs.steps.Declaring.{AreDeclared, IsExpandedWith, expanded_from};
-ghost use Rattle.mo_equations.specs.steps.Desks.{Goes, IsDesk, tree_in};
+ghost use Rattle.mo_equations.specs.steps.Desks.{Goes, IsDesk};
+ghost use Rattle.mo_equations.specs.steps.Standing.{tree_in};
 ghost use Rattle.mo_equations.specs.steps.LeafTables.{AreLeaves, flow_at};
 ghost use Rattle.mo_equations.specs.steps.Placing.{AreParts, GivesParts, parts_of_tree};
 
@@ -250,6 +251,7 @@ fn first_desk<'i, 't>(
         reader,
         constants,
         binding: None,
+        shared: Vec::new(alloc),
         leaves,
         asked,
         turns: 0,

@@ -1,7 +1,7 @@
 -- What is held while a tree of instances is expanded, and what stays.
 use Rattle.std.specs.Prelude.{◌≡◌, ℕ, Some, Ok, IfSome, slice_get}
 use Rattle.mo_flat.specs.declared.expr.FlatExpr.{FlatExpr}
-use Rattle.mo_scope.specs.Trees.{instances_in}
+use Rattle.mo_scope.specs.Places.{Every}
 use Rattle.mo_scope.specs.Worlds.{World, Grows, frames_of, table_in}
 use Rattle.mo_names.specs.Sights.{IsMember}
 use Rattle.mo_eval.specs.Keeping.{IsKept}
@@ -9,19 +9,13 @@ use Rattle.mo_eval.specs.Seen.{element_seen}
 use Rattle.mo_equations.specs.declared.desk.Desk.{Desk}
 use Rattle.mo_equations.specs.declared.desk.KeptConstant.{KeptConstant}
 use Rattle.mo_equations.specs.declared.leaves.Leaves.{Leaves}
-use Rattle.mo_equations.specs.Leaves.{Tree, number_of, place_of_root}
-use Rattle.mo_equations.specs.Replacing.{Replacing, constant, flat_variable}
+use Rattle.mo_equations.specs.Leaves.{number_of, place_of_root}
+use Rattle.mo_equations.specs.Replacing.{constant}
 use Rattle.mo_equations.specs.steps.Arrays.{IsArrayBinding}
 use Rattle.mo_equations.specs.steps.Flats.{IsFlat}
 use Rattle.mo_equations.specs.steps.LeafTables.{AreLeaves}
-
--- the tree of instances that is expanded
-abbrev pub tree_in : World → Leaves → Tree
-tree_in world leaves = record { classes = table_in world; instances = instances_in world leaves.instances.now }
-
--- what stands for elements where so many references are left
-abbrev pub replacing_in : World → Leaves → ℕ → Replacing
-replacing_in world leaves left = flat_variable (table_in world) (number_of (tree_in world leaves)) left
+use Rattle.mo_equations.specs.steps.Sharing.{IsShared}
+use Rattle.mo_equations.specs.steps.Standing.{tree_in}
 
 -- what a constant was replaced by
 pub record IsConstantKept (world : World) (leaves : Leaves) (kept : KeptConstant) : Type 0 where
@@ -34,7 +28,8 @@ pub record IsDesk (world : World) (desk : Desk) : Type 0 where
   pub reader : IsKept world desk.reader
   pub leaves : AreLeaves world desk.leaves
   pub constants : (k : ℕ) (kept : KeptConstant) → slice_get desk.constants k ≡ Some kept → IsConstantKept world desk.leaves kept
-  pub binding : IfSome desk.binding (IsArrayBinding world)
+  pub binding : IfSome desk.binding (IsArrayBinding world desk.leaves)
+  pub shared : Every (IsShared world desk.leaves) desk.shared.items
   pub asked : desk.asked ≡ place_of_root (tree_in world desk.leaves)
 
 -- Frames are only added, the tables stay, and the desk is still one.

@@ -1,10 +1,11 @@
--- What is asked of the variables of an expression, and what replaces a constant.
+-- What stands for elements, what is asked of the variables of an expression, and what replaces a constant.
 use Rattle.std.specs.Prelude.{◌≡◌, ℕ, ◌-◌, List, Option, Some, None, Ok, if◌then◌else◌, replicate, slice_get}
 use Rattle.mo_flat.specs.declared.expr.FlatExpr.{FlatExpr}
 use Rattle.mo_scope.specs.Rows.{Table}
 use Rattle.mo_scope.specs.Instances.{Chosen}
 use Rattle.mo_scope.specs.Places.{Every}
-use Rattle.mo_scope.specs.Worlds.{World}
+use Rattle.mo_scope.specs.Trees.{instances_in}
+use Rattle.mo_scope.specs.Worlds.{World, table_in}
 use Rattle.mo_names.specs.Sights.{IsMember}
 use Rattle.mo_eval.specs.declared.virtuals.Virtual.{Virtual as VirtualAt}
 use Rattle.mo_eval.specs.declared.virtuals.Virtual.TheVariants.{Component, Division as division_at}
@@ -16,9 +17,21 @@ use Rattle.mo_eval.specs.Components.{binding_of, place_of}
 use Rattle.mo_values.specs.Asked.{fitted}
 use Rattle.mo_eval.specs.Values.{value_of_element}
 use Rattle.mo_equations.specs.declared.flat.Flat.{Flat}
-use Rattle.mo_equations.specs.Replacing.{Replacing, flat_chosen}
+use Rattle.mo_equations.specs.declared.leaves.Leaves.{Leaves}
+use Rattle.mo_equations.specs.Leaves.{Tree, number_of}
+use Rattle.mo_equations.specs.Replacing.{Replacing, flat_chosen, flat_variable}
 use Rattle.mo_equations.specs.steps.Counting.{variables_in}
 use Rattle.mo_equations.specs.steps.Flats.{IsFlat}
+
+-- ---- elements
+
+-- the tree of instances that is expanded
+abbrev pub tree_in : World → Leaves → Tree
+tree_in world leaves = record { classes = table_in world; instances = instances_in world leaves.instances.now }
+
+-- what stands for elements where so many references are left
+abbrev pub replacing_in : World → Leaves → ℕ → Replacing
+replacing_in world leaves left = flat_variable (table_in world) (number_of (tree_in world leaves)) left
 
 -- ---- constants
 

@@ -4,10 +4,10 @@ use Rattle.mo_scope.specs.Worlds.{frames_of, scope_in, table_in}
 use Rattle.mo_names.proofs.Later.{is_frame_later}
 use Rattle.mo_eval.specs.Seen.{resolved_seen}
 use Rattle.mo_equations.specs.declared.desk.ArrayBinding.{ArrayBinding}
-use Rattle.mo_equations.specs.steps.Desks.{replacing_in}
+use Rattle.mo_equations.specs.steps.Standing.{replacing_in}
 use Rattle.mo_equations.specs.steps.Flats.{IsFlat}
 use Rattle.mo_equations.specs.steps.Layers.{fit_of, wanted_of}
-use Rattle.mo_equations.proofs.ArrayBindings.{refused_so, resolved_still}
+use Rattle.mo_equations.proofs.ResolvedOnce.{refused_so, resolved_still}
 use Rattle.mo_equations.proofs.Replacings.{answers_as, asked_now, flat_at_unresolved}
 use Rattle.mo_equations.proofs.Staying.{stays_on}
 use Rattle.mo_equations.proofs.arrays.flat_of_element.Goals as goal
@@ -23,6 +23,7 @@ returns-in_err-found-clause-exact c =
 pub flat_by-requires : goal.flat_by-requires
 flat_by-requires c = record {
   rule = c.requires.rule;
+  left = c.requires.left;
   binding = rw c.in-Some.is at c.in_ok-found.ensures.binding;
   is = resolved_still c.args.s.now c.array_binding.new.s c.args.asked.now.left c.args.asked.now.at.now c.args.asked.now.value.now c.in_ok-found.ensures.stays.goes.grows c.requires.frame ∙ (rw c.in-Some.is at c.in_ok-found.ensures.is);
   desk = c.in_ok-found.ensures.stays.goes.desk;

@@ -9,7 +9,7 @@ use Rattle.mo_scope.specs.Worlds.{frames_of, scope_in}
 use Rattle.mo_equations.specs.Asserts.{plain_values}
 use Rattle.mo_equations.specs.Gathering.{made_assert}
 use Rattle.mo_equations.specs.steps.Asserts.{GivesAssert, values_seen}
-use Rattle.mo_equations.specs.steps.Desks.{tree_in}
+use Rattle.mo_equations.specs.steps.Standing.{tree_in}
 use Rattle.mo_equations.proofs.ByCount.{other_values, three_values, two_values}
 use Rattle.mo_equations.proofs.asserts.assert_of.Goals as goal
 

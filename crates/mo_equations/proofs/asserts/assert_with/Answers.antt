@@ -2,7 +2,7 @@
 use Rattle.std.proofs.Common.{◌≡◌, Err, rules, option_copied}
 use Rattle.mo_scope.specs.Worlds.{frames_of, scope_in}
 use Rattle.mo_equations.specs.steps.Asserts.{IsRest, rest_of}
-use Rattle.mo_equations.specs.steps.Desks.{tree_in}
+use Rattle.mo_equations.specs.steps.Standing.{tree_in}
 use Rattle.mo_equations.specs.steps.Makings.{IsMade}
 use Rattle.mo_equations.proofs.Arguments.{assert_by, rest_later, stop_condition}
 use Rattle.mo_equations.proofs.Replacings.{answers_as}

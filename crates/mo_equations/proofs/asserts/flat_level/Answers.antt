@@ -1,6 +1,6 @@
 -- The level, if there is one.
 use Rattle.mo_scope.specs.Worlds.{frames_of, scope_in}
-use Rattle.mo_equations.specs.steps.Desks.{tree_in}
+use Rattle.mo_equations.specs.steps.Standing.{tree_in}
 use Rattle.mo_equations.proofs.Arguments.{level_some}
 use Rattle.mo_equations.proofs.Staying.{stays_still}
 use Rattle.mo_equations.proofs.asserts.flat_level.Goals as goal

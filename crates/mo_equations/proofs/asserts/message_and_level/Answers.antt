@@ -6,7 +6,7 @@ use Rattle.mo_flat.specs.declared.expr.FlatExpr.{FlatExpr}
 use Rattle.mo_scope.specs.Worlds.{frames_of, scope_in}
 use Rattle.mo_equations.specs.Asserts.{flat_argument}
 use Rattle.mo_equations.specs.steps.Asserts.{IsRest, level_of}
-use Rattle.mo_equations.specs.steps.Desks.{tree_in}
+use Rattle.mo_equations.specs.steps.Standing.{tree_in}
 use Rattle.mo_equations.specs.steps.Flats.{IsFlat}
 use Rattle.mo_equations.specs.steps.Makings.{IsFlatOption}
 use Rattle.mo_equations.proofs.Arguments.{level_later, rest_both, rest_halts}

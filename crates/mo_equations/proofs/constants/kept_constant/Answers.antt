@@ -7,7 +7,7 @@ use Rattle.mo_eval.specs.Seen.{element_seen}
 use Rattle.mo_equations.specs.declared.flat.Flat.{Flat}
 use Rattle.mo_equations.specs.Leaves.{number_of}
 use Rattle.mo_equations.specs.Replacing.{constant}
-use Rattle.mo_equations.specs.steps.Desks.{tree_in}
+use Rattle.mo_equations.specs.steps.Standing.{tree_in}
 use Rattle.mo_equations.specs.steps.Flats.{IsFlat}
 use Rattle.mo_equations.proofs.Anywhere.{constant_same}
 use Rattle.mo_equations.proofs.Lists.{got}

@@ -6,7 +6,7 @@ use Rattle.mo_scope.specs.Worlds.{frames_of, scope_in}
 use Rattle.mo_names.proofs.Later.{is_frame_later}
 use Rattle.mo_typing.specs.Outcome.{Gives}
 use Rattle.mo_equations.specs.Ends.{end_of}
-use Rattle.mo_equations.specs.steps.Desks.{tree_in}
+use Rattle.mo_equations.specs.steps.Standing.{tree_in}
 use Rattle.mo_equations.proofs.Ended.{both_made, left_removed, left_stops, right_removed, right_stops, told_later}
 use Rattle.mo_equations.proofs.Staying.{stays_on}
 use Rattle.mo_equations.proofs.ends.connect_of.Goals as goal

@@ -11,8 +11,8 @@ use Rattle.mo_names.proofs.Later.{grows_refl, grows_trans, table_later}
 use Rattle.mo_equations.specs.Ends.{declared_behind, declared_by_name}
 use Rattle.mo_equations.specs.steps.Ends.{first_component}
 use Rattle.mo_equations.proofs.Arguments.{scope_later}
-use Rattle.mo_equations.proofs.ByName.{Left, are_members_later, end_left, every_last, first_left, first_stops, mapped_last, members_later, more_left, more_stops, named}
-use Rattle.mo_equations.proofs.Lists.{empty_list, opened}
+use Rattle.mo_equations.proofs.ByName.{Left, are_members_later, end_left, first_left, first_stops, mapped_last, members_later, more_left, more_stops, named}
+use Rattle.mo_equations.proofs.Lists.{empty_list, every_last, opened}
 use Rattle.mo_equations.proofs.ends.declared_by_name.Goals as goal
 
 pub returns-in_default-clause-value : goal.returns-in_default-clause-value

@@ -6,7 +6,7 @@ use Rattle.mo_scope.specs.Worlds.{frames_of}
 use Rattle.mo_names.specs.Sights.{IsMember}
 use Rattle.mo_typing.specs.Indices.{Index}
 use Rattle.mo_equations.specs.Ends.{leaves_of}
-use Rattle.mo_equations.specs.steps.Desks.{tree_in}
+use Rattle.mo_equations.specs.steps.Standing.{tree_in}
 use Rattle.mo_equations.specs.steps.Ends.{elements_in}
 use Rattle.mo_equations.proofs.Ended.{beside_made, beside_stops}
 use Rattle.mo_equations.proofs.ends.end_beside.Goals as goal

@@ -6,7 +6,7 @@ use Rattle.mo_scope.specs.Worlds.{frames_of, scope_in}
 use Rattle.mo_typing.specs.Outcome.{Gives}
 use Rattle.mo_eval.specs.Ends.{ended_seen, first_identifier}
 use Rattle.mo_equations.specs.Ends.{no_connector}
-use Rattle.mo_equations.specs.steps.Desks.{tree_in}
+use Rattle.mo_equations.specs.steps.Standing.{tree_in}
 use Rattle.mo_equations.specs.steps.Ends.{elements_in}
 use Rattle.mo_equations.proofs.Ended.{are_elements_later, end_made, end_other, end_refused, end_removed, end_stops, same_end}
 use Rattle.mo_equations.proofs.Staying.{desk_grown, desk_later, reads, stays_grown, stays_on}

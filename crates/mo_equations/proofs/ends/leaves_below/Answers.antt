@@ -3,7 +3,7 @@ use Rattle.std.proofs.Common.{◌≡◌, ℕ, [], List, flat_map, ap, sym, ◌�
 use Rattle.std.specs.HashMap.{get_by_text}
 use Rattle.mo_scope.specs.Worlds.{frames_of, table_in}
 use Rattle.mo_equations.specs.Leaves.{path_text}
-use Rattle.mo_equations.specs.steps.Desks.{tree_in}
+use Rattle.mo_equations.specs.steps.Standing.{tree_in}
 use Rattle.mo_equations.specs.steps.LeafTables.{leaf_at_number, leaves_in, numbers_at, numbers_or_none}
 use Rattle.mo_equations.proofs.Located.{leaves_located}
 use Rattle.mo_equations.proofs.Making.{if_ok}

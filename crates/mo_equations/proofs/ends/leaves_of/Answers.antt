@@ -6,7 +6,7 @@ use Rattle.mo_scope.specs.Worlds.{frame_at, frames_of}
 use Rattle.mo_scope.specs.Sights.{member_seen}
 use Rattle.mo_names.specs.Sights.{member_of}
 use Rattle.mo_equations.specs.Connectors.{leaves_below}
-use Rattle.mo_equations.specs.steps.Desks.{tree_in}
+use Rattle.mo_equations.specs.steps.Standing.{tree_in}
 use Rattle.mo_equations.proofs.Ended.{leaves_at_path, leaves_nowhere}
 use Rattle.mo_equations.proofs.Making.{if_ok}
 use Rattle.mo_equations.proofs.ends.leaves_of.Goals as goal

@@ -2,7 +2,7 @@
 use Rattle.std.proofs.Common.{◌≡◌, map, take}
 use Rattle.mo_scope.specs.Worlds.{frames_of}
 use Rattle.mo_equations.specs.Ends.{leaves_of}
-use Rattle.mo_equations.specs.steps.Desks.{tree_in}
+use Rattle.mo_equations.specs.steps.Standing.{tree_in}
 use Rattle.mo_equations.specs.steps.Ends.{elements_in}
 use Rattle.mo_equations.proofs.ends.leaves_of_all.Given as goal
 

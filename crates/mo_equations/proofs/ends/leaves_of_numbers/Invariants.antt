@@ -1,6 +1,6 @@
 -- The leaves of the numbers so far.
 use Rattle.std.proofs.Common.{◌≡◌, flat_map, take}
-use Rattle.mo_equations.specs.steps.Desks.{tree_in}
+use Rattle.mo_equations.specs.steps.Standing.{tree_in}
 use Rattle.mo_equations.specs.steps.LeafTables.{leaf_at_number}
 use Rattle.mo_equations.proofs.ends.leaves_of_numbers.Given as goal
 

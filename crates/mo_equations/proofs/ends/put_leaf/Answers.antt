@@ -9,7 +9,7 @@ use Rattle.mo_scope.specs.Trees.{instances_in}
 use Rattle.mo_scope.specs.Worlds.{frames_of, table_in}
 use Rattle.mo_equations.specs.Connectors.{is_connector, is_declared_flow}
 use Rattle.mo_equations.specs.Leaves.{behind}
-use Rattle.mo_equations.specs.steps.Desks.{tree_in}
+use Rattle.mo_equations.specs.steps.Standing.{tree_in}
 use Rattle.mo_equations.specs.steps.LeafTables.{is_flow_by, leaves_in, paths_that}
 use Rattle.mo_equations.proofs.Located.{is_behind, not_behind, not_joined, positive_by, variable_of}
 use Rattle.mo_equations.proofs.Making.{some_is}

@@ -12,8 +12,7 @@ use Rattle.mo_eval.specs.Seen.{virtuals_seen}
 use Rattle.mo_eval.specs.Values.{most_references}
 use Rattle.mo_eval.proofs.Grown.{there_still}
 use Rattle.mo_equations.specs.Equalities.{replaced_sides}
-use Rattle.mo_equations.specs.steps.Desks.{tree_in}
-use Rattle.mo_equations.specs.steps.Standing.{AreReplaced}
+use Rattle.mo_equations.specs.steps.Standing.{AreReplaced, tree_in}
 use Rattle.mo_equations.proofs.Lists.{empty_list, opened_or}
 use Rattle.mo_equations.proofs.Sided.{puts_as, puts_nothing, row_empty, row_next, row_stops, rows_below, rows_end, same_sides, same_variables}
 use Rattle.mo_equations.proofs.Staying.{stays_on, stays_still}

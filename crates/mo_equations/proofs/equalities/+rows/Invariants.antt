@@ -8,9 +8,9 @@ use Rattle.mo_eval.specs.Seen.{AreThere, virtuals_seen}
 use Rattle.mo_eval.specs.Values.{most_references}
 use Rattle.mo_equations.specs.Equalities.{replaced_sides}
 use Rattle.mo_equations.specs.Replacing.{of_variable}
-use Rattle.mo_equations.specs.steps.Desks.{Stays, replacing_in, tree_in}
+use Rattle.mo_equations.specs.steps.Desks.{Stays}
 use Rattle.mo_equations.specs.steps.Equalities.{PutsEquations}
-use Rattle.mo_equations.specs.steps.Standing.{AreReplaced}
+use Rattle.mo_equations.specs.steps.Standing.{AreReplaced, replacing_in, tree_in}
 use Rattle.mo_equations.proofs.equalities.+rows.Given as goal
 
 abbrev pub invariant-put_rows-loop-k : goal.invariant-put_rows-loop-k

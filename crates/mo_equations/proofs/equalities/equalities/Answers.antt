@@ -9,7 +9,7 @@ use Rattle.mo_eval.specs.Values.{most_references, sides_of}
 use Rattle.mo_equations.specs.Equalities.{replaced_sides}
 use Rattle.mo_equations.specs.Leaves.{Tree}
 use Rattle.mo_equations.specs.Replacing.{of_variable}
-use Rattle.mo_equations.specs.steps.Desks.{replacing_in, tree_in}
+use Rattle.mo_equations.specs.steps.Standing.{replacing_in, tree_in}
 use Rattle.mo_equations.proofs.InTurn.{none_replaced}
 use Rattle.mo_equations.proofs.Sided.{puts_as, sides_halt, sides_made, sides_stop, sides_unchecked}
 use Rattle.mo_equations.proofs.Staying.{desk_later, reads, same_tree, stays_on}

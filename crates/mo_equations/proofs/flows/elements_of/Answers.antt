@@ -3,7 +3,7 @@ use Rattle.std.proofs.Common.{◌≡◌, ◌+◌, refl, ap, sym, subst, ◌∙�
 use Rattle.mo_scope.specs.Places.{Every}
 use Rattle.mo_scope.specs.Sights.{member_seen}
 use Rattle.mo_scope.specs.Worlds.{MemberEntry}
-use Rattle.mo_equations.proofs.ByName.{every_last}
+use Rattle.mo_equations.proofs.Lists.{every_last}
 use Rattle.mo_equations.proofs.Owners.{base_passed, element_of, element_put, with_left}
 use Rattle.mo_equations.proofs.flows.elements_of.Goals as goal
 use Rattle.mo_equations.proofs.flows.elements_of.Goals.{in-Element+in_ok-push+in-Some, in_default}

@@ -21,7 +21,8 @@ use Rattle.mo_equations.specs.declared.forms.Site.{Site as SiteAt}
 use Rattle.mo_equations.specs.steps.Choices.{AreBranches}
 use Rattle.mo_syntax.specs.declared.expr.IndexOf.{IndexOf}
 use Rattle.mo_equations.specs.Leaves.{Tree, place_of_root}
-use Rattle.mo_equations.specs.steps.Desks.{Goes, tree_in}
+use Rattle.mo_equations.specs.steps.Desks.{Goes}
+use Rattle.mo_equations.specs.steps.Standing.{tree_in}
 use Rattle.mo_equations.specs.steps.Flats.{IsFlat}
 use Rattle.mo_equations.specs.steps.Ranges.{numbers_seen}
 use Rattle.mo_equations.specs.steps.Turns.{GivesBranch, GivesMade, all_made_at, choice_at, formed_at, made_turns, site_in, undecided_at}

@@ -6,7 +6,8 @@ use Rattle.mo_equations.specs.Equations.{made_loop, with_iteration}
 use Rattle.mo_equations.specs.Gathering.{Made, one_turn, turn_none, turn_then}
 use Rattle.mo_equations.specs.Leaves.{place_of_root}
 use Rattle.mo_equations.specs.steps.Choices.{AreBranches}
-use Rattle.mo_equations.specs.steps.Desks.{Goes, tree_in}
+use Rattle.mo_equations.specs.steps.Desks.{Goes}
+use Rattle.mo_equations.specs.steps.Standing.{tree_in}
 use Rattle.mo_equations.specs.steps.Makings.{IsMade}
 use Rattle.mo_equations.specs.steps.Ranges.{numbers_seen}
 use Rattle.mo_equations.specs.steps.Turns.{all_made_at, choice_at, formed_at, site_in}

@@ -9,7 +9,7 @@ use Rattle.mo_equations.proofs.layers.layered_so.Goals as goal
 pub returns-in_err-wanted : goal.returns-in_err-wanted
 returns-in_err-wanted c =
     let l = c.args.layers.now in
-    let b = c.args.binding.now in
+    let b = c.args.resolution.now in
     let broken = c.in_err-wanted.field-0.0 in
     let p : c.from_residual.result ≡ Err broken = search rules in
     rw p (sym (asked_by_layers b.resolved.expression b.kind b.dims (wanted_of l.want l.place) (fit_of l.fit l.place) c.requires.layers.kind c.requires.layers.dims c.requires.layers.subscripts
@@ -18,7 +18,7 @@ returns-in_err-wanted c =
 pub returns : goal.returns
 returns c =
     let l = c.args.layers.now in
-    let b = c.args.binding.now in
+    let b = c.args.resolution.now in
     c.fits.ensures
     ∙ (ap (fit_of l.fit l.place) c.as_slice.ensures
     ∙ sym (asked_by_layers b.resolved.expression b.kind b.dims (wanted_of l.want l.place) (fit_of l.fit l.place) c.requires.layers.kind c.requires.layers.dims c.requires.layers.subscripts

@@ -4,7 +4,7 @@ use Rattle.std.proofs.lemmas.List.{take_all}
 use Rattle.mo_syntax.specs.declared.meaning.FrameId.{FrameId}
 use Rattle.mo_equations.specs.Expansion.{made_placed}
 use Rattle.mo_equations.specs.Gathering.{turn_each}
-use Rattle.mo_equations.specs.steps.Desks.{tree_in}
+use Rattle.mo_equations.specs.steps.Standing.{tree_in}
 use Rattle.mo_equations.specs.steps.Placing.{sections_with}
 use Rattle.mo_equations.proofs.Parted.{item_later, told_all, told_more, told_stops}
 use Rattle.mo_equations.proofs.Staying.{goes_on, same_tree, stays_still}

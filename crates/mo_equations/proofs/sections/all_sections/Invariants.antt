@@ -2,7 +2,8 @@
 use Rattle.std.proofs.Common.{◌≡◌, List, Ok, flat_map, take}
 use Rattle.mo_equations.specs.Expansion.{Parts, made_placed}
 use Rattle.mo_equations.specs.Gathering.{turn_each}
-use Rattle.mo_equations.specs.steps.Desks.{Goes, tree_in}
+use Rattle.mo_equations.specs.steps.Desks.{Goes}
+use Rattle.mo_equations.specs.steps.Standing.{tree_in}
 use Rattle.mo_equations.specs.steps.Placing.{AreParts, sections_with}
 use Rattle.mo_equations.proofs.sections.all_sections.Given as goal
 

@@ -8,7 +8,7 @@ use Rattle.mo_scope.specs.Worlds.{frame_in, frames_of}
 use Rattle.mo_equations.specs.Expansion.{Placed, made_placed}
 use Rattle.mo_equations.specs.Gathering.{turn_each}
 use Rattle.mo_equations.specs.Sections.{Section, Left_out, section_in, sections_in}
-use Rattle.mo_equations.specs.steps.Desks.{tree_in}
+use Rattle.mo_equations.specs.steps.Standing.{tree_in}
 use Rattle.mo_equations.specs.steps.Placing.{PutsParts, item_placed, placed_as}
 use Rattle.mo_equations.proofs.Parted.{in_class, left_out_breaks, puts_breaks, puts_nothing, puts_stop}
 use Rattle.mo_equations.proofs.Staying.{stays_still}

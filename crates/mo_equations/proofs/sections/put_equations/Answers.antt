@@ -1,7 +1,7 @@
 -- A section of equations.
 use Rattle.std.proofs.Common.{◌≡◌, Err, rules}
 use Rattle.mo_scope.specs.Worlds.{frame_in, frames_of}
-use Rattle.mo_equations.specs.steps.Desks.{tree_in}
+use Rattle.mo_equations.specs.steps.Standing.{tree_in}
 use Rattle.mo_equations.proofs.Parted.{puts_section, stops_section}
 use Rattle.mo_equations.proofs.sections.put_equations.Goals as goal
 

@@ -4,7 +4,7 @@ use Rattle.mo_scope.specs.Worlds.{frame_at, frames_of, table_in}
 use Rattle.mo_equations.specs.declared.sections.Placed.{Placed as PlacedAt}
 use Rattle.mo_equations.specs.Expansion.{Placed, made_placed}
 use Rattle.mo_equations.specs.Gathering.{turn_each}
-use Rattle.mo_equations.specs.steps.Desks.{tree_in}
+use Rattle.mo_equations.specs.steps.Standing.{tree_in}
 use Rattle.mo_equations.proofs.Parted.{puts_as, puts_nothing, sections_none, sections_some}
 use Rattle.mo_equations.proofs.Staying.{stays_still}
 use Rattle.mo_equations.proofs.sections.put_frame.Goals as goal

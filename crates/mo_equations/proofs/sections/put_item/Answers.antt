@@ -5,7 +5,7 @@ use Rattle.mo_scope.specs.Worlds.{frames_of}
 use Rattle.mo_equations.specs.Expansion.{made_placed}
 use Rattle.mo_equations.specs.Gathering.{turn_each}
 use Rattle.mo_equations.specs.Sections.{Section, Equations, section_in}
-use Rattle.mo_equations.specs.steps.Desks.{tree_in}
+use Rattle.mo_equations.specs.steps.Standing.{tree_in}
 use Rattle.mo_equations.specs.steps.Placing.{placed_as}
 use Rattle.mo_equations.proofs.Parted.{puts_as}
 use Rattle.mo_equations.proofs.Staying.{stays_still}

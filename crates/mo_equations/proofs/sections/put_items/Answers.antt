@@ -7,7 +7,7 @@ use Rattle.mo_names.proofs.Later.{is_frame_later}
 use Rattle.mo_equations.specs.Expansion.{Placed, made_placed}
 use Rattle.mo_equations.specs.Gathering.{turn_each}
 use Rattle.mo_equations.specs.Leaves.{Tree}
-use Rattle.mo_equations.specs.steps.Desks.{tree_in}
+use Rattle.mo_equations.specs.steps.Standing.{tree_in}
 use Rattle.mo_equations.specs.steps.Placing.{PutsParts, item_placed}
 use Rattle.mo_equations.proofs.Lists.{flat_split, flat_taken}
 use Rattle.mo_equations.proofs.Parted.{placed_later, puts_as, puts_more, puts_nothing, puts_stop}

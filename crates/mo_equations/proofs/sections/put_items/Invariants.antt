@@ -3,7 +3,8 @@ use Rattle.std.proofs.Common.{Ok, flat_map, take}
 use Rattle.mo_scope.specs.Worlds.{frames_of}
 use Rattle.mo_equations.specs.Expansion.{made_placed}
 use Rattle.mo_equations.specs.Gathering.{turn_each}
-use Rattle.mo_equations.specs.steps.Desks.{Goes, tree_in}
+use Rattle.mo_equations.specs.steps.Desks.{Goes}
+use Rattle.mo_equations.specs.steps.Standing.{tree_in}
 use Rattle.mo_equations.specs.steps.Placing.{PutsParts, item_placed}
 use Rattle.mo_equations.proofs.sections.put_items.Given as goal
 

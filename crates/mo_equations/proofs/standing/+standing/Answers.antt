@@ -19,11 +19,10 @@ use Rattle.mo_eval.proofs.Grown.{there_still}
 use Rattle.mo_equations.specs.declared.flat.Flat.{Flat}
 use Rattle.mo_equations.specs.Leaves.{number_of}
 use Rattle.mo_equations.specs.Replacing.{Replacing, constant, constant_by, flat_at, flat_element, flat_value, of_variable, of_virtual, standing, with_variables}
-use Rattle.mo_equations.specs.steps.Desks.{replacing_in, tree_in}
 use Rattle.mo_equations.specs.steps.Flats.{IsFlat}
 use Rattle.mo_equations.specs.steps.Layers.{fit_of, wanted_of}
 use Rattle.mo_equations.specs.steps.Counting.{variables_in}
-use Rattle.mo_equations.specs.steps.Standing.{IsAskedAt, constant_expression, constant_known}
+use Rattle.mo_equations.specs.steps.Standing.{IsAskedAt, constant_expression, constant_known, replacing_in, tree_in}
 use Rattle.mo_equations.proofs.InTurn.{all_still, none_replaced, now_asked, still_replaced}
 use Rattle.mo_equations.proofs.Lists.{every_all, every_taken, got, same_default}
 use Rattle.mo_equations.proofs.Replacings.{all_there, answers_as, answers_breaks, bound_is, breaks_on, child_halts, chosen_now, constant_is, constant_none, constant_some, expression_now, flat_at_then, flat_at_unlayered, flat_at_unresolved, same_number, standing_none, standing_some, there_at, unbound_is, value_halts, value_none, value_some, variable_now}

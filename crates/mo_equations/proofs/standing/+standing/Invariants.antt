@@ -4,8 +4,8 @@ use Rattle.mo_scope.specs.Places.{Every}
 use Rattle.mo_scope.specs.Worlds.{frames_of}
 use Rattle.mo_eval.specs.Seen.{AreThere, virtuals_seen}
 use Rattle.mo_equations.specs.Replacing.{of_variable}
-use Rattle.mo_equations.specs.steps.Desks.{Stays, replacing_in}
-use Rattle.mo_equations.specs.steps.Standing.{AreReplaced, IsAskedAt}
+use Rattle.mo_equations.specs.steps.Desks.{Stays}
+use Rattle.mo_equations.specs.steps.Standing.{AreReplaced, IsAskedAt, replacing_in}
 use Rattle.mo_equations.proofs.standing.+standing.Given as goal
 
 abbrev pub invariant-ask-loop-n : goal.invariant-ask-loop-n

@@ -5,7 +5,7 @@ use Rattle.mo_typing.specs.Indices.{numbers_to, range_element}
 use Rattle.mo_scope.specs.Worlds.{frames_of, scope_in, table_in}
 use Rattle.mo_eval.specs.Seen.{resolved_seen}
 use Rattle.mo_equations.specs.Equations.{vector_size}
-use Rattle.mo_equations.specs.steps.Desks.{tree_in}
+use Rattle.mo_equations.specs.steps.Standing.{tree_in}
 use Rattle.mo_equations.proofs.Knowing.{range_is, range_known}
 use Rattle.mo_equations.proofs.Staying.{reads}
 use Rattle.mo_equations.proofs.values.range_numbers.Goals as goal

@@ -6,7 +6,7 @@ use Rattle.mo_typing.specs.Outcome.{each}
 use Rattle.mo_eval.specs.FrameBindings.{IsBoundByFrame}
 use Rattle.mo_equations.specs.Variables.{all_declared, declared}
 use Rattle.mo_equations.specs.steps.Declaring.{AreDeclared}
-use Rattle.mo_equations.specs.steps.Desks.{tree_in}
+use Rattle.mo_equations.specs.steps.Standing.{tree_in}
 use Rattle.mo_equations.proofs.AllDeclared.{all_break, all_given, counts, declared_there, gives_more, leaf_bound, leaf_exists, nowhere, passes, refused_at, variable_of}
 use Rattle.mo_equations.proofs.Staying.{are_bound_later, is_instance_later, stays_on}
 use Rattle.mo_equations.proofs.Tabled.{every_at}

@@ -6,7 +6,8 @@ use Rattle.mo_typing.specs.Outcome.{each}
 use Rattle.mo_equations.specs.Leaves.{variables_from}
 use Rattle.mo_equations.specs.Variables.{Declared, declared}
 use Rattle.mo_equations.specs.steps.Declaring.{AreDeclared}
-use Rattle.mo_equations.specs.steps.Desks.{Stays, tree_in}
+use Rattle.mo_equations.specs.steps.Desks.{Stays}
+use Rattle.mo_equations.specs.steps.Standing.{tree_in}
 use Rattle.mo_equations.proofs.variables.all_declared.Given as goal
 
 abbrev pub invariant-loop-instance : goal.invariant-loop-instance

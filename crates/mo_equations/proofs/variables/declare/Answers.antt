@@ -5,7 +5,7 @@ use Rattle.mo_names.proofs.Later.{grows_trans, table_later}
 use Rattle.mo_equations.specs.Leaves.{Variable}
 use Rattle.mo_equations.specs.Variables.{declared_with, flat_option}
 use Rattle.mo_equations.specs.steps.Declaring.{AreAttributes, AreDeclared, variable_in}
-use Rattle.mo_equations.specs.steps.Desks.{tree_in}
+use Rattle.mo_equations.specs.steps.Standing.{tree_in}
 use Rattle.mo_equations.specs.steps.Makings.{IsFlatOption}
 use Rattle.mo_equations.proofs.AllDeclared.{bound_of, declared_is, option_later, refused_first, refused_then}
 use Rattle.mo_equations.proofs.Declares.{is_one_of_later, variable_later}

@@ -6,7 +6,7 @@ use Rattle.mo_syntax.specs.declared.meaning.Kind.{Kind}
 use Rattle.mo_equations.specs.declared.flat.Flat.{Flat}
 use Rattle.mo_equations.specs.Variables.{attribute_kind, flat_attribute, flat_of_leaf}
 use Rattle.mo_equations.specs.steps.Declaring.{AreAttributes, attributes_in, variable_in}
-use Rattle.mo_equations.specs.steps.Desks.{tree_in}
+use Rattle.mo_equations.specs.steps.Standing.{tree_in}
 use Rattle.mo_equations.specs.steps.Flats.{IsFlat}
 use Rattle.mo_equations.proofs.AllDeclared.{attribute_given, attribute_is, attribute_stop, attribute_within, attributes_end, each_stop}
 use Rattle.mo_equations.proofs.Declares.{flat_later, is_chosen_later, is_one_of_later}

@@ -5,7 +5,8 @@ use Rattle.mo_scope.specs.Worlds.{frames_of}
 use Rattle.mo_typing.specs.Outcome.{each}
 use Rattle.mo_equations.specs.Variables.{flat_attribute}
 use Rattle.mo_equations.specs.steps.Declaring.{AreAttributes, attributes_in, variable_in}
-use Rattle.mo_equations.specs.steps.Desks.{Stays, tree_in}
+use Rattle.mo_equations.specs.steps.Desks.{Stays}
+use Rattle.mo_equations.specs.steps.Standing.{tree_in}
 use Rattle.mo_equations.proofs.Eaching.{Left}
 use Rattle.mo_equations.proofs.variables.flat_attributes.Given as goal
 

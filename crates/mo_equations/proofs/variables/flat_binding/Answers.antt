@@ -9,7 +9,7 @@ use Rattle.mo_equations.specs.declared.flat.Flat.{Flat}
 use Rattle.mo_equations.specs.Replacing.{flat_value}
 use Rattle.mo_equations.specs.Variables.{flat_of_leaf}
 use Rattle.mo_equations.specs.steps.Declaring.{known_of_binding, variable_in}
-use Rattle.mo_equations.specs.steps.Desks.{tree_in}
+use Rattle.mo_equations.specs.steps.Standing.{tree_in}
 use Rattle.mo_equations.specs.steps.Flats.{IsFlat}
 use Rattle.mo_equations.proofs.Declares.{binding_is, flat_later, is_chosen_later, is_one_of_later}
 use Rattle.mo_equations.proofs.Replacings.{answers_as, value_halts, value_none, value_some}

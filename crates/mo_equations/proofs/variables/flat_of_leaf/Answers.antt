@@ -15,6 +15,13 @@ returns-clause-exact c =
     answers_as IsFlat c.flat_at.result _ _
     (leaf_asked world c.args.desk.now.leaves c.asked_of-asked.result c.args.chosen.now c.args.kind _ _ variable c.asked_of-asked.ensures (c.in_ok-ranges.ensures variable refl)) c.flat_at.ensures.exact
 
+pub returns-then-may_share-clause-exact : goal.returns-then-may_share-clause-exact
+returns-then-may_share-clause-exact c =
+    let world = c.args.s.now in
+    let variable = variable_in (frames_of world) c.args.variable.now in
+    answers_as IsFlat c.flat_of_shared.result _ _
+    (leaf_asked world c.args.desk.now.leaves c.asked_of-asked.result c.args.chosen.now c.args.kind _ _ variable c.asked_of-asked.ensures (c.in_ok-ranges.ensures variable refl)) c.flat_of_shared.ensures.exact
+
 -- ---- what stays
 
 pub returns-in_err-ranges-clause-stays : goal.returns-in_err-ranges-clause-stays

@@ -1,7 +1,7 @@
 -- One expression.
 use Rattle.mo_scope.specs.Worlds.{frames_of}
 use Rattle.mo_equations.specs.steps.Declaring.{variable_in}
-use Rattle.mo_equations.specs.steps.Desks.{tree_in}
+use Rattle.mo_equations.specs.steps.Standing.{tree_in}
 use Rattle.mo_equations.proofs.AllDeclared.{binding_flat}
 use Rattle.mo_equations.proofs.Staying.{stays_still}
 use Rattle.mo_equations.proofs.variables.flat_option.Goals as goal

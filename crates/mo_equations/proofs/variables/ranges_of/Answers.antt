@@ -2,7 +2,7 @@
 use Rattle.std.proofs.Common.{sym, ◌∙◌, ap}
 use Rattle.mo_scope.specs.Frames.{at_of}
 use Rattle.mo_scope.specs.Worlds.{frame_at}
-use Rattle.mo_equations.specs.steps.Desks.{tree_in}
+use Rattle.mo_equations.specs.steps.Standing.{tree_in}
 use Rattle.mo_equations.specs.Leaves.{sizes_along}
 use Rattle.mo_equations.specs.Variables.{indices_if, indices_of}
 use Rattle.mo_equations.proofs.Declares.{none_fit, ranges_fit}

@@ -4,7 +4,7 @@ use Rattle.std.proofs.lemmas.List.{take_all}
 use Rattle.mo_syntax.specs.declared.place.Place.{Place}
 use Rattle.mo_scope.specs.Worlds.{frames_of}
 use Rattle.mo_equations.specs.Leaves.{variables_of}
-use Rattle.mo_equations.specs.steps.Desks.{tree_in}
+use Rattle.mo_equations.specs.steps.Standing.{tree_in}
 use Rattle.mo_equations.specs.steps.LeafTables.{flow_at, flow_in}
 use Rattle.mo_equations.proofs.Flowing.{flows_step, places_many}
 use Rattle.mo_equations.proofs.whole.all_flows.Goals as goal

@@ -1,7 +1,7 @@
 -- Those of the variables so far.
 use Rattle.std.proofs.Common.{◌≡◌, flat_map, take}
 use Rattle.mo_equations.specs.Leaves.{variables_of}
-use Rattle.mo_equations.specs.steps.Desks.{tree_in}
+use Rattle.mo_equations.specs.steps.Standing.{tree_in}
 use Rattle.mo_equations.specs.steps.LeafTables.{flow_in}
 use Rattle.mo_equations.proofs.whole.all_flows.Given as goal
 

@@ -4,7 +4,7 @@ use Rattle.mo_scope.specs.Worlds.{frames_of}
 use Rattle.mo_equations.specs.Expansion.{made_placed, sections_at}
 use Rattle.mo_equations.specs.Gathering.{turn_each}
 use Rattle.mo_equations.specs.Leaves.{Tree}
-use Rattle.mo_equations.specs.steps.Desks.{tree_in}
+use Rattle.mo_equations.specs.steps.Standing.{tree_in}
 use Rattle.mo_equations.specs.steps.Placing.{frames_seen, parts_of_tree}
 use Rattle.mo_equations.proofs.Expanding.{parts_as, parts_by_frames, parts_halt}
 use Rattle.mo_equations.proofs.Staying.{desk_grown, goes_on, same_tree, stays_grown}

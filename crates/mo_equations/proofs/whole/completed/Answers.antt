@@ -7,7 +7,7 @@ use Rattle.mo_equations.specs.Connectors.{all_flows}
 use Rattle.mo_equations.specs.Expansion.{Parts, name_of_root}
 use Rattle.mo_equations.specs.Variables.{Declared}
 use Rattle.mo_equations.specs.steps.Declaring.{AreDeclared, expanded_from}
-use Rattle.mo_equations.specs.steps.Desks.{tree_in}
+use Rattle.mo_equations.specs.steps.Standing.{tree_in}
 use Rattle.mo_equations.specs.steps.Placing.{AreParts}
 use Rattle.mo_equations.proofs.whole.completed.Goals as goal
 

@@ -3,7 +3,7 @@ use Rattle.std.proofs.Common.{◌≡◌, ◌∙◌, ap, subst, sym, Err, Ok, rul
 use Rattle.mo_equations.specs.Counted.{GivesExpansion}
 use Rattle.mo_equations.specs.Leaves.{Tree}
 use Rattle.mo_equations.specs.Variables.{all_declared}
-use Rattle.mo_equations.specs.steps.Desks.{tree_in}
+use Rattle.mo_equations.specs.steps.Standing.{tree_in}
 use Rattle.mo_equations.specs.steps.Placing.{parts_of_tree}
 use Rattle.mo_equations.proofs.Expanding.{declared_stop, parts_as}
 use Rattle.mo_equations.proofs.Staying.{goes_on, same_tree}

@@ -2,7 +2,7 @@
 use Rattle.std.proofs.Common.{subst}
 use Rattle.mo_equations.specs.Counted.{IsExpansion}
 use Rattle.mo_equations.specs.steps.Declaring.{expanded_from}
-use Rattle.mo_equations.specs.steps.Desks.{tree_in}
+use Rattle.mo_equations.specs.steps.Standing.{tree_in}
 use Rattle.mo_equations.specs.steps.Placing.{GivesParts, parts_of_tree}
 use Rattle.mo_equations.proofs.Expanding.{expansion_is, gives_whole, parts_stop}
 use Rattle.mo_equations.proofs.Making.{if_ok}

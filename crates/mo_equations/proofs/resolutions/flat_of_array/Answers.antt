@@ -5,10 +5,10 @@ use Rattle.mo_eval.specs.Seen.{virtuals_seen}
 use Rattle.mo_eval.specs.Values.{most_references}
 use Rattle.mo_equations.specs.declared.flat.Flat.{Flat}
 use Rattle.mo_equations.specs.Replacing.{of_variable, with_variables}
-use Rattle.mo_equations.specs.steps.Desks.{replacing_in}
+use Rattle.mo_equations.specs.steps.Standing.{replacing_in}
 use Rattle.mo_equations.specs.steps.Flats.{IsFlat}
 use Rattle.mo_equations.proofs.Replacings.{answers_as, refused_answers}
-use Rattle.mo_equations.proofs.equalities.flat_side.Goals as goal
+use Rattle.mo_equations.proofs.resolutions.flat_of_array.Goals as goal
 
 pub returns-in_err-ask-clause-exact : goal.returns-in_err-ask-clause-exact
 returns-in_err-ask-clause-exact c =
