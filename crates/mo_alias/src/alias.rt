@@ -3,7 +3,7 @@ ghost use Rattle.std.specs.Prelude.{◌≡◌, length, get_or, IfOk};
 ghost use Rattle.std.specs.Option.{option_map};
 ghost use Rattle.mo_flat.specs.declared.expr.FlatExpr.{out-FlatExpr};
 ghost use Rattle.mo_flat.specs.Roles.{unknown_numbers};
-ghost use Rattle.mo_alias.specs.Recognized.{alias_between, alias_of, aliases_in, is_zero_node, pair_of, positive, said_by, sign_product, signed_node, two_terms, unknown_in, unknown_node, with_sign};
+ghost use Rattle.mo_alias.specs.Recognized.{alias_of, aliases_in, is_zero_node, pair_of, positive, said_by, sign_product, signed_node, two_terms, unknown_in, with_sign};
 
 use crate::numbers::numbers_among;
 use mo_flat::{FlatEquation, FlatExpr, FlatModel};

@@ -1,5 +1,5 @@
 //! The chains that contradicting equations close.
-ghost use Rattle.std.specs.Prelude.{◌≡◌, ℕ, ◌+◌, ◌-◌, ◌<◌, ◌⊎◌, List as Seq, Some, None, Contains, get_or, length, IfOk, OnOk};
+ghost use Rattle.std.specs.Prelude.{◌≡◌, ℕ, ◌+◌, ◌-◌, ◌<◌, List as Seq, Some, None, Contains, get_or, length, IfOk, OnOk};
 ghost use Rattle.std.specs.List.Sorted.{IsStrictlyIncreasing};
 ghost use Rattle.mo_graph.specs.steps.Placing.{Has};
 ghost use Rattle.mo_alias.specs.Aliases.{IsLoop};

@@ -1,10 +1,9 @@
 //! The elements of an array expression, one at a time.
-ghost use Rattle.std.specs.Prelude.{◌≡◌, ◌-◌, ◌<◌, ◌≤◌, ◌++◌, ◌∷◌, [], List, ℕ, map, length, take, drop, slice_get, slice_range, IfOk};
+ghost use Rattle.std.specs.Prelude.{◌≡◌, ◌-◌, ◌<◌, ◌≤◌, ◌++◌, ◌∷◌, [], List, map, length, slice_get, slice_range, IfOk};
 ghost use Rattle.std.specs.Option.{option_map};
 ghost use Rattle.mo_flat.specs.declared.expr.FlatExpr.TheVariants.{Whole, Product, Power, Relation, If};
-ghost use Rattle.mo_typing.specs.Shape.{shape_of, or_scalar};
-ghost use Rattle.mo_typing.specs.Indices.{own, indices, first_number, range_element, is_diagonal};
-ghost use Rattle.mo_arrays.specs.Elements.{element_of, element_of_node, at, plain, all_elements, crossed, crossed_at, call, call_of_one, element_among, size_at, size_element, sized_element, constant};
+ghost use Rattle.mo_typing.specs.Indices.{indices, first_number};
+ghost use Rattle.mo_arrays.specs.Elements.{element_of, element_of_node, at, plain, all_elements, crossed, crossed_at, call, call_of_one, element_among, sized_element, constant};
 ghost use Rattle.mo_arrays.specs.steps.Parts.{part_of, chain_before, begun_by, behind_last, acting, inner_terms_with, inner_term_with};
 
 use crate::build::{difference, product, product_of, sum_of};

@@ -7,7 +7,7 @@ ghost use Rattle.mo_arrays.specs.Elements.{size_at, size_element, constant, vari
 ghost use Rattle.mo_arrays.specs.steps.Parts.{behind_last};
 
 use mo_flat::{ArrayExpr, FlatExpr};
-use mo_syntax::{List, NoMemory, Place};
+use mo_syntax::{NoMemory, Place};
 use mo_tables::functions;
 use mo_typing::indexing::{first_number, is_diagonal, range_element, variable_at};
 use mo_typing::shapes::{shape, size_of};

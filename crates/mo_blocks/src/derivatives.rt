@@ -1,6 +1,5 @@
 //! Dummy derivatives, and the states that are left.
-ghost use Rattle.std.specs.Prelude.{◌≡◌, ◌≢◌, ℕ, ◌+◌, ◌-◌, ◌<◌, ◌≤◌, ◌++◌, length, map, slice_index, IfOk, OnOk};
-ghost use Rattle.std.proofs.Common.{suc};
+ghost use Rattle.std.specs.Prelude.{◌≡◌, ℕ, ◌+◌, ◌-◌, ◌<◌, ◌≤◌, ◌++◌, length, map, slice_index, IfOk, OnOk};
 ghost use Rattle.mo_incidence.specs.Signature.{equations};
 ghost use Rattle.mo_incidence.specs.Assignment.{Assigns, CoversAll};
 ghost use Rattle.mo_incidence.specs.Offsets.{HasFreedom, HasPairs, HasSizes, IsTight, by_number, by_place, c_of, differentiations, pairs_of};

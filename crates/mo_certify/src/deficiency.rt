@@ -1,10 +1,10 @@
 //! Whether listed equations mention fewer unknowns than they are.
 ghost use Rattle.std.specs.Prelude.{◌≡◌, ◌≢◌, ℕ, ◌+◌, ◌-◌, ◌<◌, ◌≤◌, ◌⊎◌, IsTrue, IfOk, length, slice_index, true, false};
 ghost use Rattle.std.proofs.Common.{suc};
-ghost use Rattle.mo_incidence.specs.Signature.{equations, row_len, unknown_at, IsSound};
+ghost use Rattle.mo_incidence.specs.Signature.{equations, row_len, unknown_at};
 ghost use Rattle.mo_incidence.specs.Assignment.{Mentions, CanCoverAll};
 ghost use Rattle.mo_certify.specs.Offsets.{Decides};
-ghost use Rattle.mo_certify.specs.Deficiency.{AreDistinctBelow, IsListed, IsMentionedBy, IsDeficiency};
+ghost use Rattle.mo_certify.specs.Deficiency.{AreDistinctBelow, IsMentionedBy, IsDeficiency};
 
 use crate::marks::{are_marked, mark_all};
 use mo_incidence::{Deficit, Incidence};

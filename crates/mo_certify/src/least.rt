@@ -4,7 +4,7 @@ ghost use Rattle.std.proofs.Common.{suc};
 ghost use Rattle.mo_incidence.specs.Signature.{equations};
 ghost use Rattle.mo_incidence.specs.Offsets.{IsLeast, by_place, c_of, d_of};
 ghost use Rattle.mo_certify.specs.Offsets.{AreOffsets, Decides};
-ghost use Rattle.mo_certify.specs.Reasons.{first_reason, reason_of, named, LeadsToZero, IsReasonAt, AreReasonsBy, LeadToZeroBy, AreShownLeast, AreHeldLeast};
+ghost use Rattle.mo_certify.specs.Reasons.{first_reason, named, LeadsToZero, IsReasonAt, AreReasonsBy, AreShownLeast, AreHeldLeast};
 
 use crate::admissible::{offsets_hold, row_is_tight};
 use mo_incidence::{Incidence, Offsets, Reason};

@@ -1,5 +1,5 @@
 //! Marks for the numbers of a list.
-ghost use Rattle.std.specs.Prelude.{◌≡◌, ◌≢◌, ℕ, ◌+◌, ◌-◌, ◌<◌, ◌≤◌, length, slice_index, true, false};
+ghost use Rattle.std.specs.Prelude.{◌≡◌, ◌≢◌, ℕ, ◌-◌, length, slice_index, true, false};
 ghost use Rattle.mo_certify.specs.Deficiency.{AreDistinctBelow, IsListed};
 
 /// Marks the numbers of a list, if they are from 1 up to below the number of marks and no two are the same.

@@ -1,5 +1,5 @@
 //! Identifiers between commas, and names in a class.
-ghost use Rattle.std.specs.Prelude.{◌≡◌, ◌<◌, [], ◌∷◌, length, IfOk};
+ghost use Rattle.std.specs.Prelude.{◌<◌, [], ◌∷◌, length, IfOk};
 ghost use Rattle.mo_grammar.specs.Lexeme.{lexeme, lexemes};
 ghost use Rattle.mo_grammar.specs.Codes.{ident, comma};
 ghost use Rattle.mo_grammar.specs.Grammar.{token};

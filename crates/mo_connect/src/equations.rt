@@ -1,7 +1,7 @@
 //! The equations of connection sets.
-ghost use Rattle.std.specs.Prelude.{◌≡◌, ◌∷◌, [], ◌++◌, List, map, flat_map, All, IfOk, OnOk};
+ghost use Rattle.std.specs.Prelude.{◌≡◌, [], ◌++◌, List, map, flat_map, IfOk, OnOk};
 ghost use Rattle.mo_flat.specs.declared.model.FlatVar.{FlatVar};
-ghost use Rattle.mo_connect.specs.Equations.{variable_of, term_of, equality_with, sum_of, flow_equation, potential_equations, equations_of, AreSoundEquations, HaveNumericMembers};
+ghost use Rattle.mo_connect.specs.Equations.{equality_with, sum_of, flow_equation, equations_of, AreSoundEquations, HaveNumericMembers};
 
 use mo_flat::{FaceSet, FlatEquation, FlatExpr};
 use mo_syntax::{List, NoMemory, Place};

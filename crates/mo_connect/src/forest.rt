@@ -1,6 +1,6 @@
 //! Trees of joined numbers in one list: for each number one of its tree that is not greater. The root of a tree is its least
 //! number. A search for a root halves its path, so that many joins take little more than linear time.
-ghost use Rattle.std.specs.Prelude.{◌≡◌, ◌≢◌, ℕ, ◌<◌, ◌≤◌, length, slice_index};
+ghost use Rattle.std.specs.Prelude.{◌≡◌, ℕ, ◌<◌, ◌≤◌, length, slice_index};
 ghost use Rattle.mo_connect.specs.steps.Forest.{IsForest, Climbs, IsConstant, Shortens, Unites, IsFlatBelow};
 
 /// The root of a number's tree.

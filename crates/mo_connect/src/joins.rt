@@ -1,7 +1,6 @@
 //! The pairs of faces that connects join.
-ghost use Rattle.std.specs.Prelude.{◌≡◌, ℕ, ◌<◌, List, length, slice_index_or, Any, All, OnOk};
-ghost use Rattle.mo_flat.specs.declared.connect.EndLeaf as leaves;
-ghost use Rattle.mo_connect.specs.Alike.{Corresponds, HavePartners, AreAlike, IsConnectable};
+ghost use Rattle.std.specs.Prelude.{◌≡◌, ◌<◌, List, length, slice_index_or, Any, All, OnOk};
+ghost use Rattle.mo_connect.specs.Alike.{Corresponds, HavePartners, IsConnectable};
 ghost use Rattle.mo_connect.specs.Joins.{is_outside, face_of, Gains, AreDistinct, HasDistinctLeaves, IsBefore, JoinsLeaf, JoinsLeafAt, JoinsElementAt, JoinsConnectAt};
 
 use crate::alike::partner;

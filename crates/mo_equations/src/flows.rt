@@ -1,6 +1,5 @@
 //! Whether the components that instances are elements of are declared flow (Modelica Language Specification 3.5, section 9.3.1).
-ghost use Rattle.std.specs.Prelude.{◌≡◌, ◌≤◌, length, map, option_map, List as Seq, IfOk, IfSome};
-ghost use Rattle.mo_scope.specs.Compatible.{prefix_of as prefix_of_member};
+ghost use Rattle.std.specs.Prelude.{◌≡◌, map, List as Seq, IfOk};
 ghost use Rattle.mo_scope.specs.Frames.{Frame};
 ghost use Rattle.mo_scope.specs.Lookup.{members_from, named, own_members};
 ghost use Rattle.mo_scope.specs.Places.{Every};

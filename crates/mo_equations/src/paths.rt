@@ -1,7 +1,6 @@
 //! The printed texts of paths of instances.
-ghost use Rattle.std.specs.Prelude.{◌≡◌, ◌++◌, codes, flat_map, map, string_bytes, IfOk, OnOk};
+ghost use Rattle.std.specs.Prelude.{◌≡◌, ◌++◌, codes, flat_map, string_bytes, IfOk, OnOk};
 ghost use Rattle.std.specs.Fmt.{decimal};
-ghost use Rattle.mo_eval.specs.Resolving.{dotted};
 ghost use Rattle.mo_equations.specs.Leaves.{index_text, path_text};
 
 use itoa::Buffer;

@@ -1,7 +1,7 @@
 //! The frames whose sections instances have, and what the sections of their classes give.
 #![tactic(auto, using(crate::proofs::Staying::staying))]
 
-ghost use Rattle.std.specs.Prelude.{◌≡◌, ◌++◌, [], List as Seq, flat_map, map, option_copied, option_map, Ok, Err, IfOk, OnOk};
+ghost use Rattle.std.specs.Prelude.{◌≡◌, ◌++◌, [], List as Seq, flat_map, option_copied, option_map, Ok, Err, IfOk, OnOk};
 ghost use Rattle.mo_syntax.specs.Outcome.{IfBroken};
 ghost use Rattle.mo_syntax.specs.declared.meaning.FrameId.{FrameId as FrameNumber};
 ghost use Rattle.mo_scope.specs.Places.{Every};

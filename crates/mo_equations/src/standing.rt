@@ -10,7 +10,7 @@ ghost use Rattle.mo_scope.specs.Sights.{member_seen, scope_at};
 ghost use Rattle.mo_scope.specs.Worlds.{IsFrame, frame_at, frames_of, table_in};
 ghost use Rattle.mo_names.specs.Sights.{IsMember};
 ghost use Rattle.mo_eval.specs.Seen.{AreThere, virtual_seen, element_at, virtuals_at, resolved_at};
-ghost use Rattle.mo_equations.specs.Replacing.{constant as constant_by_left, constant_by as constant_by_reader, flat_at as flat_of_expression, flat_element as element_of_resolved, flat_value as expression_of_value, of_variable, of_virtual as virtual_by, standing as standing_by, with_variables};
+ghost use Rattle.mo_equations.specs.Replacing.{constant as constant_by_left, constant_by as constant_by_reader, flat_at as flat_of_expression, flat_element as element_of_resolved, flat_value as expression_of_value, of_variable, of_virtual as virtual_by, with_variables};
 ghost use Rattle.mo_syntax.specs.Outcome.{IfBroken};
 ghost use Rattle.mo_typing.specs.Outcome.{Gives};
 ghost use Rattle.mo_values.specs.Scalars.{has_values as kind_has_values};

@@ -1,7 +1,7 @@
 -- What a frame picks for the binding of its instance is the same in later worlds, and it is what binds the element of the component.
-use Rattle.std.proofs.Common.{◌≡◌, ℕ, List, [], Option, None, Some, Ok, Err, refl, ap, sym, ◌∙◌}
+use Rattle.std.proofs.Common.{◌≡◌, ℕ, List, [], Option, Some, Ok, Err, refl, ap, sym, ◌∙◌}
 use Rattle.std.specs.Prelude.{option_map}
-use Rattle.mo_syntax.specs.Outcome.{Outcome, and_then}
+use Rattle.mo_syntax.specs.Outcome.{Outcome}
 use Rattle.mo_scope.specs.declared.instance.Leaf.{Leaf as LeafAt}
 use Rattle.mo_scope.specs.Frames.{Frame, Member, sources_of}
 use Rattle.mo_scope.specs.Names.{Child, child_of_member, component_entered, component_frame}

@@ -1,5 +1,5 @@
 //! `div`, `mod` and `rem`.
-ghost use Rattle.std.specs.Prelude.{◌≡◌, ◌+◌, ◌∷◌, [], ◌++◌, IfOk, Ok, Some, List as Seq};
+ghost use Rattle.std.specs.Prelude.{◌≡◌, ◌+◌, ◌∷◌, [], IfOk, Ok, Some, List as Seq};
 ghost use Rattle.mo_scope.specs.Worlds.{World, Grows, IsFrame, frames_of};
 ghost use Rattle.mo_typing.specs.Outcome.{Gives};
 ghost use Rattle.mo_eval.specs.Keeping.{IsKept};

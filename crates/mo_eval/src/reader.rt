@@ -1,5 +1,5 @@
 //! The values and the sizes of expressions, and what of components they are read from.
-ghost use Rattle.std.specs.Prelude.{◌≡◌, IfOk};
+ghost use Rattle.std.specs.Prelude.{IfOk};
 ghost use Rattle.mo_scope.specs.Outcome.{Gives as GivesSeen};
 ghost use Rattle.mo_scope.specs.Sights.{member_at};
 ghost use Rattle.mo_scope.specs.Worlds.{World, Grows, IsFrame, table_in};

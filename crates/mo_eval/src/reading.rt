@@ -1,5 +1,5 @@
 //! How the variables of a resolved expression are read one after another, only where they are needed.
-ghost use Rattle.std.specs.Prelude.{◌≡◌, ◌-◌, [], ℕ, List, MatchOption, IfOk, Some, set};
+ghost use Rattle.std.specs.Prelude.{◌≡◌, ◌-◌, [], List, MatchOption, IfOk, Some, set};
 ghost use Rattle.mo_scope.specs.Frames.{Frame};
 ghost use Rattle.mo_syntax.specs.Outcome.{Outcome, and_then};
 ghost use Rattle.mo_values.specs.Scalars.{Known, division};

@@ -1,5 +1,5 @@
 //! References to components (Modelica Language Specification 3.5, sections 4.4.5, 5.3 and 10.5): what they hand in.
-ghost use Rattle.std.specs.Prelude.{◌≡◌, ◌∷◌, ◌++◌, ◌+◌, [], if◌then◌else◌, is_ok, length, IfOk, List as Seq, Some};
+ghost use Rattle.std.specs.Prelude.{◌≡◌, ◌++◌, ◌+◌, [], if◌then◌else◌, is_ok, length, IfOk, List as Seq, Some};
 ghost use Rattle.std.specs.List.{list_any};
 ghost use Rattle.mo_syntax.specs.declared.expr.Expr.{Expr as Tree};
 ghost use Rattle.mo_scope.specs.Frames.{Frame};

@@ -1,5 +1,5 @@
 //! An expression resolved in a scope: each name is replaced by virtual variables, each subscript, range and size by its numbers.
-ghost use Rattle.std.specs.Prelude.{◌≡◌, map, Bool, Ok, List as Seq};
+ghost use Rattle.std.specs.Prelude.{map, Bool, Ok, List as Seq};
 ghost use Rattle.mo_flat.specs.declared.array.ArrayExpr.{ArrayExpr, roll-ArrayExpr};
 ghost use Rattle.mo_flat.specs.declared.array.ArrayNode.{ArrayNode};
 ghost use Rattle.mo_flat.specs.declared.array.ArrayNode.TheVariants.{Decimal, Str, Not, All, Any, Array, Relation, Product};

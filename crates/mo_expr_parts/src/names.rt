@@ -1,5 +1,5 @@
 //! Names, which hold no expression.
-ghost use Rattle.std.specs.Prelude.{◌≡◌, ◌<◌, [], ◌∷◌, length, IfOk};
+ghost use Rattle.std.specs.Prelude.{◌<◌, [], ◌∷◌, length, IfOk};
 ghost use Rattle.mo_grammar.specs.Lexeme.{lexeme, lexemes};
 ghost use Rattle.mo_grammar.specs.Codes.{ident, dot};
 ghost use Rattle.mo_grammar.specs.Grammar.{token};

@@ -1,8 +1,8 @@
 //! What the readers make of their parts.
-ghost use Rattle.std.specs.Prelude.{◌≡◌, ◌≤◌, ◌+◌, ◌*◌, ◌==◌, [], ◌∷◌, ◌^◌, ◌-◌, None, Some, IfOk, map, min, pos, true, false};
+ghost use Rattle.std.specs.Prelude.{◌≡◌, ◌≤◌, ◌+◌, ◌*◌, ◌∷◌, ◌^◌, ◌-◌, None, Some, IfOk, map, min, pos, true, false};
 ghost use Rattle.mo_grammar.specs.Lexeme.{lexeme, lexemes};
 ghost use Rattle.mo_expr_parts.specs.Literals.{literal_tree};
-ghost use Rattle.mo_grammar.specs.Trees.{expr_at as tree_at, digits_after, part_of as part_tree, plain_part, index_of as index_tree, callee_of as callee_tree, relation_of as relation_tree, is_minus as minus_tree, term_of as term_tree, sum_tree, terms_tree, factor_of as factor_tree, product_tree, outputs_tree, args_of as args_tree, args_or_none, args_given, args_from, args_iterated, given_named, given_more, given_or_none, partial_argument, named_argument, named_arguments, if_tree, range_tree, array_tree};
+ghost use Rattle.mo_grammar.specs.Trees.{expr_at as tree_at, digits_after, part_of as part_tree, plain_part, index_of as index_tree, callee_of as callee_tree, relation_of as relation_tree, is_minus as minus_tree, term_of as term_tree, sum_tree, terms_tree, factor_of as factor_tree, product_tree, outputs_tree, args_or_none, args_given, args_iterated, given_named, given_more, partial_argument, named_argument, named_arguments, if_tree, range_tree, array_tree};
 
 use mo_grammar::is;
 use mo_syntax::TokenKind::{Decimal, Keyword, Operator, Str, Whole};

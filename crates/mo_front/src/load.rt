@@ -1,6 +1,5 @@
 //! Reading the named files.
-ghost use Rattle.std.specs.Prelude.{◌≡◌, ◌≤◌, ◌<◌, ◌^◌, ◌++◌, [], Some, Ok as Yes, length, min, IfOk, IfErr, IfSome, OnOk, All};
-ghost use Rattle.std.specs.Str.Lossy.{utf8_valid_len};
+ghost use Rattle.std.specs.Prelude.{◌≡◌, ◌≤◌, ◌<◌, ◌^◌, [], Some, Ok as Yes, length, min, IfOk, IfErr, IfSome, OnOk, All};
 ghost use Rattle.mo_ports.specs.Counts.{Rose};
 ghost use Rattle.mo_front.specs.Files.{Reads, IsText, breaks_at};
 ghost use Rattle.mo_front.specs.Limits.{file_limit, all_files_limit, most_files};

@@ -1,5 +1,5 @@
 //! The tokens and the trees of files, file by file.
-ghost use Rattle.std.specs.Prelude.{◌≡◌, ◌<◌, ◌^◌, ◌-◌, Ok as Yes, Err as No, length, map, IfOk, All};
+ghost use Rattle.std.specs.Prelude.{◌<◌, ◌^◌, ◌-◌, Ok as Yes, Err as No, length, map, IfOk, All};
 ghost use Rattle.mo_syntax.specs.Lexeme.{lexemes};
 ghost use Rattle.mo_parse_class.specs.WholeFiles.{EndsAtEnd};
 ghost use Rattle.mo_front.specs.Files.{Tokens, Trees};

@@ -1,6 +1,6 @@
 //! The report on the structure of a model: the analyses of its incidence, one after another. What goes by the offsets alone is found
 //! first, so that a phase can ask their size before blocks, dummies and states are made.
-ghost use Rattle.std.specs.Prelude.{◌≡◌, ◌<◌, Some, None, IfOk, OnOk, length};
+ghost use Rattle.std.specs.Prelude.{◌≡◌, ◌<◌, Some, None, IfOk, OnOk};
 ghost use Rattle.mo_flat.specs.Sound.{IsSoundModel};
 ghost use Rattle.mo_incidence.specs.Signature.{equations};
 ghost use Rattle.mo_incidence.specs.Assignment.{IsAssignment, CoversAll, IsDeficit, IsUndetermined, ListsWhere};

@@ -1,5 +1,5 @@
 //! The words of the command line.
-ghost use Rattle.std.specs.Prelude.{◌≡◌, ◌≢◌, ◌++◌, ◌∷◌, [], true, false, List as Seq, ℕ, None, Some, IfOk, IfSome, IsErrOf, OnOk, map, option_map, codes};
+ghost use Rattle.std.specs.Prelude.{◌≡◌, ◌≢◌, ◌++◌, ◌∷◌, true, false, List as Seq, ℕ, None, Some, IfOk, IfSome, IsErrOf, OnOk, map, option_map, codes};
 ghost use Rattle.std.specs.List.{flat_map};
 ghost use Rattle.mo_syntax.specs.Lexeme.{lexemes};
 ghost use Rattle.std.specs.String.{string_bytes};

@@ -1,5 +1,5 @@
 //! The laws of the grammar, for every production of it. Each function does nothing: its contract is the law.
-ghost use Rattle.std.specs.Prelude.{◌≡◌, List, [], ◌++◌, true};
+ghost use Rattle.std.specs.Prelude.{◌≡◌, List, ◌++◌, true};
 ghost use Rattle.mo_syntax.specs.SoundTree.{Naming};
 ghost use Rattle.mo_grammar.specs.declared.fault.Fault.TheVariants.{Misplaced, Misnamed};
 ghost use Rattle.mo_grammar.specs.Lexeme.{Lexeme};

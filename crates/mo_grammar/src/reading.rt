@@ -1,5 +1,5 @@
 //! What readers of tokens are built of: the next token, tests of what comes next, and why reading halts.
-ghost use Rattle.std.specs.Prelude.{◌≡◌, ◌==◌, ◌<◌, ◌≤◌, ◌+◌, List as Seq, [], ◌∷◌, length, drop, map, IfOk, IfErr, IfSome, IfNone, Some, None, IsTrue, ◌↔◌, if◌then◌else◌};
+ghost use Rattle.std.specs.Prelude.{◌≡◌, ◌==◌, ◌<◌, ◌≤◌, ◌+◌, [], ◌∷◌, length, drop, map, IfOk, IfSome, IfNone, if◌then◌else◌};
 ghost use Rattle.mo_grammar.specs.Lexeme.{lexeme, lexemes, code_of, code_of_kind};
 ghost use Rattle.mo_grammar.specs.Grammar.{has};
 ghost use Rattle.mo_grammar.specs.Reading.{reads_token, next_in, next_two, place_of_first};

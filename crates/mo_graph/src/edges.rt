@@ -1,5 +1,5 @@
 //! The edges of a directed graph.
-ghost use Rattle.std.specs.Prelude.{◌≡◌, ◌++◌, ◌∷◌, [], IfOk, OnOk};
+ghost use Rattle.std.specs.Prelude.{◌≡◌, ◌++◌, ◌∷◌, [], OnOk};
 
 use mo_syntax::NoMemory;
 use std::alloc::Global;

@@ -1,5 +1,5 @@
 //! The order in which a search by depth finishes vertices.
-ghost use Rattle.std.specs.Prelude.{◌≡◌, ◌≢◌, ℕ, ◌+◌, ◌-◌, ◌<◌, ◌≤◌, length, slice_index};
+ghost use Rattle.std.specs.Prelude.{◌≡◌, ◌≢◌, ℕ, ◌+◌, ◌-◌, ◌<◌, length, slice_index};
 ghost use Rattle.mo_graph.specs.Edges.{IsGraph, AreThreaded, HasThreads};
 ghost use Rattle.mo_graph.specs.steps.Finishing.{Walks, IsFinished};
 

@@ -1,6 +1,6 @@
 //! Classes of vertices that chains lead to from each other (S. R. Kosaraju; M. Sharir, A strong-connectivity algorithm and its
 //! applications in data flow analysis, Comput. Math. Appl. 7, 1981).
-ghost use Rattle.std.specs.Prelude.{◌≡◌, ◌≢◌, ℕ, ◌+◌, ◌-◌, ◌<◌, ◌≤◌, length, slice_index};
+ghost use Rattle.std.specs.Prelude.{◌≡◌, ℕ, ◌+◌, ◌-◌, ◌<◌, ◌≤◌, length, slice_index};
 ghost use Rattle.mo_graph.specs.Edges.{IsGraph, AreThreaded};
 ghost use Rattle.mo_graph.specs.steps.Finishing.{IsFinished};
 ghost use Rattle.mo_graph.specs.steps.Gathering.{IsGathered, AreClasses};

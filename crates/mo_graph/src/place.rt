@@ -1,6 +1,6 @@
 //! Vertices placed one after another, each after those that it leads to, the least first (A. B. Kahn, Topological sorting of large
 //! networks, Comm. ACM 5, 1962). Of the vertices, those count that are their own leaders.
-ghost use Rattle.std.specs.Prelude.{◌≡◌, ◌≢◌, ℕ, ◌+◌, ◌-◌, ◌<◌, ◌≤◌, length, slice_index, IfOk, OnOk};
+ghost use Rattle.std.specs.Prelude.{◌≡◌, ℕ, ◌+◌, ◌-◌, ◌<◌, ◌≤◌, length, slice_index, IfOk, OnOk};
 ghost use Rattle.mo_graph.specs.Edges.{IsGraph, AreThreaded};
 ghost use Rattle.mo_graph.specs.steps.Placing.{waiting, leads_away, Has, HasReady, IsLed, HasRanks, Places, AreOrdered};
 

@@ -1,5 +1,5 @@
 //! The edges of a graph, threaded by one of their ends: each vertex leads to its last edge, and each edge to the one before it.
-ghost use Rattle.std.specs.Prelude.{◌≡◌, ℕ, ◌+◌, ◌-◌, ◌<◌, ◌≤◌, length, slice_index};
+ghost use Rattle.std.specs.Prelude.{◌≡◌, ℕ, ◌+◌, ◌<◌, ◌≤◌, length, slice_index};
 ghost use Rattle.mo_graph.specs.Edges.{AreThreaded};
 
 /// The edges of a graph, with threads through those that lead to the same vertex.

@@ -1,5 +1,5 @@
 //! Making an incidence from given rows.
-ghost use Rattle.std.specs.Prelude.{◌≡◌, ◌+◌, ◌<◌, ◌≤◌, ◌↔◌, IsTrue, IfOk, OnOk};
+ghost use Rattle.std.specs.Prelude.{◌≡◌, ◌<◌, ◌≤◌, ◌↔◌, IsTrue, IfOk, OnOk};
 ghost use Rattle.mo_incidence.specs.Signature.{IsSound};
 ghost use Rattle.mo_incidence.specs.steps.Given.{given, IsRow};
 

@@ -1,5 +1,5 @@
 //! The incidence of a flat model.
-ghost use Rattle.std.specs.Prelude.{◌≡◌, ◌+◌, None, Some, IfOk, OnOk, length, map};
+ghost use Rattle.std.specs.Prelude.{◌≡◌, None, Some, IfOk, OnOk, length};
 ghost use Rattle.mo_syntax.specs.declared.place.Broken.{Broken as Refusal};
 ghost use Rattle.mo_flat.specs.Roles.{unknown_numbers};
 ghost use Rattle.mo_flat.specs.Sound.{IsSoundModel};

@@ -1,7 +1,7 @@
 //! Which equations need which, as the edges of a graph.
-ghost use Rattle.std.specs.Prelude.{◌≡◌, ◌≢◌, ℕ, ◌+◌, ◌-◌, ◌<◌, ◌≤◌, ◌++◌, ◌∷◌, [], length, slice_index, IfSome, IfNone, IfOk, OnOk};
+ghost use Rattle.std.specs.Prelude.{◌≡◌, ℕ, ◌+◌, ◌-◌, ◌<◌, ◌≤◌, length, slice_index, IfSome, IfNone, IfOk, OnOk};
 ghost use Rattle.std.proofs.Common.{suc};
-ghost use Rattle.mo_incidence.specs.Signature.{equations, row_len, IsSound};
+ghost use Rattle.mo_incidence.specs.Signature.{equations, row_len};
 ghost use Rattle.mo_incidence.specs.Offsets.{HasPairs, HasSizes, by_number, by_place, pairs_of};
 ghost use Rattle.mo_incidence.specs.Assignment.{CoversAll};
 ghost use Rattle.mo_incidence.specs.Blocks.{NeedsBy};

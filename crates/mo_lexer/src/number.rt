@@ -1,6 +1,6 @@
 //! Numbers: digits, perhaps a point and digits, perhaps an exponent.
 
-ghost use Rattle.std.specs.Prelude.{◌≡◌, ◌≤◌, ◌^◌, ◌<◌, ◌↔◌, IsTrue, length, slice_index};
+ghost use Rattle.std.specs.Prelude.{◌≡◌, ◌≤◌, ◌↔◌, IsTrue, length};
 ghost use Rattle.std.specs.Str.Parse.{digits_value};
 ghost use Rattle.mo_lexer.specs.Spelling.{are_digits};
 ghost use Rattle.mo_lexer.specs.steps.Finding.{Finds, IsNumberFront, point_len, mark_len, exponent_len, begins_number};

@@ -1,11 +1,10 @@
 //! Children of frames: their elements, entered at an index (Modelica Language Specification 3.5, sections 7.2 and 7.3).
 #![tactic(auto, using(mo_names::proofs::Later::later))]
 
-ghost use Rattle.std.specs.Prelude.{◌≡◌, List as Seq, option_copied, option_map, map, IfOk, IfSome, Ok, Some};
+ghost use Rattle.std.specs.Prelude.{◌≡◌, option_copied, option_map, IfOk, IfSome, Ok, Some};
 ghost use Rattle.mo_scope.specs.Entries.{names_of as path_names};
 ghost use Rattle.mo_scope.specs.Names.{path_below as indexed_below};
 ghost use Rattle.mo_scope.specs.Outcome.{Gives};
-ghost use Rattle.mo_scope.specs.Parts.{redeclared as winning};
 ghost use Rattle.mo_scope.specs.Rows.{component_of};
 ghost use Rattle.mo_scope.specs.Sights.{declares_seen, redeclaration_at, member_at};
 ghost use Rattle.mo_scope.specs.Worlds.{Grows, IsFrame, frame_at, table_in};

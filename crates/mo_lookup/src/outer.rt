@@ -15,7 +15,7 @@ ghost use Rattle.mo_names.specs.Calls.{inner_component_at};
 
 use mo_names::{Found, Inherited, elements_kept_at};
 use mo_scope::{Member, MemberTable, Scopes, is_class, is_same_path};
-use mo_syntax::{FrameId, Place, Stop, Text, rules, stop};
+use mo_syntax::{FrameId, Place, Stop, rules, stop};
 use std::alloc::Global;
 
 /// Whether two elements are one declaration in one instance.

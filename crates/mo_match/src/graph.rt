@@ -1,6 +1,6 @@
 //! Which equation may have which unknown.
-ghost use Rattle.std.specs.Prelude.{◌≡◌, ◌≢◌, ◌+◌, ◌-◌, ◌<◌, ◌≤◌, ◌↔◌, [], length, true, false, IsTrue, IfSome, IfNone};
-ghost use Rattle.mo_incidence.specs.Signature.{equations, row_len, order_at, IsSound};
+ghost use Rattle.std.specs.Prelude.{◌≡◌, ◌+◌, ◌-◌, ◌<◌, ◌≤◌, [], length, true, false, IfSome, IfNone};
+ghost use Rattle.mo_incidence.specs.Signature.{equations, row_len};
 ghost use Rattle.mo_match.specs.Searching.{IsUsable, UsesEntry, tight_of};
 
 use mo_incidence::Counted;

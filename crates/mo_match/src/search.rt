@@ -1,5 +1,5 @@
 //! The search for an unknown that an equation can still have: breadth first along the bipartite graph, with a queue and no recursion.
-ghost use Rattle.std.specs.Prelude.{◌≡◌, ◌≢◌, ℕ, ◌+◌, ◌-◌, ◌<◌, ◌≤◌, length, slice_index, slice_set, IfNone, IfOk, IfSome};
+ghost use Rattle.std.specs.Prelude.{◌≡◌, ℕ, ◌+◌, ◌-◌, ◌<◌, ◌≤◌, length, slice_index, slice_set, IfNone, IfOk, IfSome};
 ghost use Rattle.mo_incidence.specs.Signature.{row_len, IsSound};
 ghost use Rattle.mo_match.specs.Searching.{IsFree, IsPassed, IsSearched};
 ghost use Rattle.mo_match.specs.Trees.{Gains, HasRoomAt, HasRoomFor, HasTree, IsUnmarkedTo, MatchesBy, ReachesBy};

@@ -1,12 +1,12 @@
 //! The unknowns that some assignment of all equations leaves out.
 ghost use Rattle.std.specs.Prelude.{◌≡◌, ◌≢◌, ℕ, ◌+◌, ◌-◌, ◌<◌, ◌≤◌, length, slice_index};
 ghost use Rattle.std.proofs.Common.{suc};
-ghost use Rattle.mo_incidence.specs.Signature.{equations, entries, IsSound};
+ghost use Rattle.mo_incidence.specs.Signature.{equations, entries};
 ghost use Rattle.mo_incidence.specs.Assignment.{Mentions, IsAssignment, CoversAll, IsUndetermined, ListsWhere};
 ghost use Rattle.mo_incidence.specs.Offsets.{by_place};
 ghost use Rattle.mo_match.specs.Searching.{IsMatching};
 ghost use Rattle.mo_match.specs.steps.Threads.{AreThreaded};
-ghost use Rattle.mo_match.specs.steps.Spreading.{IsSpread, Spreads, AreFreeMarked, IsSpreadFrom, IsSpreadTo, Marks};
+ghost use Rattle.mo_match.specs.steps.Spreading.{IsSpread, Spreads, AreFreeMarked, IsSpreadFrom, Marks};
 ghost use Rattle.mo_match.specs.Results.{IsMadeFor};
 
 use crate::largest::clear;

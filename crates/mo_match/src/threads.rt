@@ -1,5 +1,5 @@
 //! The entries of each unknown, threaded from the last one back: a transposed table in the room of two numbers for each entry.
-ghost use Rattle.std.specs.Prelude.{◌≡◌, ◌≢◌, ℕ, ◌+◌, ◌-◌, ◌<◌, ◌≤◌, length, slice_index};
+ghost use Rattle.std.specs.Prelude.{◌≡◌, ◌+◌, ◌-◌, ◌<◌, length};
 ghost use Rattle.std.proofs.Common.{suc};
 ghost use Rattle.mo_incidence.specs.Signature.{equations, row_len, entries, IsSound};
 ghost use Rattle.mo_match.specs.steps.Threads.{IsThreaded, AreThreaded};

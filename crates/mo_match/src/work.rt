@@ -1,5 +1,5 @@
 //! Room for the analyses of one incidence.
-ghost use Rattle.std.specs.Prelude.{◌≡◌, ◌≢◌, ◌+◌, ◌<◌, ◌≤◌, IfOk};
+ghost use Rattle.std.specs.Prelude.{◌≡◌, ◌+◌, ◌<◌, IfOk};
 ghost use Rattle.mo_match.specs.Results.{fresh};
 
 use crate::matching::Matching;

@@ -1,5 +1,5 @@
 //! What is left of modifiers on the way to a path.
-ghost use Rattle.std.specs.Prelude.{◌≡◌, ◌++◌, ◌∷◌, [], List as Seq, true, map, option_copied, option_map, if◌then◌else◌, IfOk, OnOk};
+ghost use Rattle.std.specs.Prelude.{◌≡◌, ◌++◌, ◌∷◌, [], List as Seq, true, map, option_copied, option_map, IfOk, OnOk};
 ghost use Rattle.std.specs.Option.{option_to_list};
 ghost use Rattle.mo_scope.specs.Frames.{Frame};
 ghost use Rattle.mo_scope.specs.Parts.{held, nested};

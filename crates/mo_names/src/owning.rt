@@ -3,9 +3,9 @@
 
 ghost use Rattle.std.specs.Prelude.{◌≡◌, None, map, IfOk, IfSome};
 ghost use Rattle.mo_scope.specs.Places.{Every};
-ghost use Rattle.mo_scope.specs.Worlds.{Grows, IsFrame, frame_at, frames_of, table_in};
-ghost use Rattle.mo_names.specs.steps.Settled.{AreOwned, IsOwned};
-ghost use Rattle.mo_names.specs.Sights.{AreThrough, IsBase, IsInherited, IsMember, IsWalk, frames_through, inherited_seen, member_of, walk_at};
+ghost use Rattle.mo_scope.specs.Worlds.{Grows, IsFrame, frame_at, frames_of};
+ghost use Rattle.mo_names.specs.steps.Settled.{AreOwned};
+ghost use Rattle.mo_names.specs.Sights.{AreThrough, IsBase, IsInherited, IsWalk, frames_through, inherited_seen, walk_at};
 ghost use Rattle.mo_names.specs.steps.Twins.{owned_by, owned_home, owned_inherited, owned_through, owned_walk};
 
 use crate::copying::frames_copied;
@@ -13,7 +13,7 @@ use crate::join::turned;
 use crate::start::{owner_of, path_copied};
 use crate::walk::{Inherited, Walk};
 use mo_scope::{Member, Scopes};
-use mo_syntax::{FrameId, List, NoMemory, Place, Stop, both, rules, stop};
+use mo_syntax::{FrameId, List, Place, Stop, both, rules, stop};
 use std::alloc::Global;
 
 /// A base of a frame that was entered as another frame's base is.

@@ -2,7 +2,6 @@
 ghost use Rattle.std.specs.Prelude.{◌≡◌, List as Seq, map, nat_eq};
 ghost use Rattle.mo_scope.specs.Lookup.{is_same_found};
 ghost use Rattle.mo_scope.specs.Frames.{Frame, class_of, is_same_base, listing_eq, same_listings};
-ghost use Rattle.mo_scope.specs.Rows.{place_eq};
 ghost use Rattle.mo_scope.specs.Sights.{listing_seen, source_seen};
 ghost use Rattle.mo_scope.specs.Worlds.{IsFrame, frame_at, sources_in};
 ghost use Rattle.mo_syntax.specs.ClassTable.{path_eq};

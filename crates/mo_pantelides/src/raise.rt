@@ -1,7 +1,6 @@
 //! The equations that a search in vain has reached are differentiated.
 ghost use Rattle.std.specs.Prelude.{◌≡◌, ◌≢◌, ℕ, ◌+◌, ◌-◌, ◌^◌, ◌<◌, ◌≤◌, length, slice_index, slice_set};
-ghost use Rattle.std.proofs.Common.{suc};
-ghost use Rattle.mo_incidence.specs.Signature.{equations, IsSound};
+ghost use Rattle.mo_incidence.specs.Signature.{equations};
 ghost use Rattle.mo_match.specs.Searching.{tight_of};
 ghost use Rattle.mo_match.specs.Trees.{HasTree, MatchesBy};
 ghost use Rattle.mo_pantelides.specs.steps.Raising.{AreRaised};

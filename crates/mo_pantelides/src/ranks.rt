@@ -5,7 +5,7 @@ ghost use Rattle.mo_incidence.specs.Assignment.{Mentions, Assigns, CoversAll};
 ghost use Rattle.mo_incidence.specs.Offsets.{IsTight, IsLeast, by_place, by_number};
 ghost use Rattle.mo_match.specs.Searching.{IsMatching};
 ghost use Rattle.mo_incidence.specs.Reasons.{LeadsTo, IsRank};
-ghost use Rattle.mo_pantelides.specs.steps.Ranks.{IsRanking, IsNear, RanksOn, IsStarting, IsRankingTo};
+ghost use Rattle.mo_pantelides.specs.steps.Ranks.{IsRanking, IsNear, RanksOn, IsStarting};
 
 use mo_incidence::Incidence;
 use mo_match::clear;

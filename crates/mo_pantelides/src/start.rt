@@ -1,5 +1,5 @@
 //! The offsets to begin with: the greatest order of each unknown.
-ghost use Rattle.std.specs.Prelude.{◌≡◌, ◌≢◌, ℕ, ◌+◌, ◌-◌, ◌<◌, ◌≤◌, length, slice_index};
+ghost use Rattle.std.specs.Prelude.{◌≡◌, ℕ, ◌+◌, ◌-◌, ◌<◌, ◌≤◌, length, slice_index};
 ghost use Rattle.mo_incidence.specs.Signature.{equations, row_len, unknown_at, order_at, entries};
 ghost use Rattle.mo_incidence.specs.Offsets.{BoundsOrders, by_number};
 

@@ -1,5 +1,5 @@
 //! Component clauses.
-ghost use Rattle.std.specs.Prelude.{◌≡◌, ◌<◌, ◌≤◌, List as Seq, [], ◌∷◌, length, IfOk};
+ghost use Rattle.std.specs.Prelude.{◌≡◌, ◌<◌, ◌≤◌, List as Seq, length, IfOk};
 ghost use Rattle.mo_grammar.specs.Lexeme.{Lexeme, lexemes};
 ghost use Rattle.mo_grammar.specs.Codes.{comma, if_word};
 ghost use Rattle.mo_grammar.specs.Grammar.{made, symbol};

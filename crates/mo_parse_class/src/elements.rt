@@ -1,5 +1,5 @@
 //! Elements of classes.
-ghost use Rattle.std.specs.Prelude.{◌≡◌, ◌<◌, ◌≤◌, List as Seq, [], ◌∷◌, length, IfOk, true};
+ghost use Rattle.std.specs.Prelude.{◌≡◌, ◌<◌, ◌≤◌, List as Seq, length, IfOk, true};
 ghost use Rattle.mo_grammar.specs.Lexeme.{Lexeme, lexemes};
 ghost use Rattle.mo_grammar.specs.Codes.{semicolon};
 ghost use Rattle.mo_grammar.specs.Grammar.{made, symbol};

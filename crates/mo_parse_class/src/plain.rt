@@ -1,5 +1,5 @@
 //! The readers of what has no class in it, as they stand in a class.
-ghost use Rattle.std.specs.Prelude.{◌≡◌, ◌<◌, ◌≤◌, length, IfOk};
+ghost use Rattle.std.specs.Prelude.{◌<◌, ◌≤◌, length, IfOk};
 ghost use Rattle.mo_grammar.specs.Lexeme.{lexemes};
 ghost use Rattle.mo_grammar.specs.Grammar.{either};
 ghost use Rattle.mo_grammar.specs.Symbols.{Expressions, References, Subscripts, TypeSpecs, ClassMods, EquationItems};

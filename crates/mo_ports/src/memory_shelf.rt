@@ -1,5 +1,5 @@
 //! A shelf that holds its files in memory, and fails where it is told to.
-ghost use Rattle.std.specs.Prelude.{◌≡◌, ℕ, ◌≤◌, ◌+◌, ◌-◌, ◌<◌, min, length, take, drop, Some, is_err, IfOk, IfSome, OnErr};
+ghost use Rattle.std.specs.Prelude.{◌≡◌, ◌≤◌, ◌-◌, ◌<◌, min, length, take, drop, Some, is_err, IfOk, IfSome, OnErr};
 ghost use Rattle.std.specs.Option.{option_copied};
 ghost use Rattle.mo_ports.specs.Contents.{bytes_of, ReadsAt};
 ghost use Rattle.mo_ports.specs.Counts.{raised};

@@ -1,7 +1,6 @@
 //! A shelf and a sink that never fail.
-ghost use Rattle.std.specs.Prelude.{◌≡◌, ◌≤◌, [], length, Some, None};
+ghost use Rattle.std.specs.Prelude.{◌≡◌, [], Some, None};
 ghost use Rattle.mo_ports.specs.Contents.{bytes_or_none, joined};
-ghost use Rattle.mo_ports.specs.Counts.{raised};
 
 use crate::memory_shelf::{copy_at, find};
 use crate::record::Record;

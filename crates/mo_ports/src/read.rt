@@ -1,5 +1,5 @@
 //! Reading the whole of a name.
-ghost use Rattle.std.specs.Prelude.{◌≡◌, ℕ, ◌≤◌, ◌<◌, Some, length, IfOk, OnOk, IfSome, IsErrOf};
+ghost use Rattle.std.specs.Prelude.{◌≡◌, ◌≤◌, ◌<◌, Some, length, IfOk, OnOk, IfSome, IsErrOf};
 ghost use Rattle.mo_ports.specs.Contents.{HoldsMoreThan};
 ghost use Rattle.mo_ports.specs.Counts.{Rose, RoseBeyond};
 

@@ -1,5 +1,5 @@
 //! Bytes by name, and the count of what fails.
-ghost use Rattle.std.specs.Prelude.{◌≡◌, ℕ, ◌≤◌, ◌+◌, [], ◌∷◌, List, Option, Some, length, IfOk, OnOk, OnErr, IfSome};
+ghost use Rattle.std.specs.Prelude.{◌≡◌, ℕ, ◌≤◌, [], ◌∷◌, List, Option, Some, length, IfOk, OnOk, OnErr, IfSome};
 ghost use Rattle.mo_ports.specs.Contents.{Contents, ReadsAt};
 ghost use Rattle.mo_ports.specs.Counts.{raised, Rose};
 

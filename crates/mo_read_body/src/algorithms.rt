@@ -1,5 +1,5 @@
 //! Statements.
-ghost use Rattle.std.specs.Prelude.{◌≡◌, ◌<◌, ◌≤◌, length, IfOk};
+ghost use Rattle.std.specs.Prelude.{◌<◌, ◌≤◌, length, IfOk};
 ghost use Rattle.mo_grammar.specs.Lexeme.{lexemes};
 ghost use Rattle.mo_grammar.specs.Symbols.{StatementItems};
 ghost use Rattle.mo_grammar.specs.Classes.{statements as statements_form, statement_kind as statement_kind_form};

@@ -1,5 +1,5 @@
 //! Declarations of components, and comments.
-ghost use Rattle.std.specs.Prelude.{◌≡◌, ◌<◌, ◌≤◌, length, IfOk};
+ghost use Rattle.std.specs.Prelude.{◌<◌, ◌≤◌, length, IfOk};
 ghost use Rattle.mo_grammar.specs.Classes.{annotation_part, comment as comment_form, declaration as declaration_form, constraint as constraint_form, component1, argument_declares};
 ghost use Rattle.mo_grammar.specs.Answers.{Gives, with_rest, ReadsAs, reads_inside};
 ghost use Rattle.mo_class_parts.specs.Seen.{no_trace, declared, declares};

@@ -1,5 +1,5 @@
 //! Equations.
-ghost use Rattle.std.specs.Prelude.{◌≡◌, ◌<◌, ◌≤◌, length, IfOk};
+ghost use Rattle.std.specs.Prelude.{◌<◌, length, IfOk};
 ghost use Rattle.mo_grammar.specs.Lexeme.{lexemes};
 ghost use Rattle.mo_grammar.specs.Symbols.{EquationItems, ForEquations};
 ghost use Rattle.mo_grammar.specs.Classes.{for_eq, connect_eq, equality_or_call as equality_or_call_form};

@@ -1,5 +1,5 @@
 //! Statements that hold statements.
-ghost use Rattle.std.specs.Prelude.{◌≡◌, ◌<◌, ◌≤◌, length, IfOk};
+ghost use Rattle.std.specs.Prelude.{◌<◌, ◌≤◌, length, IfOk};
 ghost use Rattle.mo_grammar.specs.Grammar.{many};
 ghost use Rattle.mo_grammar.specs.Lexeme.{code_of_kind};
 ghost use Rattle.mo_grammar.specs.Classes.{statement_branch, if_st, for_st, while_st, when_st};

@@ -1,5 +1,5 @@
 //! Short class definitions.
-ghost use Rattle.std.specs.Prelude.{◌≡◌, ◌<◌, ◌≤◌, length, IfOk};
+ghost use Rattle.std.specs.Prelude.{◌<◌, ◌≤◌, length, IfOk};
 ghost use Rattle.mo_grammar.specs.Codes.{comma};
 ghost use Rattle.mo_grammar.specs.Grammar.{either};
 ghost use Rattle.mo_grammar.specs.Forms.{behind};

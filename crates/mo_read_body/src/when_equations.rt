@@ -9,7 +9,7 @@ ghost use Rattle.mo_read_body.specs.steps.EquationParts.{in_when, when_branch as
 
 use crate::equations::equation_line;
 use mo_class_parts::ends_when_branch;
-use mo_grammar::{Reading, are_next, is_next, none_yet, past_limit, take};
+use mo_grammar::{Reading, is_next, none_yet, past_limit, take};
 use mo_read_expr::expression;
 use mo_syntax::TokenKind::Keyword;
 use mo_syntax::{Equation, EquationKind, Expr, List, Token};

@@ -1,5 +1,5 @@
 //! Arguments of calls, and iteration variables.
-ghost use Rattle.std.specs.Prelude.{◌≡◌, ◌<◌, ◌≤◌, [], ◌∷◌, length, IfOk};
+ghost use Rattle.std.specs.Prelude.{◌<◌, ◌≤◌, length, IfOk};
 ghost use Rattle.mo_grammar.specs.Lexeme.{lexemes};
 ghost use Rattle.mo_grammar.specs.Codes.{comma, equals, open_paren, close_paren, for_word};
 ghost use Rattle.mo_grammar.specs.Grammar.{seq, either, made, many, symbol};

@@ -1,5 +1,5 @@
 //! Expressions, from if-expressions down to powers.
-ghost use Rattle.std.specs.Prelude.{◌≡◌, ◌<◌, ◌≤◌, [], ◌∷◌, length, IfOk};
+ghost use Rattle.std.specs.Prelude.{◌<◌, ◌≤◌, length, IfOk};
 ghost use Rattle.mo_grammar.specs.Lexeme.{lexemes, code_of_kind};
 ghost use Rattle.mo_grammar.specs.Codes.{colon, or_word, and_word, then_word, else_word};
 ghost use Rattle.mo_grammar.specs.Grammar.{seq, many, symbol};

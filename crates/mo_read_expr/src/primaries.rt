@@ -1,5 +1,5 @@
 //! Primaries: literals, calls, and what stands in parentheses, brackets and braces.
-ghost use Rattle.std.specs.Prelude.{◌≡◌, ◌<◌, ◌≤◌, [], ◌∷◌, length, IfOk};
+ghost use Rattle.std.specs.Prelude.{◌<◌, ◌≤◌, length, IfOk};
 ghost use Rattle.mo_grammar.specs.Lexeme.{lexemes};
 ghost use Rattle.mo_grammar.specs.Codes.{comma, semicolon};
 ghost use Rattle.mo_grammar.specs.Grammar.{seq, many, made, placed, symbol};
@@ -15,11 +15,9 @@ use crate::expressions::{expression, expression_behind, optional_expression};
 use crate::references::reference;
 use mo_expr_parts::marks::{CALLED_WORDS, LITERALS, REFERENCE_STARTS};
 use mo_expr_parts::{InBraces, array_of, callee_of, expr_at, joined, literal, outputs_of};
-use mo_grammar::{
-    Reading, is, is_next, is_next_any, none_yet, past_limit, place_of, take, take_any,
-};
-use mo_syntax::TokenKind::{Decimal, Keyword, Operator, Str, Whole};
-use mo_syntax::{Callee, Expr, List, Node, Text, Token};
+use mo_grammar::{Reading, is_next, is_next_any, none_yet, past_limit, place_of, take, take_any};
+use mo_syntax::TokenKind::{Keyword, Operator};
+use mo_syntax::{Callee, Expr, List, Node, Token};
 use mo_tables::{keywords, operators};
 use std::alloc::Global;
 

@@ -1,7 +1,7 @@
 //! The classes that names of types and of constraining classes find.
 #![tactic(auto, using(crate::proofs::Later::later))]
 
-ghost use Rattle.std.specs.Prelude.{◌≡◌, IfOk};
+ghost use Rattle.std.specs.Prelude.{IfOk};
 ghost use Rattle.mo_scope.specs.Names.{scope_of_home};
 ghost use Rattle.mo_scope.specs.Outcome.{Gives};
 ghost use Rattle.mo_scope.specs.Worlds.{Grows, IsFrame, frame_at, table_in};

@@ -1,5 +1,5 @@
 //! Whether the text of a report can be written.
-ghost use Rattle.std.specs.Prelude.{◌≡◌, ◌≤◌, ◌<◌, ◌+◌, ◌↔◌, IsTrue, IfSome, IfNone, Some, true, false, slice_index};
+ghost use Rattle.std.specs.Prelude.{◌≡◌, ◌≤◌, ◌<◌, ◌+◌, ◌↔◌, IsTrue, IfSome, IfNone, Some, true, false};
 ghost use Rattle.mo_flat.specs.Roles.{is_unknown_role};
 ghost use Rattle.mo_report.specs.Size.{unknown_names, weight, report_size, report_limit};
 

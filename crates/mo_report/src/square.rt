@@ -1,6 +1,5 @@
 //! The lines of a square system: reasons, blocks, dummies, states, index and freedom.
 ghost use Rattle.std.specs.Prelude.{◌≡◌, ◌++◌, flat_map, [], ◌∷◌, string_bytes, OnOk};
-ghost use Rattle.mo_flat.specs.Text.{derivative_text};
 ghost use Rattle.mo_report.specs.Lines.{numbered, derivative, reason_line, block_line, dummy_line, state_line, number_lines, square_lines};
 
 use crate::pushing::{name_of, push_numbered};

@@ -1,12 +1,12 @@
 -- What is kept of bases that were entered.
 use Rattle.std.proofs.Common.{◌≡◌, ◌⊎◌, ℕ, inl, inr, Bool, true, false, cond, nat_eq, ◌&&◌, Option, Some, None, refl, ap, sym, subst, ◌∙◌, eqb-true}
-use Rattle.std.specs.Prelude.{IfSome, option_map, slice_get}
+use Rattle.std.specs.Prelude.{IfSome, option_map}
 use Rattle.mo_syntax.specs.declared.meaning.FrameId.{FrameId}
 use Rattle.mo_scope.specs.Entries.{number_of}
 use Rattle.mo_scope.specs.Frames.{Frame, class_of}
 use Rattle.mo_scope.specs.KeptBases.{AreEnteredBases, EntersBase, IsEnteredBase, IsThatBase, OldOrBase, is_base_key}
 use Rattle.mo_scope.specs.Lookup.{base_frame}
-use Rattle.mo_scope.specs.Rows.{Row, Clause, Base_of, row_at, table_of}
+use Rattle.mo_scope.specs.Rows.{row_at, table_of}
 use Rattle.mo_scope.specs.Worlds.{World, Grows, IsFrame, frame_at, row_of_frame, table_in}
 use Rattle.mo_scope.proofs.Entering.{both_true}
 use Rattle.mo_scope.proofs.Numbered.{frames_stay, is_frame_grown}

@@ -1,8 +1,6 @@
 //! Classes by number, and what they declare, by reference into the class tree.
 use crate::source::Modifiers;
-use mo_syntax::{
-    ClassDef, Component, ElementFlags, Extends, Import, Item, List, Place, Reference, Text,
-};
+use mo_syntax::{ClassDef, Component, ElementFlags, Import, Item, List, Place, Reference, Text};
 
 /// What is declared: a class by its number, or a component.
 #[derive(Clone, Copy)]

@@ -1,5 +1,5 @@
 //! The candidates and equations of a stage, in the order in which they are taken.
-ghost use Rattle.std.specs.Prelude.{◌≡◌, ◌≢◌, ℕ, ◌+◌, ◌-◌, ◌<◌, ◌≤◌, ◌++◌, length, slice_index, IfOk, OnOk};
+ghost use Rattle.std.specs.Prelude.{◌≡◌, ℕ, ◌+◌, ◌-◌, ◌<◌, ◌≤◌, ◌++◌, length, slice_index, IfOk, OnOk};
 ghost use Rattle.std.proofs.Common.{get_or, suc};
 ghost use Rattle.mo_incidence.specs.Offsets.{by_place, by_number};
 ghost use Rattle.mo_incidence.specs.Dummies.{differentiated};

@@ -1,11 +1,11 @@
 //! One stage: the chosen unknowns with their equations, and the evidence of each level.
-ghost use Rattle.std.specs.Prelude.{◌≡◌, ◌≢◌, ℕ, ◌+◌, ◌-◌, ◌<◌, ◌≤◌, [], length, take, map, slice_index, IfOk};
+ghost use Rattle.std.specs.Prelude.{◌≡◌, ℕ, ◌+◌, ◌-◌, ◌<◌, ◌≤◌, length, take, map, slice_index, IfOk};
 ghost use Rattle.std.proofs.Common.{get_or, suc};
 ghost use Rattle.mo_incidence.specs.Counting.{count_below};
 ghost use Rattle.mo_incidence.specs.Signature.{equations};
 ghost use Rattle.mo_incidence.specs.Offsets.{by_place, by_number};
 ghost use Rattle.mo_incidence.specs.steps.Needing.{AreOwners};
-ghost use Rattle.mo_select.specs.Selection.{below_level, chosen_of, levels};
+ghost use Rattle.mo_select.specs.Selection.{chosen_of};
 ghost use Rattle.mo_select.specs.steps.Staging.{taken, IsGreedyChoice, IsLeft, IsOpened, AreEvidence, IsMade};
 
 use crate::grow::greedy;

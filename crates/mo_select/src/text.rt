@@ -1,7 +1,7 @@
 //! The text of a selection.
 ghost use Rattle.std.specs.Prelude.{◌≡◌, ◌<◌, ◌+◌, ◌-◌, ◌++◌, [], flat_map, get_or, length, string_bytes, IfOk, OnOk};
 ghost use Rattle.mo_incidence.specs.Offsets.{by_number, by_place};
-ghost use Rattle.mo_report.specs.Lines.{lines_below, state_line};
+ghost use Rattle.mo_report.specs.Lines.{lines_below};
 ghost use Rattle.mo_select.specs.Text.{choice_line, equations_at, left_out, level_line, level_names, selection_lines, stage_head, stage_lines, stages_from};
 
 use crate::selection::{Selection, Stage};

@@ -1,10 +1,10 @@
 //! Which equations of a stage are tight at which candidates, as rows of incidences.
 ghost use Rattle.std.specs.Prelude.{◌≡◌, ◌≢◌, ℕ, ◌+◌, ◌-◌, ◌<◌, ◌≤◌, ◌++◌, ◌∷◌, [], length, vec_len, slice_index, IfSome, IfNone, IfOk, OnOk};
 ghost use Rattle.std.proofs.Common.{get_or, suc};
-ghost use Rattle.mo_incidence.specs.Signature.{equations, row_len, unknown_at, order_at, IsSound};
+ghost use Rattle.mo_incidence.specs.Signature.{equations, row_len, unknown_at, order_at};
 ghost use Rattle.mo_incidence.specs.Offsets.{by_place, by_number};
-ghost use Rattle.mo_incidence.specs.steps.Needing.{IsNeed, AreOwners};
-ghost use Rattle.mo_select.specs.steps.Ties.{entries_in, HasTies, IsOpen, IsOpenRow, AreOpenRows};
+ghost use Rattle.mo_incidence.specs.steps.Needing.{AreOwners};
+ghost use Rattle.mo_select.specs.steps.Ties.{entries_in, HasTies, IsOpenRow, AreOpenRows};
 
 use mo_incidence::Incidence;
 use mo_syntax::NoMemory;

@@ -1,8 +1,8 @@
 //! The kinds of flat expressions.
-ghost use Rattle.std.specs.Prelude.{◌≡◌, ◌∷◌, [], ◌++◌, ◌&&◌, List as Seq, Option as Maybe, None, map, option_map, if◌then◌else◌};
+ghost use Rattle.std.specs.Prelude.{◌≡◌, ◌∷◌, [], List as Seq, Option as Maybe, None, map, option_map, if◌then◌else◌};
 ghost use Rattle.std.specs.List.{list_all, list_any};
 ghost use Rattle.mo_flat.specs.Roles.{variable_at};
-ghost use Rattle.mo_flat.specs.Sound.{FlatKind, real, truth, call_kind as call_kind_of, common_kind, flat_kind, is_numeric as is_numeric_kind, is_truth as is_truth_kind, kept_kind as kept_kind_of, kind_of as kind_of_flat, number_kind, where_holds};
+ghost use Rattle.mo_flat.specs.Sound.{FlatKind, real, truth, call_kind as call_kind_of, common_kind, flat_kind, is_truth as is_truth_kind, kept_kind as kept_kind_of, kind_of as kind_of_flat, where_holds};
 ghost use Rattle.mo_sound.specs.SoundKinds.{AreSummed, kind_seen, product_kind as product_kind_of};
 
 use crate::shapes::is_one_of;

@@ -1,5 +1,5 @@
 //! The derivative of an expression, and an expression with its derivatives carried out.
-ghost use Rattle.std.specs.Prelude.{◌≡◌, IfOk, IsTrue, true, false};
+ghost use Rattle.std.specs.Prelude.{◌≡◌, IfOk, true, false};
 ghost use Rattle.mo_symdiff.specs.Carried.{carried, carries, differentiates};
 ghost use Rattle.mo_symdiff.specs.Derivative.{derived};
 ghost use Rattle.mo_symdiff.specs.Refusal.{of_given};

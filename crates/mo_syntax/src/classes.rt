@@ -1,7 +1,7 @@
 //! How many classes stand in the parts of a tree, at any depth, those in arguments of modifier lists included.
 //!
 //! One function for each kind of list, all in one cycle. Each sum stays at the greatest `u32` once it is reached.
-ghost use Rattle.std.specs.Prelude.{◌≡◌, ◌-◌, ◌^◌, ◌+◌, min, sum_by};
+ghost use Rattle.std.specs.Prelude.{◌≡◌, ◌-◌, ◌^◌, min, sum_by};
 ghost use Rattle.mo_syntax.specs.ClassTable.{class_count as classes_in_files};
 ghost use Rattle.mo_syntax.specs.steps.Parts.{classes_in_body, classes_in_class, classes_in_give, classes_in_item, classes_in_what, classes_in_element, classes_in_extending, classes_in_file};
 

@@ -1,7 +1,7 @@
 //! The class with a path, by a search that counts the classes which it passes over.
 //!
 //! A class inside another is looked for only where each name before has matched, so no path is written down.
-ghost use Rattle.std.specs.Prelude.{◌≡◌, ◌+◌, ◌^◌, ◌<◌, ◌≤◌, List as Seq, ℕ, [], ◌∷◌, ◌++◌, length, take, sum_by, IfSome, IfNone, true};
+ghost use Rattle.std.specs.Prelude.{◌≡◌, ◌+◌, ◌^◌, ◌<◌, List as Seq, ℕ, [], ◌∷◌, ◌++◌, length, take, sum_by, IfSome, IfNone, true};
 ghost use Rattle.std.specs.Bool.{OnTrue, OnFalse};
 ghost use Rattle.std.specs.Option.{option_map};
 ghost use Rattle.mo_syntax.specs.Classes.{Under, Apart, each, outline_of_body, outline_of_item, outline_of_element};

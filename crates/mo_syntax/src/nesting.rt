@@ -1,5 +1,5 @@
 //! How deep classes stand in each other.
-ghost use Rattle.std.specs.Prelude.{◌≡◌, ◌-◌, ◌^◌, ◌+◌, min};
+ghost use Rattle.std.specs.Prelude.{◌≡◌, ◌-◌, ◌^◌, min};
 ghost use Rattle.mo_syntax.specs.Depth.{greatest_by, depth_of, depth_in_body, depth_in_item, depth_in_what};
 
 use crate::class::{Body, ClassDef, Item, What};

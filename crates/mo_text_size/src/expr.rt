@@ -1,6 +1,6 @@
 //! The bytes of expressions.
 ghost use Rattle.std.specs.Prelude.{◌≡◌, ◌++◌, codes, map};
-ghost use Rattle.mo_flat.specs.Text.{branches_text, chain_text, expr_text, factors_text, function_name, operand, printed, relation_mark, terms_text};
+ghost use Rattle.mo_flat.specs.Text.{branches_text, chain_text, expr_text, factors_text, function_name, operand, printed, terms_text};
 ghost use Rattle.mo_text_size.specs.Bytes.{bytes};
 
 use crate::pieces::{

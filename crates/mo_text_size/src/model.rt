@@ -1,5 +1,5 @@
 //! The bytes of models: a line for each variable, equation and assert.
-ghost use Rattle.std.specs.Prelude.{◌≡◌, ◌++◌, flat_map, option_copied};
+ghost use Rattle.std.specs.Prelude.{◌≡◌, ◌++◌, flat_map};
 ghost use Rattle.mo_flat.specs.Text.{assert_level_text, assert_line, attribute_text, attributes_text, binding_text, equation_line, model_text, section_text, variable_line};
 ghost use Rattle.mo_text_size.specs.Bytes.{bytes};
 

@@ -1,5 +1,5 @@
 //! The names that files declare, in the order of the text.
-ghost use Rattle.std.specs.Prelude.{◌≡◌, ◌++◌, map, true, false, IfOk};
+ghost use Rattle.std.specs.Prelude.{true, false, IfOk};
 ghost use Rattle.mo_syntax.specs.Classes.{Inside, Apart, each, outline_of_body, outline_of_give, outline_of_item, outline_of_what, outline_of_element};
 ghost use Rattle.mo_syntax.specs.steps.Parts.{outline_of_class, outline_of_extending, marked};
 ghost use Rattle.mo_tree.specs.Keys.{home_of, Lists};

@@ -1,6 +1,6 @@
 //! What the kinds of operands agree on: the kind of each operation by those of its operands, or the rule that they break at its
 //! place.
-ghost use Rattle.std.specs.Prelude.{◌≡◌, ◌||◌, [], ◌∷◌, nat_eq, nat_lt};
+ghost use Rattle.std.specs.Prelude.{◌≡◌, ◌||◌};
 ghost use Rattle.mo_tables.specs.declared.functions.TheConstants.{ABS, ATAN2, CROSS, IDENTITY, MAX, MIN, NDIMS, NO_EVENT, PRODUCT, SUM, TRANSPOSE};
 ghost use Rattle.mo_typing.specs.Kinds.{common, number, wider, with_number, arithmetic, is_truth, truth, with_truth, joined, settled, are_enumerations, is_accepted, accepts, relation, is_number, numeric, real_of, kept, both_numeric, call_of_one, call_of_two, takes_sizes, divided, raised};
 

@@ -1,11 +1,11 @@
 //! Subscripts that lie outside their dimensions.
-ghost use Rattle.std.specs.Prelude.{◌≡◌, map, IfOk, Ok, Err};
+ghost use Rattle.std.specs.Prelude.{◌≡◌, IfOk, Ok, Err};
 ghost use Rattle.std.specs.List.{list_all};
 ghost use Rattle.std.specs.Option.{option_map};
-ghost use Rattle.mo_syntax.specs.Outcome.{and_then, IfBroken};
-ghost use Rattle.mo_typing.specs.Outcome.{each, Gives};
+ghost use Rattle.mo_syntax.specs.Outcome.{IfBroken};
+ghost use Rattle.mo_typing.specs.Outcome.{Gives};
 ghost use Rattle.mo_typing.specs.Shape.{shape_of};
-ghost use Rattle.mo_typing.specs.Subscripts.{subscripts_of, subscripts_of_node, is_within, within, subscript, subscripts, both, every, fine, of_option, size_number, part_of};
+ghost use Rattle.mo_typing.specs.Subscripts.{subscripts_of, subscripts_of_node, is_within, within, subscript, subscripts, both, every, of_option, size_number, part_of};
 
 use crate::shapes::{Signed, shape};
 use mo_flat::{ArrayExpr, ArrayNode, Subscript};

@@ -1,10 +1,10 @@
 //! Dimensions that functions, subscripts, ranges and sizes give. Each call answers want of memory where there is none.
-ghost use Rattle.std.specs.Prelude.{◌≡◌, ◌∷◌, [], ◌++◌, ◌≢◌, pos, map, drop, IfOk, OnOk};
+ghost use Rattle.std.specs.Prelude.{◌≡◌, ◌∷◌, [], ◌++◌, drop, IfOk, OnOk};
 ghost use Rattle.mo_typing.specs.Outcome.{Gives};
 ghost use Rattle.mo_typing.specs.Dims.{transposed, crossed, call_of_one, call_of_two, kept, subscripted, is_past, range, size, sizes_of, shaped, filled, size_dims};
 
 use crate::agree::takes_sizes;
-use crate::operands::{list_of_one, list_of_two, related, scalar};
+use crate::operands::{list_of_one, related, scalar};
 use mo_flat::Subscript;
 use mo_syntax::{Broken, List, NoMemory, Place, Stop, broken, rules};
 use mo_tables::functions;

@@ -1,7 +1,7 @@
 //! The dimensions of expressions whose dimensions break no rule, read off the operands that decide them.
-ghost use Rattle.std.specs.Prelude.{◌≡◌, ◌-◌, ◌++◌, ◌∷◌, [], map, fold, length, take, IfOk, None};
+ghost use Rattle.std.specs.Prelude.{◌≡◌, ◌-◌, ◌++◌, ◌∷◌, [], map, fold, length, IfOk, None};
 ghost use Rattle.mo_typing.specs.Dims.{is_scalar, behind, shaped, size_dims};
-ghost use Rattle.mo_typing.specs.Shape.{operand, power_shape, front, shape_of, shape_of_node, or_scalar, added, multiplied, is_matrix_factor, product_dims, joined, call_shape, size_of, range_shape, swapped, first};
+ghost use Rattle.mo_typing.specs.Shape.{operand, power_shape, front, shape_of, shape_of_node, or_scalar, added, multiplied, is_matrix_factor, product_dims, call_shape, size_of, range_shape, swapped, first};
 
 use crate::extents::{range, shaped, subscripted};
 use mo_flat::{ArrayExpr, ArrayNode};

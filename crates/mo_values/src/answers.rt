@@ -1,5 +1,5 @@
 //! Operations on the answers of a walk: an operand that halts halts its operation.
-ghost use Rattle.std.specs.Prelude.{◌≡◌, [], ◌∷◌, Ok};
+ghost use Rattle.std.specs.Prelude.{[], ◌∷◌, Ok};
 ghost use Rattle.mo_syntax.specs.Outcome.{Outcome, and_then};
 ghost use Rattle.mo_values.specs.declared.value.Reckoned.{Reckoned};
 ghost use Rattle.mo_values.specs.declared.value.Reckoned.TheVariants.{Unknown};

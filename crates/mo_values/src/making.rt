@@ -7,7 +7,6 @@ ghost use Rattle.mo_typing.specs.Dims.{dims_of};
 ghost use Rattle.mo_values.specs.Made.{is_joined, is_string_sum, sum_of, is_matrix, power_of, range_of, chosen, made_end, takes, derivative_of, known_number};
 
 use crate::context::Context;
-use crate::layers::answer;
 use crate::value::Scalar;
 use mo_flat::{ArrayExpr, ArrayNode};
 use mo_syntax::{Boxed, Broken, Kind, List, NoMemory, Place, Stop, broken, rules};

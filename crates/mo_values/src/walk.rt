@@ -1,12 +1,12 @@
 //! What is known of a resolved expression at an index.
-ghost use Rattle.std.specs.Prelude.{◌≡◌, ◌<◌, ◌≤◌, ◌++◌, ◌∷◌, [], ℕ, map, fold, length, Ok, slice_get, slice_range};
+ghost use Rattle.std.specs.Prelude.{◌<◌, ◌≤◌, ◌++◌, ◌∷◌, [], ℕ, map, fold, length, Ok, slice_get, slice_range};
 ghost use Rattle.std.specs.Option.{option_map};
-ghost use Rattle.mo_syntax.specs.Outcome.{Outcome, and_then};
+ghost use Rattle.mo_syntax.specs.Outcome.{Outcome};
 ghost use Rattle.mo_typing.specs.Indices.{indices};
 ghost use Rattle.mo_values.specs.declared.value.Reckoned.{Reckoned};
 ghost use Rattle.mo_values.specs.declared.value.Reckoned.TheVariants.{Unknown};
 ghost use Rattle.mo_values.specs.Scalars.{Known, of_known, read_all, chained};
-ghost use Rattle.mo_values.specs.Walk.{known_by, result_of_node, part_of, signed_of, branch_of, at, number, sum_at, branch_reads, read_as, result_at, crossed, crossed_at, call, call_of_one, call_of_two, element_among, sized_element, undecided_behind};
+ghost use Rattle.mo_values.specs.Walk.{known_by, result_of_node, part_of, signed_of, branch_of, at, number, sum_at, branch_reads, read_as, crossed, crossed_at, call, call_of_one, call_of_two, element_among, sized_element};
 ghost use Rattle.mo_values.specs.Told.{AreRead, Tells, TellsElement};
 ghost use Rattle.mo_values.specs.steps.Chains.{chain_before, begun_by, behind_last, acting, inner_term, inner_sum, gathered, product_of_two};
 
