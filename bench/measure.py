@@ -116,6 +116,12 @@ def bank(n):
     return head + model([f"parameter Real Rs[{n}] = fill(3, {n})", f"R r[{n}](R = Rs, T = 2*Rs)"], [])
 
 
+def indices(n):
+    """An array of n Integers, each of which is read for its value, and a loop over it."""
+    listed = ", ".join(str(k) for k in range(1, n + 1))
+    return model([f"parameter Integer k[{n}] = {{{listed}}}", f"Real x[{n}]"], ["for i in k loop x[i] = i; end for"])
+
+
 def parts(n):
     """Components of a library: n resistors, each with a capacitor to the ground, as the standard library declares them."""
     declared = [f"Resistor r{k}(R = {k + 1}.0)" for k in range(n)] + [f"L.Basic.Capacitor c{k}(C = {k + 1}.0)" for k in range(n)]
@@ -191,6 +197,7 @@ SERIES = {
     "parts": (parts, "flat", (100, 300, 900)),
     "table": (table, "flat", (100, 300, 900)),
     "bank": (bank, "flat", (300, 900, 2700)),
+    "indices": (indices, "flat", (900, 2700, 8100)),
     "apart": (apart, "report", (5000, 15000, 45000)),
     "circuit": (circuit, "report", (2500, 7500, 22500)),
     "dense": (dense, "report", (25000, 75000, 225000)),

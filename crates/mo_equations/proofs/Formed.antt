@@ -174,7 +174,7 @@ goes_turned u v a b n g = record {
   grows = g.grows;
   leaves = g.leaves;
   asked = g.asked;
-  desk = record { reader = g.desk.reader; leaves = g.desk.leaves; constants = g.desk.constants; binding = g.desk.binding; shared = g.desk.shared; asked = g.desk.asked };
+  desk = record { reader = g.desk.reader; leaves = g.desk.leaves; constants = g.desk.constants; binding = g.desk.binding; read = g.desk.read; shared = g.desk.shared; asked = g.desk.asked };
 }
 
 pub goes_taken : (u v : World) (a b c : Desk) → Goes u v a b → c ≡ record b { turns = b.turns + 1 } → Goes u v a c

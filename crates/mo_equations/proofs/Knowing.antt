@@ -1,7 +1,7 @@
 -- What is known of expressions, one number after another.
 use Rattle.std.proofs.Common.{◌≡◌, ℕ, ℤ, ◌+◌, ◌<◌, ◌≤◌, List, [], ◌∷◌, get_or, length, map, Result, Ok, Err, refl, ap, sym, ◌∙◌, subst}
 use Rattle.std.proofs.lemmas.Option.{get_or_from_slice_get}
-use Rattle.mo_syntax.specs.Outcome.{Outcome, and_then, breach}
+use Rattle.mo_syntax.specs.Outcome.{IfBroken, Outcome, and_then, breach}
 use Rattle.mo_syntax.specs.declared.expr.Expr.{Expr}
 use Rattle.mo_syntax.specs.declared.meaning.Kind.{Kind}
 use Rattle.mo_syntax.specs.declared.meaning.Kind.TheVariants.{Real, Whole, Truth, Str, Enumeration}
@@ -14,15 +14,17 @@ use Rattle.mo_flat.specs.declared.array.ArrayNode.{ArrayNode, ArrayNode-F, para-
 use Rattle.mo_flat.specs.declared.array.ArrayNode.TheVariants.{Range, rolls-Range}
 use Rattle.mo_scope.specs.Outcome as seen
 use Rattle.mo_scope.specs.Rows.{Table}
-use Rattle.mo_scope.specs.Frames.{Scope}
-use Rattle.mo_scope.specs.Worlds.{World, Grows, frames_of, table_in}
+use Rattle.mo_scope.specs.declared.source.ScopeAt.{ScopeAt}
+use Rattle.mo_scope.specs.Frames.{Frame, Scope}
+use Rattle.mo_scope.specs.Sights.{scope_at}
+use Rattle.mo_scope.specs.Worlds.{World, Grows, IsFrame, frames_of, scope_in, table_in}
 use Rattle.mo_syntax.specs.declared.rules.TheConstants.{WRONG_TYPE}
 use Rattle.mo_typing.specs.Dims.{Dims}
 use Rattle.mo_typing.specs.Indices.{Index, numbers_to, range_element}
 use Rattle.mo_typing.specs.Kinds.{Part as KindPart, kind_of, kind_of_node, kind_node, kind_part}
 use Rattle.mo_typing.specs.Outcome.{Gives, each}
 use Rattle.mo_typing.specs.Subscripts.{Checked}
-use Rattle.mo_names.proofs.Later.{table_later}
+use Rattle.mo_names.proofs.Later.{frame_later, table_later}
 use Rattle.mo_eval.specs.declared.virtuals.Resolved.{Resolved as ResolvedAt}
 use Rattle.mo_values.specs.Asked.{layered, must_be_whole, only_whole}
 use Rattle.mo_eval.specs.References.{numbers_of}
@@ -33,11 +35,14 @@ use Rattle.mo_eval.specs.Components.{place_of, reader}
 use Rattle.mo_values.specs.Scalars.{Known, settled}
 use Rattle.mo_values.specs.Walk.{kind_or_real, known_by, known_part, result_node, result_of_node}
 use Rattle.mo_eval.specs.Virtuals.{known_of_virtuals, numbered, Resolved, Virtual}
+use Rattle.mo_eval.specs.InScope.{resolved_for_value_in_scope}
 use Rattle.mo_eval.specs.Seen.{AreThere, resolved_seen}
 use Rattle.mo_eval.specs.Values.{known_of, most_references, reading, resolved_for_value}
 use Rattle.mo_eval.proofs.Grown.{same_virtuals}
 use Rattle.mo_equations.specs.Equations.{range_numbers, vector_size}
 use Rattle.mo_equations.specs.Leaves.{Tree}
+use Rattle.mo_equations.specs.declared.standing.Asked.{Asked}
+use Rattle.mo_equations.specs.steps.Layers.{fit_of, wanted_of}
 use Rattle.mo_equations.specs.steps.Ranges.{known_so}
 use Rattle.mo_equations.proofs.Eaching.{Left, left_halts}
 use Rattle.mo_equations.proofs.Ranged.{length_numbers, number_at}
@@ -46,7 +51,27 @@ pub known_then : (table : Table) (wanted : Kind → Checked) (fit : Dims → Che
     resolved_for_value table most_references scope e ≡ Ok r → layered wanted fit r.expression ≡ Ok tt → Gives result (known_of table most_references r index) → Gives result (known_so table wanted fit scope e index)
 known_then table wanted fit scope e index r result is fine h = rw (is, fine) h
 
+-- a refusal to resolve it
+pub unknown_so : (T : Type 0) (table : Table) (wanted : Kind → Checked) (fit : Dims → Checked) (scope : Scope) (e : Expr) (index : Index) (stop : Stop) →
+    IfBroken {T = T} (Err stop) (λ broken. resolved_for_value table most_references scope e ≡ Err broken) → Gives {T = Known} (Err stop) (known_so table wanted fit scope e index)
+unknown_so T table wanted fit scope e index (broken_by broken) is = rw is refl
+unknown_so T table wanted fit scope e index no_memory is = tt
+
 -- in a later world
+pub known_now : (u v : World) (asked : Asked) → Grows u v → IsFrame u asked.at.now.frame.0 →
+    known_so (table_in v) (wanted_of asked.layers.want asked.layers.place) (fit_of asked.layers.fit asked.layers.place) (scope_in (frames_of v) asked.at.now.frame.0 asked.at.now.iters) asked.value.now asked.index.now
+    ≡ known_so (table_in u) (wanted_of asked.layers.want asked.layers.place) (fit_of asked.layers.fit asked.layers.place) (scope_in (frames_of u) asked.at.now.frame.0 asked.at.now.iters) asked.value.now asked.index.now
+known_now u v asked g at =
+    let wanted = wanted_of asked.layers.want asked.layers.place in
+    let fit = fit_of asked.layers.fit asked.layers.place in
+    ap (λ (table : Table). known_so table wanted fit (scope_in (frames_of v) asked.at.now.frame.0 asked.at.now.iters) asked.value.now asked.index.now) (table_later u v g)
+    ∙ ap (λ (frame : Frame). known_so (table_in u) wanted fit (record { frame = frame; iterations = asked.at.now.iters }) asked.value.now asked.index.now) (frame_later u v asked.at.now.frame.0 g at)
+
+pub resolved_now : (u v : World) (at : ScopeAt) (e : Expr) → Grows u v → IsFrame u at.frame.0 → resolved_for_value_in_scope v most_references at e ≡ resolved_for_value_in_scope u most_references at e
+resolved_now u v at e g is =
+    ap (λ (table : Table). resolved_for_value table most_references (scope_at v at) e) (table_later u v g)
+    ∙ ap (λ (frame : Frame). resolved_for_value (table_in u) most_references (record { frame = frame; iterations = at.iters }) e) (frame_later u v at.frame.0 g is)
+
 pub known_later : (u v : World) (r : ResolvedAt) (index : Index) → Grows u v → AreThere u r.virtuals →
     known_of (table_in v) most_references (resolved_seen (frames_of v) r) index ≡ known_of (table_in u) most_references (resolved_seen (frames_of u) r) index
 known_later u v r index g are =

@@ -25,17 +25,18 @@ use Rattle.mo_equations.specs.declared.desk.ArrayBinding.{ArrayBinding}
 use Rattle.mo_equations.specs.declared.desk.Desk.{Desk}
 use Rattle.mo_equations.specs.declared.desk.KeptConstant.{KeptConstant}
 use Rattle.mo_equations.specs.declared.desk.SharedExpression.{SharedExpression}
+use Rattle.mo_equations.specs.declared.desk.ValueBinding.{ValueBinding}
 use Rattle.mo_equations.specs.declared.leaves.Leaves.{Leaves}
 use Rattle.mo_equations.specs.Connectors.{is_connector, is_declared_flow}
 use Rattle.mo_equations.specs.Counted.{IsTreeOf}
 use Rattle.mo_equations.specs.Leaves.{Tree, number_of, place_of_root}
 use Rattle.mo_equations.specs.Replacing.{constant, flat_variable}
-use Rattle.mo_equations.specs.steps.Arrays.{IsArrayBinding}
+use Rattle.mo_equations.specs.steps.Arrays.{IsArrayBinding, IsValueBinding}
 use Rattle.mo_equations.specs.steps.Desks.{Goes, IsConstantKept, IsDesk, Stays}
 use Rattle.mo_equations.specs.steps.Standing.{replacing_in, tree_in}
 use Rattle.mo_equations.specs.steps.LeafTables.{AreLeaves, is_flow_by, leaves_in, paths_that}
 use Rattle.mo_equations.specs.steps.Sharing.{IsShared}
-use Rattle.mo_equations.proofs.ArrayBindings.{array_binding_later}
+use Rattle.mo_equations.proofs.ArrayBindings.{array_binding_later, value_binding_later}
 use Rattle.mo_equations.proofs.SharedExpressions.{all_shared_later}
 
 -- ---- chosen expressions
@@ -149,6 +150,10 @@ binding_later : (u v : World) (leaves : Leaves) (o : Option ArrayBinding) → Gr
 binding_later u v leaves None g same is = tt
 binding_later u v leaves (Some binding) g same is = array_binding_later u v leaves leaves binding g same is
 
+read_later : (u v : World) (o : Option ValueBinding) → Grows u v → IfSome o (IsValueBinding u) → IfSome o (IsValueBinding v)
+read_later u v None g is = tt
+read_later u v (Some binding) g is = value_binding_later u v binding g is
+
 -- a desk whose reader has read more, in a later world
 pub desk_later : (u v : World) (desk : Desk) (reader : Reader) → Grows u v → IsKept v reader → IsDesk u desk → IsDesk v (record desk { reader = reader })
 desk_later u v desk reader g kept is = record {
@@ -156,6 +161,7 @@ desk_later u v desk reader g kept is = record {
   leaves = leaves_later u v desk.leaves g is.leaves;
   constants = λ k one at. constant_later u v desk.leaves one g is.leaves.exist (is.constants k one at);
   binding = binding_later u v desk.leaves desk.binding g (tree_later u v desk.leaves g is.leaves.exist) is.binding;
+  read = read_later u v desk.read g is.read;
   shared = all_shared_later u v desk.leaves desk.leaves desk.shared.items g (tree_later u v desk.leaves g is.leaves.exist) is.shared;
   asked = is.asked ∙ ap place_of_root (sym (tree_later u v desk.leaves g is.leaves.exist));
 }
@@ -202,7 +208,7 @@ without_binding u a is = record {
     grows = grows_refl u;
     leaves = refl;
     asked = refl;
-    desk = record { reader = is.reader; leaves = is.leaves; constants = is.constants; binding = tt; shared = is.shared; asked = is.asked };
+    desk = record { reader = is.reader; leaves = is.leaves; constants = is.constants; binding = tt; read = is.read; shared = is.shared; asked = is.asked };
   };
   turns = refl;
 }
@@ -213,7 +219,30 @@ with_binding u v a b binding stays is = record {
     grows = stays.goes.grows;
     leaves = stays.goes.leaves;
     asked = stays.goes.asked;
-    desk = record { reader = stays.goes.desk.reader; leaves = stays.goes.desk.leaves; constants = stays.goes.desk.constants; binding = is; shared = stays.goes.desk.shared; asked = stays.goes.desk.asked };
+    desk = record { reader = stays.goes.desk.reader; leaves = stays.goes.desk.leaves; constants = stays.goes.desk.constants; binding = is; read = stays.goes.desk.read; shared = stays.goes.desk.shared; asked = stays.goes.desk.asked };
+  };
+  turns = stays.turns;
+}
+
+-- what was read for its value, taken out and put back
+pub without_read : (u : World) (a : Desk) → IsDesk u a → Stays u u a (record a { read = None })
+without_read u a is = record {
+  goes = record {
+    grows = grows_refl u;
+    leaves = refl;
+    asked = refl;
+    desk = record { reader = is.reader; leaves = is.leaves; constants = is.constants; binding = is.binding; read = tt; shared = is.shared; asked = is.asked };
+  };
+  turns = refl;
+}
+
+pub with_read : (u v : World) (a b : Desk) (binding : ValueBinding) → Stays u v a b → IsValueBinding v binding → Stays u v a (record b { read = Some binding })
+with_read u v a b binding stays is = record {
+  goes = record {
+    grows = stays.goes.grows;
+    leaves = stays.goes.leaves;
+    asked = stays.goes.asked;
+    desk = record { reader = stays.goes.desk.reader; leaves = stays.goes.desk.leaves; constants = stays.goes.desk.constants; binding = stays.goes.desk.binding; read = is; shared = stays.goes.desk.shared; asked = stays.goes.desk.asked };
   };
   turns = stays.turns;
 }
@@ -225,7 +254,7 @@ with_shared u a shared is are = record {
     grows = grows_refl u;
     leaves = refl;
     asked = refl;
-    desk = record { reader = is.reader; leaves = is.leaves; constants = is.constants; binding = is.binding; shared = are; asked = is.asked };
+    desk = record { reader = is.reader; leaves = is.leaves; constants = is.constants; binding = is.binding; read = is.read; shared = are; asked = is.asked };
   };
   turns = refl;
 }

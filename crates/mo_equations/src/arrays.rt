@@ -25,6 +25,14 @@ use mo_scope::{Instance, Member, Scopes};
 use mo_syntax::{FrameId, Stop};
 use std::alloc::Global;
 
+/// Whether an instance is an element of an array.
+pub(crate) fn is_in_array(instance: &Instance) -> bool {
+    match instance.path.0.as_slice() {
+        [.., last] => !last.1.is_empty(),
+        [] => false,
+    }
+}
+
 /// Whether a frame is known to be the one that an element of a component is entered as.
 fn is_entered_as<'t>(s: &Scopes<'t>, member: &Member<'t>, index: &[u32], frame: FrameId) -> bool
     requires { IsMember s.now member.now }
@@ -37,7 +45,7 @@ fn is_entered_as<'t>(s: &Scopes<'t>, member: &Member<'t>, index: &[u32], frame: 
 }
 
 /// Whether an instance is known to be an element of a component.
-fn is_element<'t>(s: &Scopes<'t>, member: &Member<'t>, instance: &Instance<'t>) -> bool
+pub(crate) fn is_element<'t>(s: &Scopes<'t>, member: &Member<'t>, instance: &Instance<'t>) -> bool
     requires { IsMember s.now member.now }
     ensures { IsTrue result → IsElementOf s.now member.now instance.now.frame.0 }
 {
@@ -59,7 +67,7 @@ fn component_in<'t>(s: &Scopes<'t>, home: FrameId, instance: &Instance<'t>) -> O
 }
 
 /// The component that an instance is an element of, None where that is not known.
-fn component_of<'t>(s: &Scopes<'t>, instance: &Instance<'t>) -> Option<Member<'t>>
+pub(crate) fn component_of<'t>(s: &Scopes<'t>, instance: &Instance<'t>) -> Option<Member<'t>>
     requires { IsFrame s.now instance.now.frame.0 }
     ensures { IfSome result (λ member. IsElementOf s.now member instance.now.frame.0) }
 {

@@ -1,18 +1,18 @@
 //! The layers behind resolving, with what is wanted of the kind and of the dimensions.
 ghost use Rattle.std.specs.Prelude.{◌≡◌};
+ghost use Rattle.mo_flat.specs.declared.array.ArrayExpr.{ArrayExpr as Resolved};
 ghost use Rattle.mo_typing.specs.Outcome.{Gives};
-ghost use Rattle.mo_values.specs.Asked.{layered as layered_by, only_whole as only_whole_by};
+ghost use Rattle.mo_values.specs.Asked.{IsLayered, layered as layered_by, only_whole as only_whole_by};
+ghost use Rattle.mo_eval.specs.Keeping.{AreLayers};
 ghost use Rattle.mo_equations.specs.Equations.{vector_size as size_of_vector};
 ghost use Rattle.mo_equations.specs.Variables.{are_among as stand_among, fits_along as fit_along};
-ghost use Rattle.mo_equations.specs.steps.Resolutions.{HasLayers};
 ghost use Rattle.mo_equations.specs.steps.Layers.{HasRule, fit_of, wanted_of};
 
-use crate::desk::Resolution;
-use mo_eval::fitted;
+use mo_eval::{Bound, fitted};
 use mo_flat::ArrayExpr;
 use mo_syntax::{Broken, Kind, Place, Stop, broken, rules};
 use mo_typing::{accepts, dims_of, kind_of, subscripts};
-use mo_values::layers::{answer, only_scalar, only_truth};
+use mo_values::layers::{Layered, answer, only_scalar, only_truth};
 use std::alloc::Global;
 
 /// The kind that is wanted.
@@ -135,14 +135,29 @@ pub(crate) fn layered(alloc: Global, layers: &Layers, e: &ArrayExpr) -> Result<(
     subscripts(alloc, e)
 }
 
-/// The same of what is resolved already.
-pub(crate) fn layered_so<'t>(layers: &Layers, resolution: &Resolution<'t>) -> Result<(), Broken>
-    requires rule { HasRule layers.now.fit }
-    requires layers { HasLayers resolution.now.resolved.expression resolution.now.kind resolution.now.dims }
-    ensures { result ≡ layered_by (wanted_of layers.now.want layers.now.place) (fit_of layers.now.fit layers.now.place) resolution.now.resolved.expression }
+/// The same of an expression whose layers are known.
+pub(crate) fn layered_so(layers: &Layers, known: &Layered) -> Result<(), Broken>
+    requires { HasRule layers.now.fit }
+    ensures { (e : Resolved) → IsLayered e known.now → result ≡ layered_by (wanted_of layers.now.want layers.now.place) (fit_of layers.now.fit layers.now.place) e }
 {
-    wanted(layers.want, layers.place, resolution.kind)?;
-    fits(layers.fit, layers.place, resolution.dims.as_slice())
+    wanted(layers.want, layers.place, known.kind)?;
+    fits(layers.fit, layers.place, known.dims.as_slice())
+}
+
+/// The same of what binds a component, by its layers where they are known.
+pub(crate) fn layered_bound<'t>(
+    alloc: Global,
+    layers: &Layers,
+    bound: &Bound<'t>,
+) -> Result<(), Stop>
+    requires rule { HasRule layers.now.fit }
+    requires layers { AreLayers bound.now }
+    ensures { Gives result (layered_by (wanted_of layers.now.want layers.now.place) (fit_of layers.now.fit layers.now.place) bound.now.resolved.expression) }
+{
+    match &bound.layers {
+        Some(known) => answer(layered_so(layers, known)),
+        None => layered(alloc, layers, &bound.resolved.expression),
+    }
 }
 
 fn only_whole(place: Place, kind: Kind) -> Result<(), Broken>

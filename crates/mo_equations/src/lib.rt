@@ -10,6 +10,7 @@
 //! The definitions stand in specs/: `expansion_of` gives all of it.
 #![tactic(auto)]
 
+mod array_values;
 mod arrays;
 mod asserts;
 mod building;

@@ -13,7 +13,7 @@ ghost use Rattle.mo_equations.specs.Replacing.{flat_at as flat_of_expression, of
 ghost use Rattle.mo_equations.specs.steps.Desks.{IsDesk, Stays};
 ghost use Rattle.mo_equations.specs.steps.Flats.{Answers, IsFlat};
 ghost use Rattle.mo_equations.specs.steps.Layers.{HasRule, fit_of, wanted_of};
-ghost use Rattle.mo_equations.specs.steps.Resolutions.{HasLayers, IsResolution, IsResolvedSo};
+ghost use Rattle.mo_equations.specs.steps.Resolutions.{IsResolution, IsResolvedSo};
 ghost use Rattle.mo_equations.specs.steps.Standing.{AreReplaced, replacing_in};
 
 use crate::building::{put_together, unreplaced};
@@ -25,31 +25,11 @@ use mo_arrays::element_at;
 use mo_eval::{MOST_REFERENCES, Resolved, Virtual};
 use mo_flat::ArrayExpr;
 use mo_scope::Scopes;
-use mo_syntax::{Kind, List, NoMemory, Stop};
-use mo_typing::{dims_of, kind_of, subscripts};
-use mo_values::layers::answer;
+use mo_syntax::{NoMemory, Stop};
+use mo_values::layers::{answer, layers_of};
 use std::alloc::Global;
 
-/// The kind and the dimensions of an expression, None where it breaks a rule of kinds, dimensions or subscripts.
-fn layers_of(alloc: Global, e: &ArrayExpr) -> Result<Option<(Kind, List<u32>)>, NoMemory>
-    ensures { IfOk result (λ layers. IfSome layers (λ of. HasLayers e.now of.0 of.1)) }
-{
-    let Ok(kind) = kind_of(e) else {
-        return Ok(None);
-    };
-    let dims = match dims_of(alloc, e) {
-        Ok(dims) => dims,
-        Err(Stop::Broken(_)) => return Ok(None),
-        Err(Stop::NoMemory) => return Err(NoMemory),
-    };
-    match subscripts(alloc, e) {
-        Ok(()) => Ok(Some((kind, dims))),
-        Err(Stop::Broken(_)) => Ok(None),
-        Err(Stop::NoMemory) => Err(NoMemory),
-    }
-}
-
-/// What is resolved with its kind and its dimensions, None where it breaks a rule of these or of subscripts.
+/// What is resolved with its layers, None where it breaks a rule of kinds, dimensions or subscripts.
 fn with_layers<'t>(
     alloc: Global,
     resolved: Resolved<'t>,
@@ -59,10 +39,9 @@ fn with_layers<'t>(
     let layers = layers_of(alloc, &resolved.expression)?;
     let replaced = unreplaced(alloc, resolved.virtuals.len())?;
     match layers {
-        Some((kind, dims)) => Ok(Some(Resolution {
+        Some(layers) => Ok(Some(Resolution {
             resolved,
-            kind,
-            dims,
+            layers,
             replaced,
         })),
         None => Ok(None),
@@ -135,7 +114,7 @@ pub(crate) fn flat_of_resolution<'i, 't>(
     ensures resolution { OnOk result (IsResolution s.new desk.new.leaves resolution.new) }
     ensures resolved { resolution.new.resolved ≡ resolution.old.resolved }
 {
-    answer(layered_so(&asked.layers, resolution))?;
+    answer(layered_so(&asked.layers, &resolution.layers))?;
     let resolved = &resolution.resolved;
     flat_of_array(
         alloc,

@@ -17,12 +17,13 @@ ghost use Rattle.mo_equations.specs.steps.Flats.{Answers, IsFlat};
 ghost use Rattle.mo_equations.specs.steps.Layers.{HasRule, fit_of, wanted_of};
 ghost use Rattle.mo_equations.specs.steps.Sharing.{IsShared, IsSharedAt, IsSharedBy};
 
+use crate::arrays::is_in_array;
 use crate::desk::{Desk, SharedExpression};
 use crate::flat::Flat;
 use crate::resolutions::{flat_of_resolution, resolution_of};
 use crate::standing::{Asked, flat_at};
-use mo_same::is_same;
-use mo_scope::{Chosen, Scopes};
+use mo_same::{is_same, is_short};
+use mo_scope::{Chosen, Instance, Scopes};
 use mo_syntax::{Expr, NoMemory, Stop};
 use std::alloc::Global;
 
@@ -32,6 +33,15 @@ const MOST_SHARED: usize = 64;
 /// Whether what is chosen for an element may be so for others, too, and is told again.
 pub(crate) fn may_share(chosen: &Chosen) -> bool {
     !chosen.pending.is_empty() && is_same(chosen.value, chosen.value)
+}
+
+/// Whether the binding of an instance is resolved once for all that share it: that of an element of an array only where it is soon compared, since
+/// it is known by its array.
+pub(crate) fn shares_binding(instance: &Instance, chosen: &Chosen) -> bool {
+    if is_in_array(instance) && !is_short(chosen.value) {
+        return false;
+    }
+    may_share(chosen)
 }
 
 fn is_shared_by<'t>(shared: &SharedExpression<'t>, asked: &Asked) -> bool

@@ -6,6 +6,7 @@ ghost use Rattle.mo_typing.specs.Outcome.{Gives};
 ghost use Rattle.mo_scope.specs.Sights.{scope_at};
 ghost use Rattle.mo_scope.specs.Worlds.{IsFrame, table_in};
 ghost use Rattle.mo_values.specs.Asked.{must_be_whole as whole_that_is_known};
+ghost use Rattle.mo_eval.specs.Keeping.{AreLayers};
 ghost use Rattle.mo_eval.specs.References.{numbers_of as numbers_read};
 ghost use Rattle.mo_eval.specs.Seen.{AreThere, resolved_at};
 ghost use Rattle.mo_eval.specs.Values.{known_of, most_references};
@@ -18,12 +19,12 @@ ghost use Rattle.mo_equations.specs.steps.Ranges.{GivesNumbers, known_so, number
 use crate::desk::Desk;
 use crate::layers::{layered, range_size};
 use crate::standing::Asked;
-use mo_eval::{MOST_REFERENCES, Resolved, Scalar};
+use mo_eval::{Bound, MOST_REFERENCES, Scalar};
 use mo_flat::ArrayNode;
 use mo_scope::{ScopeAt, Scopes};
 use mo_syntax::{Broken, Expr, List, NoMemory, Place, Stop, broken, rules, stop};
 use mo_typing::indexing::range_element;
-use mo_values::layers::answer;
+use mo_values::layers::{answer, layers_of};
 use std::alloc::Global;
 
 /// What is known of an expression that is read for its value, where all references are left: what resolving it asks, its kinds, its
@@ -114,17 +115,20 @@ fn numbers_listed<'i, 't>(
     s: &mut Scopes<'t>,
     desk: &mut Desk<'i, 't>,
     place: Place,
-    resolved: &Resolved<'t>,
+    bound: &Bound<'t>,
     size: u32,
 ) -> Result<Numbers, Stop>
-    requires there { AreThere s.old resolved.now.virtuals }
+    requires there { AreThere s.old bound.now.resolved.virtuals }
+    requires layers { AreLayers bound.now }
     requires desk { IsDesk s.old desk.old }
     ensures stays { Stays s.old s.new desk.old desk.new }
-    ensures exact { GivesNumbers result (numbers_read (known_of (table_in s.old) most_references (resolved_at s.old resolved.now)) place size) }
+    ensures exact { GivesNumbers result (numbers_read (known_of (table_in s.old) most_references (resolved_at s.old bound.now.resolved)) place size) }
 {
     let mut made = List::new(alloc);
     for k in 0..size {
-        let known = desk.reader.known(s, MOST_REFERENCES, resolved, &[k + 1])?;
+        let known = desk
+            .reader
+            .known_of_binding(s, MOST_REFERENCES, bound, &[k + 1])?;
         made.push(answer(must_be_whole(place, known))?)?;
     }
     Ok(Numbers::Listed(made))
@@ -152,7 +156,9 @@ pub(crate) fn range_numbers<'i, 't>(
             count: size,
         });
     }
-    numbers_listed(alloc, s, desk, e.place, &resolved, size)
+    let layers = layers_of(alloc, &resolved.expression)?;
+    let bound = Bound { resolved, layers };
+    numbers_listed(alloc, s, desk, e.place, &bound, size)
 }
 
 /// The numbers of an iteration variable; without a range rule 34 at the for-equation.

@@ -18,7 +18,8 @@ ghost use Rattle.mo_equations.specs.steps.Flats.{Answers, IsFlat};
 ghost use Rattle.mo_equations.specs.steps.LeafTables.{AreLeaves};
 ghost use Rattle.mo_equations.specs.steps.Makings.{IsFlatOption, IsMade};
 
-use crate::arrays::flat_of_element;
+use crate::array_values::known_of_element;
+use crate::arrays::{flat_of_element, is_in_array};
 use crate::desk::Desk;
 use crate::flat::{Flat, is_past};
 use crate::kinds::{attribute_kind, is_parameter, kind_text};
@@ -26,7 +27,7 @@ use crate::layers::{Fit, Layers, Want};
 use crate::leaves::Leaves;
 use crate::made::Made;
 use crate::paths::{Step, text_of_path};
-use crate::shared::{flat_of_shared, may_share};
+use crate::shared::{flat_of_shared, may_share, shares_binding};
 use crate::standing::{Asked, flat_at, flat_value, has_values};
 use crate::values::known_at;
 use mo_eval::{MOST_REFERENCES, Scalar};
@@ -231,7 +232,7 @@ fn expression_of_binding<'i, 't>(
     ensures exact { Answers IsFlat result (expression_of_leaf (tree_in s.old desk.old.leaves) (variable_in (frames_of s.old) variable.now) variable.now.leaf.now.kind (chosen_in (frames_of s.old) binding.now)) }
 {
     let kind = variable.leaf.kind;
-    if binding.pending.is_empty() || may_share(binding) {
+    if binding.pending.is_empty() || shares_binding(variable.instance, binding) {
         return flat_of_leaf(alloc, s, desk, variable, kind, binding);
     }
     let ranges = ranges_of(alloc, s, &desk.leaves, variable.instance, binding)?;
@@ -239,7 +240,7 @@ fn expression_of_binding<'i, 't>(
     flat_of_element(alloc, s, desk, &asked, variable.instance)
 }
 
-/// What is known of a leaf's binding.
+/// What is known of a leaf's binding, which is resolved once for all elements of an array.
 fn known_of_leaf<'i, 't>(
     alloc: Global,
     s: &mut Scopes<'t>,
@@ -249,13 +250,18 @@ fn known_of_leaf<'i, 't>(
 ) -> Result<Option<Scalar>, Stop>
     requires variable { IsOneOf s.old variable.now }
     requires chosen { IsChosen s.old chosen.now }
+    requires own { variable.now.leaf.now.binding ≡ Some chosen.now }
     requires desk { IsDesk s.old desk.old }
     ensures stays { Stays s.old s.new desk.old desk.new }
     ensures exact { Gives result (known_of_leaf_at (tree_in s.old desk.old.leaves) (variable_in (frames_of s.old) variable.now) (chosen_in (frames_of s.old) chosen.now)) }
 {
     let ranges = ranges_of(alloc, s, &desk.leaves, variable.instance, chosen)?;
     let asked = asked_of(chosen, variable.leaf.kind, &ranges);
-    known_at(alloc, s, desk, &asked)
+    if is_in_array(variable.instance) {
+        known_of_element(alloc, s, desk, &asked, variable.instance)
+    } else {
+        known_at(alloc, s, desk, &asked)
+    }
 }
 
 /// What is known of the binding of a parameter whose kind has values, None of others.
@@ -268,6 +274,7 @@ fn known_binding<'i, 't>(
 ) -> Result<Option<Scalar>, Stop>
     requires variable { IsOneOf s.old variable.now }
     requires chosen { IsChosen s.old binding.now }
+    requires own { variable.now.leaf.now.binding ≡ Some binding.now }
     requires desk { IsDesk s.old desk.old }
     ensures stays { Stays s.old s.new desk.old desk.new }
     ensures exact { Gives result (known_of_binding (tree_in s.old desk.old.leaves) (variable_in (frames_of s.old) variable.now) (chosen_in (frames_of s.old) binding.now)) }

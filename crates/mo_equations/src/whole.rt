@@ -251,6 +251,7 @@ fn first_desk<'i, 't>(
         reader,
         constants,
         binding: None,
+        read: None,
         shared: Vec::new(alloc),
         leaves,
         asked,

@@ -8,9 +8,8 @@ use Rattle.mo_typing.specs.Dims.{Dims, dims_of}
 use Rattle.mo_typing.specs.Indices.{Index}
 use Rattle.mo_typing.specs.Kinds.{accepts, kind_of}
 use Rattle.mo_typing.specs.Subscripts.{Checked, fine, subscripts_of}
-use Rattle.mo_values.specs.Asked.{fitted, layered}
-use Rattle.mo_eval.specs.Keeping.{IsLayered}
-use Rattle.mo_eval.specs.declared.reader.Layers.{Layers}
+use Rattle.mo_values.specs.Asked.{IsLayered, fitted, layered}
+use Rattle.mo_values.specs.declared.layers.Layered.{Layered}
 use Rattle.mo_values.specs.Scalars.{Known}
 use Rattle.mo_eval.specs.Virtuals.{Element, Resolved, known_at}
 use Rattle.mo_eval.specs.steps.Asking.{bound_in, fits_layers}
@@ -29,7 +28,7 @@ pub asked_by_layers : (e : ArrayExpr) (kind : Kind) (dims : Dims) (wanted : Kind
 asked_by_layers e kind dims wanted fit k d s = rw (k, d, s) (behind_kinds (wanted kind) (fit dims))
 
 -- by its layers an expression is of a kind and fits as it does by what is asked of it
-pub fits_by_layers : (e : ArrayExpr) (layers : Layers) (want : Kind) (place : Place) (pending : Index) → IsLayered e layers → layered (λ got. accepts want got place) (fitted place pending) e ≡ fits_layers want place pending layers
+pub fits_by_layers : (e : ArrayExpr) (layers : Layered) (want : Kind) (place : Place) (pending : Index) → IsLayered e layers → layered (λ got. accepts want got place) (fitted place pending) e ≡ fits_layers want place pending layers
 fits_by_layers e layers want place pending are = asked_by_layers e layers.kind layers.dims (λ got. accepts want got place) (fitted place pending) are.kind are.dims are.subscripts
 
 -- what a binding that fits has

@@ -1,6 +1,6 @@
 pub mod Arguing
 pub mod Bindings
-mod Bound
+mod OneBinding
 pub mod FrameBound
 pub mod Calling
 pub mod Choosing

@@ -3,7 +3,6 @@
 -- A value is kept for an element, a condition and dimensions for a component, with the number of references that were left when they were
 -- found. They are used where as many are left.
 use Rattle.std.specs.Prelude.{◌≡◌, ℕ, IfSome, List, Ok, Some, slice_get}
-use Rattle.mo_flat.specs.declared.array.ArrayExpr.{ArrayExpr}
 use Rattle.mo_scope.specs.Frames.{Frame}
 use Rattle.mo_scope.specs.Parts.{Picked}
 use Rattle.mo_scope.specs.Worlds.{World, frames_of, table_in}
@@ -15,11 +14,8 @@ use Rattle.mo_eval.specs.declared.reader.KeptDims.{KeptDims}
 use Rattle.mo_eval.specs.declared.reader.KeptThere.{KeptThere}
 use Rattle.mo_eval.specs.declared.reader.KeptValue.{KeptValue}
 use Rattle.mo_eval.specs.declared.reader.Reader.{Reader}
-use Rattle.mo_typing.specs.Dims.{dims_of}
-use Rattle.mo_typing.specs.Kinds.{kind_of}
-use Rattle.mo_typing.specs.Subscripts.{fine, subscripts_of}
+use Rattle.mo_values.specs.Asked.{IsLayered}
 use Rattle.mo_eval.specs.declared.reader.Bound.{Bound}
-use Rattle.mo_eval.specs.declared.reader.Layers.{Layers}
 use Rattle.mo_eval.specs.Virtuals.{Resolved}
 use Rattle.mo_eval.specs.Seen.{AreThere, element_seen, resolved_seen}
 use Rattle.mo_eval.specs.Heights.{IsValueAt}
@@ -37,12 +33,6 @@ pub record IsThereKept (world : World) (kept : KeptThere) : Type 0 where
 pub record AreDimsKept (world : World) (kept : KeptDims) : Type 0 where
   pub member : IsMember world kept.member
   pub are : component_dims (table_in world) kept.left (member_of (frames_of world) kept.member) ≡ Ok kept.dims
-
--- The layers of an expression: it breaks no rule of kinds, dimensions and subscripts.
-pub record IsLayered (e : ArrayExpr) (layers : Layers) : Type 0 where
-  pub kind : kind_of e ≡ Ok layers.kind
-  pub dims : dims_of e ≡ Ok layers.dims
-  pub subscripts : subscripts_of e ≡ fine
 
 -- the layers that are known of a binding are those of its expression
 abbrev pub AreLayers : Bound → Type 0

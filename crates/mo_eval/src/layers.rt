@@ -1,47 +1,28 @@
 //! The layers of a binding, which are asked once for all elements of its component.
-ghost use Rattle.std.specs.Prelude.{◌≡◌, ℕ, IfOk, IfSome, Ok};
+ghost use Rattle.std.specs.Prelude.{◌≡◌, ℕ, IfOk};
 ghost use Rattle.mo_syntax.specs.Outcome.{Outcome};
 ghost use Rattle.mo_typing.specs.Outcome.{Gives};
 ghost use Rattle.mo_typing.specs.Kinds.{accepts};
 ghost use Rattle.mo_values.specs.Asked.{fitted, layered};
 ghost use Rattle.mo_values.specs.Scalars.{Known};
 ghost use Rattle.mo_values.specs.Walk.{known_by};
-ghost use Rattle.mo_eval.specs.Keeping.{AreLayers, IsLayered};
+ghost use Rattle.mo_eval.specs.Keeping.{AreLayers};
 ghost use Rattle.mo_eval.specs.steps.Asking.{fits_layers};
 
-use crate::reader::{Bound, Layers};
+use crate::reader::Bound;
 use mo_flat::ArrayExpr;
 use mo_syntax::{Broken, Kind, NoMemory, Place, Stop};
-use mo_typing::{accepts, dims_of, kind_of, subscripts};
-use mo_values::layers::{answer, binding, fitted};
+use mo_typing::accepts;
+use mo_values::layers::{Layered, answer, binding, fitted, layers_of};
 use mo_values::part_at;
 use std::alloc::Global;
 
 /// Whether a binding with these layers is of the wanted kind and fits its pending indices.
-fn fits_layers(want: Kind, place: Place, index: &[u32], layers: &Layers) -> Result<(), Broken>
+fn fits_layers(want: Kind, place: Place, index: &[u32], layers: &Layered) -> Result<(), Broken>
     ensures { result ≡ fits_layers want place index.now layers.now }
 {
     accepts(want, layers.kind, place)?;
     fitted(place, index, layers.dims.as_slice())
-}
-
-/// Asks what a binding has of its kind, its dimensions and its subscripts, where it is known what they are; None where they break a rule.
-fn layers_of(alloc: Global, e: &ArrayExpr) -> Result<Option<Layers>, NoMemory>
-    ensures { IfOk result (λ layers. IfSome layers (IsLayered e.now)) }
-{
-    let Ok(kind) = kind_of(e) else {
-        return Ok(None);
-    };
-    let dims = match dims_of(alloc, e) {
-        Ok(dims) => dims,
-        Err(Stop::Broken(_)) => return Ok(None),
-        Err(Stop::NoMemory) => return Err(NoMemory),
-    };
-    match subscripts(alloc, e) {
-        Ok(()) => Ok(Some(Layers { kind, dims })),
-        Err(Stop::Broken(_)) => Ok(None),
-        Err(Stop::NoMemory) => Err(NoMemory),
-    }
 }
 
 /// A binding with its layers, which are asked once for all elements.

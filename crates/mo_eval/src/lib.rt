@@ -11,6 +11,7 @@
 //! - [`Context`]: what an expression is resolved for.
 //! - [`Resolved`], [`Virtual`] and [`Element`]: a resolved expression, and what its variables stand for. [`Sides`]: the two sides of
 //!   an equation.
+//! - [`Bound`]: what binds the elements of a component, resolved for its value.
 //! - [`Ended`] and [`Selected`]: what an end of a connect names and selects.
 //! - [`fitted`]: how pending indices fit the dimensions of an expression.
 //! - [`literal_text`] and [`class_text`]: how literals and classes are printed.
@@ -52,6 +53,6 @@ pub use ends::{Ended, Selected};
 pub use literals::{class_text, literal_text};
 pub use mo_values::layers::fitted;
 pub use mo_values::{Context, Halt, Reckoned, Scalar, Told, Value, known};
-pub use reader::{MOST_REFERENCES, Reader};
+pub use reader::{Bound, MOST_REFERENCES, Reader};
 pub use reading::{Step, mark, next, unread};
 pub use virtuals::{Element, Resolved, Sides, Virtual};

@@ -2,27 +2,28 @@
 ghost use Rattle.std.specs.Prelude.{IfOk};
 ghost use Rattle.mo_scope.specs.Outcome.{Gives as GivesSeen};
 ghost use Rattle.mo_scope.specs.Sights.{member_at};
-ghost use Rattle.mo_scope.specs.Worlds.{World, Grows, IsFrame, table_in};
+ghost use Rattle.mo_scope.specs.Worlds.{World, Grows, IsFrame, frames_of, table_in};
 ghost use Rattle.mo_names.specs.Sights.{IsMember};
 ghost use Rattle.mo_typing.specs.Outcome.{Gives};
 ghost use Rattle.mo_eval.specs.Ends.{IsEnded, ended_at};
 ghost use Rattle.mo_eval.specs.InScope.{ended_in_scope, resolved_for_value_in_scope, resolved_in_scope, sides_in_scope, sizes_in_scope, value_in_scope};
 ghost use Rattle.mo_eval.specs.Seen.{AreThere, element_at, resolved_at, sides_at};
 ghost use Rattle.mo_eval.specs.Values.{most_references, value_of_element, known_of, there_of, component_dims};
-ghost use Rattle.mo_eval.specs.Keeping.{IsKept};
+ghost use Rattle.mo_eval.specs.Keeping.{AreLayers, IsKept, bound_seen};
 ghost use Rattle.mo_eval.specs.steps.Sites.{elements_in};
 ghost use Rattle.mo_eval.specs.steps.Asking.{value_in};
 
 use crate::alone::alone;
 use crate::ends::{Ended, end_named};
+use crate::layers::part_of_bound;
 use crate::resolve::{Site, two};
 use crate::variables::known_in;
 use crate::virtuals::{Element, Resolved, Sides};
 use crate::{components, dimensions};
 use mo_scope::{Member, ScopeAt, Scopes};
-use mo_syntax::{Expr, Kind, List, Place, Reference, Stop};
+use mo_syntax::{Expr, List, Place, Reference, Stop};
 use mo_typing::kind_of;
-use mo_values::layers::{self, answer, fitting};
+use mo_values::layers::{self, Layered, answer, fitting};
 use mo_values::{Context, Scalar, Value, if_it_has, value_with};
 use std::alloc::Global;
 use std::collections::HashMap;
@@ -54,19 +55,12 @@ pub struct KeptDims<'t> {
     pub(crate) dims: List<u32>,
 }
 
-/// The kind and the dimensions of a resolved expression that breaks no rule of kinds, dimensions and subscripts.
-#[derive(Drop)]
-pub struct Layers {
-    pub(crate) kind: Kind,
-    pub(crate) dims: List<u32>,
-}
-
 /// What binds the elements of a component, resolved, with its layers once these were asked.
 #[derive(Drop)]
 pub struct Bound<'t> {
-    pub(crate) resolved: Resolved<'t>,
+    pub resolved: Resolved<'t>,
     /// None where they were not asked yet, or break a rule.
-    pub(crate) layers: Option<Layers>,
+    pub layers: Option<Layered>,
 }
 
 /// The binding of a component, resolved with so many references left. It is the same for all its elements.
@@ -342,6 +336,27 @@ impl<'t> Reader<'t> {
             index,
             resolved.virtuals.as_slice(),
         )
+    }
+
+    /// What is known at an index of what binds a component, where so many references may still be read; or the first rule that is broken.
+    /// Where its layers are known, of a list only the element is asked for. `NoMemory` is the only other answer.
+    pub fn known_of_binding(
+        &mut self,
+        s: &mut Scopes<'t>,
+        left: u64,
+        bound: &Bound<'t>,
+        index: &[u32],
+    ) -> Result<Option<Scalar>, Stop>
+        requires there { AreThere s.old bound.now.resolved.virtuals }
+        requires layers { AreLayers bound.now }
+        requires kept { IsKept s.old self.old }
+        ensures grows { Grows s.old s.new }
+        ensures kept { IsKept s.new self.new }
+        ensures exact { Gives result (known_of (table_in s.old) left (bound_seen (frames_of s.old) bound.now) index.now) }
+    {
+        let (e, index) = part_of_bound(&*bound, &*index);
+        let virtuals = bound.resolved.virtuals.as_slice();
+        known_in(self, s, left, e, index, virtuals)
     }
 
     /// Whether a component is there by its condition, or the first rule that is broken: rule 40 at a condition that is no scalar Boolean,

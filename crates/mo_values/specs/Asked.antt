@@ -1,10 +1,11 @@
 -- How the parts of an expression are resolved, and what is asked of a resolved expression (Modelica Language Specification 3.5, sections
 -- 3.7, 4.4 and 10.3 to 10.5): its kind, its dimensions and its subscripts, in this order.
-use Rattle.std.specs.Prelude.{ℕ, ℤ, Bool, true, false, ◌&&◌, List, [], ◌∷◌, length, Some, None, Ok, if◌then◌else◌, nat_eq}
+use Rattle.std.specs.Prelude.{◌≡◌, ℕ, ℤ, Bool, true, false, ◌&&◌, List, [], ◌∷◌, length, Some, None, Ok, Err, if◌then◌else◌, nat_eq}
 use Rattle.std.specs.List.{list_all}
 use Rattle.mo_syntax.specs.Outcome.{Outcome, and_then, breaks}
 use Rattle.mo_syntax.specs.declared.meaning.Kind.{Kind}
 use Rattle.mo_syntax.specs.declared.meaning.Kind.TheVariants.{Whole as whole_kind, Truth as truth_kind}
+use Rattle.mo_syntax.specs.declared.place.Broken.{Broken}
 use Rattle.mo_syntax.specs.declared.place.Place.{Place}
 use Rattle.mo_flat.specs.declared.array.ArrayExpr.{ArrayExpr}
 use Rattle.mo_syntax.specs.declared.rules.TheConstants.{WRONG_TYPE, NO_VALUE, WRONG_EACH, WRONG_SIZE}
@@ -14,6 +15,7 @@ use Rattle.mo_typing.specs.Kinds.{kind_of}
 use Rattle.mo_typing.specs.Indices.{Index, is_index}
 use Rattle.mo_typing.specs.Subscripts.{Checked, every, fine, subscripts_of}
 use Rattle.mo_values.specs.declared.context.Context.{Context}
+use Rattle.mo_values.specs.declared.layers.Layered.{Layered}
 use Rattle.mo_values.specs.declared.value.Scalar.TheVariants.{Whole, Truth}
 use Rattle.mo_values.specs.Scalars.{Known}
 
@@ -52,6 +54,16 @@ layered wanted fit e =
 
 abbrev pub any_kind : Kind → Checked
 any_kind kind = fine
+
+-- what an expression has that breaks no rule of them
+pub record IsLayered (e : ArrayExpr) (layers : Layered) : Type 0 where
+  pub kind : kind_of e ≡ Ok layers.kind
+  pub dims : dims_of e ≡ Ok layers.dims
+  pub subscripts : subscripts_of e ≡ fine
+
+-- it breaks one
+abbrev pub BreaksLayers : ArrayExpr → Type 0
+BreaksLayers e = (broken : Broken) × (layered any_kind (λ dims. Ok dims) e ≡ Err broken)
 
 abbrev pub only_whole : Place → Kind → Checked
 only_whole place whole_kind = fine

@@ -1,14 +1,14 @@
 //! The layers behind resolving: what is asked of the kind, the dimensions and the subscripts of a resolved expression.
-ghost use Rattle.std.specs.Prelude.{◌≡◌, ◌≤◌, Ok};
+ghost use Rattle.std.specs.Prelude.{◌≡◌, ◌≤◌, None, Ok, IfOk, IfSome};
 ghost use Rattle.mo_syntax.specs.declared.rules.TheConstants.{WRONG_TYPE};
 ghost use Rattle.mo_typing.specs.Outcome.{Gives};
 ghost use Rattle.mo_typing.specs.Kinds.{accepts};
 ghost use Rattle.mo_typing.specs.Indices.{is_index};
-ghost use Rattle.mo_values.specs.Asked.{only_whole, only_truth, only_scalar, scalar_or_vector, any_kind, layered, must_be_whole, must_be_truth, fitted};
+ghost use Rattle.mo_values.specs.Asked.{IsLayered, BreaksLayers, only_whole, only_truth, only_scalar, scalar_or_vector, any_kind, layered, must_be_whole, must_be_truth, fitted};
 
 use crate::value::Scalar;
 use mo_flat::ArrayExpr;
-use mo_syntax::{Broken, Kind, List, Place, Stop, broken, rules};
+use mo_syntax::{Broken, Kind, List, NoMemory, Place, Stop, broken, rules};
 use mo_typing::shapes::is_scalar;
 use mo_typing::{accepts, dims_of, kind_of, subscripts};
 use std::alloc::Global;
@@ -118,6 +118,33 @@ pub fn sizes(alloc: Global, e: &ArrayExpr) -> Result<List<u32>, Stop>
     let dims = dims_of(alloc, e)?;
     subscripts(alloc, e)?;
     Ok(dims)
+}
+
+/// The layers of a resolved expression that breaks no rule of kinds, dimensions and subscripts: its kind and its dimensions.
+#[derive(Drop)]
+pub struct Layered {
+    pub kind: Kind,
+    pub dims: List<u32>,
+}
+
+/// The layers of an expression, None where it breaks a rule of kinds, dimensions or subscripts. `NoMemory` is the only other answer.
+pub fn layers_of(alloc: Global, e: &ArrayExpr) -> Result<Option<Layered>, NoMemory>
+    ensures layers { IfOk result (λ found. IfSome found (IsLayered e.now)) }
+    ensures broken { result ≡ Ok None → BreaksLayers e.now }
+{
+    let Ok(kind) = kind_of(e) else {
+        return Ok(None);
+    };
+    let dims = match dims_of(alloc, e) {
+        Ok(dims) => dims,
+        Err(Stop::Broken(_)) => return Ok(None),
+        Err(Stop::NoMemory) => return Err(NoMemory),
+    };
+    match subscripts(alloc, e) {
+        Ok(()) => Ok(Some(Layered { kind, dims })),
+        Err(Stop::Broken(_)) => Ok(None),
+        Err(Stop::NoMemory) => Err(NoMemory),
+    }
 }
 
 /// Whether an index has one number for each dimension, from 1 to its size.

@@ -8,9 +8,11 @@ use Rattle.mo_scope.specs.Worlds.{World, frame_at, frames_of, table_in}
 use Rattle.mo_scope.specs.declared.row.Member.{Member as MemberAt}
 use Rattle.mo_names.specs.Sights.{IsMember, member_of}
 use Rattle.mo_eval.specs.Components.{binding_of}
+use Rattle.mo_eval.specs.Keeping.{IsBinding}
 use Rattle.mo_eval.specs.Seen.{resolved_seen}
 use Rattle.mo_eval.specs.Values.{most_references, resolved}
 use Rattle.mo_equations.specs.declared.desk.ArrayBinding.{ArrayBinding}
+use Rattle.mo_equations.specs.declared.desk.ValueBinding.{ValueBinding}
 use Rattle.mo_equations.specs.declared.leaves.Leaves.{Leaves}
 use Rattle.mo_equations.specs.declared.standing.Asked.{Asked}
 use Rattle.mo_equations.specs.steps.Resolutions.{IsResolution}
@@ -21,6 +23,11 @@ pub record IsArrayBinding (world : World) (leaves : Leaves) (binding : ArrayBind
   pub resolution : IsResolution world leaves binding.resolution
   pub is : (index : List ℕ) (picked : Picked) → binding_of (table_in world) (member_of (frames_of world) binding.member) index ≡ Ok (Some picked) →
       resolved (table_in world) most_references picked.scope picked.value ≡ Ok (resolved_seen (frames_of world) binding.resolution.resolved)
+
+-- what binds a component, resolved for its value
+pub record IsValueBinding (world : World) (binding : ValueBinding) : Type 0 where
+  pub member : IsMember world binding.member
+  pub is : IsBinding world most_references binding.member binding.bound
 
 -- the frame is that of an element of the component
 pub record IsElementOf (world : World) (component : MemberAt) (frame : ℕ) : Type 0 where

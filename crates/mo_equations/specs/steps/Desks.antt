@@ -11,7 +11,7 @@ use Rattle.mo_equations.specs.declared.desk.KeptConstant.{KeptConstant}
 use Rattle.mo_equations.specs.declared.leaves.Leaves.{Leaves}
 use Rattle.mo_equations.specs.Leaves.{number_of, place_of_root}
 use Rattle.mo_equations.specs.Replacing.{constant}
-use Rattle.mo_equations.specs.steps.Arrays.{IsArrayBinding}
+use Rattle.mo_equations.specs.steps.Arrays.{IsArrayBinding, IsValueBinding}
 use Rattle.mo_equations.specs.steps.Flats.{IsFlat}
 use Rattle.mo_equations.specs.steps.LeafTables.{AreLeaves}
 use Rattle.mo_equations.specs.steps.Sharing.{IsShared}
@@ -29,6 +29,7 @@ pub record IsDesk (world : World) (desk : Desk) : Type 0 where
   pub leaves : AreLeaves world desk.leaves
   pub constants : (k : ℕ) (kept : KeptConstant) → slice_get desk.constants k ≡ Some kept → IsConstantKept world desk.leaves kept
   pub binding : IfSome desk.binding (IsArrayBinding world desk.leaves)
+  pub read : IfSome desk.read (IsValueBinding world)
   pub shared : Every (IsShared world desk.leaves) desk.shared.items
   pub asked : desk.asked ≡ place_of_root (tree_in world desk.leaves)
 

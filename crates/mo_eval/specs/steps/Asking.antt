@@ -7,7 +7,7 @@ use Rattle.mo_syntax.specs.declared.rules.TheConstants.{WRONG_TYPE, NO_VALUE}
 use Rattle.mo_typing.specs.Kinds.{accepts, kind_of}
 use Rattle.mo_typing.specs.Indices.{Index}
 use Rattle.mo_typing.specs.Subscripts.{Checked}
-use Rattle.mo_eval.specs.declared.reader.Layers.{Layers}
+use Rattle.mo_values.specs.declared.layers.Layered.{Layered}
 use Rattle.mo_values.specs.declared.value.Value.{Value}
 use Rattle.mo_values.specs.Scalars.{Known, if_it_has, value_with}
 use Rattle.mo_eval.specs.Virtuals.{Element, Resolved, known_at}
@@ -25,7 +25,7 @@ bound_in read want place pending resolved =
     and_then (layered (λ got. accepts want got place) (fitted place pending) resolved.expression) (λ _. known_at read resolved pending)
 
 -- whether a binding with these layers is of the wanted kind and fits its pending indices
-abbrev pub fits_layers : Kind → Place → Index → Layers → Checked
+abbrev pub fits_layers : Kind → Place → Index → Layered → Checked
 fits_layers want place pending layers = and_then (accepts want layers.kind place) (λ _. fitted place pending layers.dims)
 
 -- what an element without a binding has: a constant that is replaced breaks rule 28 at the reference

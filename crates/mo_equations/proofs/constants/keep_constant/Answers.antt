@@ -23,6 +23,7 @@ kept_more world desk row constants is one e =
           leaves = is.leaves;
           constants = subst (λ (xs : List KeptConstant). (k : ℕ) (kept : KeptConstant) → slice_get xs k ≡ Some kept → IsConstantKept world desk.leaves kept) (sym e) (each_pushed (IsConstantKept world desk.leaves) desk.constants row is.constants one);
           binding = is.binding;
+          read = is.read;
           shared = is.shared;
           asked = is.asked;
         };

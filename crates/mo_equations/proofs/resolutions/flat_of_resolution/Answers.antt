@@ -17,7 +17,7 @@ returns-in_err-answer-clause-exact c =
     let stop = c.in_err-answer.field-0.0 in
     let p : c.from_residual.result ≡ Err stop = search rules in
     rw p (flat_at_unlayered (table_in c.args.s.now) a.left (replacing_in c.args.s.now c.args.desk.now.leaves a.left) (wanted_of a.layers.want a.layers.place) (fit_of a.layers.fit a.layers.place)
-    (scope_in (frames_of c.args.s.now) a.at.now.frame.0 a.at.now.iters) a.value.now a.index.now (resolved_seen (frames_of c.args.s.now) c.args.resolution.now.resolved) stop c.requires.is (rw c.layered_so.ensures at c.in_err-answer.ensures))
+    (scope_in (frames_of c.args.s.now) a.at.now.frame.0 a.at.now.iters) a.value.now a.index.now (resolved_seen (frames_of c.args.s.now) c.args.resolution.now.resolved) stop c.requires.is (rw (c.layered_so.ensures c.args.resolution.now.resolved.expression c.requires.resolution.layers) at c.in_err-answer.ensures))
 
 pub flat_of_array-requires-clause-there : goal.flat_of_array-requires-clause-there
 flat_of_array-requires-clause-there c = rw c.as_slice.ensures c.requires.resolution.there
@@ -30,7 +30,7 @@ returns-clause-exact c =
     let a = c.args.asked.now in
     let r = resolved_seen (frames_of c.args.s.now) c.args.resolution.now.resolved in
     flat_at_then (table_in c.args.s.now) a.left (replacing_in c.args.s.now c.args.desk.now.leaves a.left) (wanted_of a.layers.want a.layers.place) (fit_of a.layers.fit a.layers.place)
-    (scope_in (frames_of c.args.s.now) a.at.now.frame.0 a.at.now.iters) a.value.now a.index.now r c.flat_of_array.result c.requires.is (rw c.layered_so.ensures at c.in_ok-answer.ensures)
+    (scope_in (frames_of c.args.s.now) a.at.now.frame.0 a.at.now.iters) a.value.now a.index.now r c.flat_of_array.result c.requires.is (rw (c.layered_so.ensures c.args.resolution.now.resolved.expression c.requires.resolution.layers) at c.in_ok-answer.ensures)
     (subst (λ (n : ℕ). Answers IsFlat c.flat_of_array.result (flat_element (replacing_in c.args.s.now c.args.desk.now.leaves n) r a.index.now)) (sym c.requires.left) (rw c.as_slice.ensures at c.flat_of_array.ensures.exact))
 
 pub returns-clause-resolution : goal.returns-clause-resolution

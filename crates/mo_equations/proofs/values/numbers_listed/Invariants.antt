@@ -14,6 +14,6 @@ use Rattle.mo_equations.proofs.values.numbers_listed.Given as goal
 abbrev pub invariant-loop-k : goal.invariant-loop-k
 invariant-loop-k l =
     Stays l.initial.s l.s l.initial.desk l.desk
-    × AreThere l.s l.resolved.virtuals
-    × (Left (λ n. and_then (known_of (table_in l.initial.s) most_references (resolved_seen (frames_of l.initial.s) l.resolved) (n ∷ [])) (must_be_whole l.place)) (numbers_to l.size) l.k l.made
-    ≡ numbers_of (known_of (table_in l.initial.s) most_references (resolved_seen (frames_of l.initial.s) l.resolved)) l.place l.size)
+    × AreThere l.s l.bound.resolved.virtuals
+    × (Left (λ n. and_then (known_of (table_in l.initial.s) most_references (resolved_seen (frames_of l.initial.s) l.bound.resolved) (n ∷ [])) (must_be_whole l.place)) (numbers_to l.size) l.k l.made
+    ≡ numbers_of (known_of (table_in l.initial.s) most_references (resolved_seen (frames_of l.initial.s) l.bound.resolved)) l.place l.size)

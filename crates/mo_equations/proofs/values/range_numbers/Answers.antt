@@ -22,6 +22,10 @@ pub returns-in-Range-clause-stays : goal.returns-in-Range-clause-stays
 returns-in-Range-clause-stays c =
     reads c.args.s.now c.resolved_for_value.new.s c.args.desk.now c.resolved_for_value.new.self c.resolved_for_value.ensures.grows c.resolved_for_value.ensures.kept c.requires.desk
 
+pub returns-in_err-layers-clause-stays : goal.returns-in_err-layers-clause-stays
+returns-in_err-layers-clause-stays c =
+    reads c.args.s.now c.resolved_for_value.new.s c.args.desk.now c.resolved_for_value.new.self c.resolved_for_value.ensures.grows c.resolved_for_value.ensures.kept c.requires.desk
+
 pub returns-in-Range-clause-exact : goal.returns-in-Range-clause-exact
 returns-in-Range-clause-exact c =
     let r = resolved_seen (frames_of c.resolved_for_value.new.s) c.in_ok-resolved.resolved in
@@ -35,5 +39,6 @@ returns-in-Range-clause-exact c =
 pub numbers_listed-requires : goal.numbers_listed-requires
 numbers_listed-requires c = record {
   there = c.in_ok-resolved.ensures.there;
+  layers = c.in_ok-layers.ensures.layers;
   desk = (reads c.args.s.now c.resolved_for_value.new.s c.args.desk.now c.resolved_for_value.new.self c.resolved_for_value.ensures.grows c.resolved_for_value.ensures.kept c.requires.desk).goes.desk;
 }

@@ -14,6 +14,7 @@ returns-clause-desk c = record {
   leaves = c.in_ok-leaves.ensures.is;
   constants = λ k kept at. absurd (let clash : ◌≡◌ {A = Option KeptConstant} None (Some kept) = rw c.new-constants.ensures at at in cc);
   binding = tt;
+  read = tt;
   shared = subst (Every (IsShared c.args.s.now c.in_ok-leaves.leaves)) (sym c.new.ensures.items) tt;
   asked = c.place_of_root-asked.ensures c.args.s.now ∙ ap (λ (is : List InstanceAt). place_of_root (tree_with c.args.s.now is)) (sym c.in_ok-leaves.ensures.instances);
 }

@@ -1,6 +1,6 @@
 -- What is answered of the calls of components.rt.
 use Rattle.mo_eval.proofs.Bindings.{bound_is, child_halts, picked_exists, unbound_is, value_by_bound}
-use Rattle.mo_eval.proofs.Bound.{bound_at, is_binding, with_layers_still}
+use Rattle.mo_eval.proofs.OneBinding.{bound_at, is_binding, with_layers_still}
 use Rattle.mo_eval.proofs.Growing.{gives_as, gives_halt, same_elements}
 use Rattle.mo_eval.proofs.Grown.{binding_still, is_there_still, kept_still, member_still, same_element, same_table}
 use Rattle.mo_eval.proofs.Layering.{by_fit}
