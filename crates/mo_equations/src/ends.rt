@@ -30,8 +30,8 @@ use crate::standing::{copied_step, path_of_element};
 use crate::table::same_step;
 use mo_eval::{Ended, Selected};
 use mo_flat::{ArrayExpr, ArrayNode, Connect, End, EndLeaf, Side, Subscript};
-use mo_lookup::{child_of_member, enter_component, find_declared};
-use mo_names::{Found, Reached, find_element};
+use mo_lookup::{child_of_member, enter_component, find_declared, find_element};
+use mo_names::{Found, Reached};
 use mo_scope::{Member, ScopeAt, Scopes, Sort, copied};
 use mo_syntax::{
     Boxed, InstancePath, Kind, List, NoMemory, Part, Place, Reference, Stop, pushed, rules, stop,

@@ -19,7 +19,7 @@ ghost use Rattle.mo_equations.specs.steps.Placing.{AreFrames, AreParts, GivesPar
 use crate::desk::Desk;
 use crate::forms::{Site, made_section};
 use crate::made::Made;
-use mo_names::walk_of;
+use mo_lookup::walk_of;
 use mo_scope::{Instance, ScopeAt, Scopes};
 use mo_syntax::{Body, ClassDef, Equation, FrameId, Item, List, NoMemory, Stop, rules, stop};
 use std::alloc::Global;

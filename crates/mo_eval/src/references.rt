@@ -34,8 +34,8 @@ use crate::resolve::Site;
 use crate::selections::{Selection, selections};
 use crate::virtuals::{Element, Virtual};
 use mo_flat::{ArrayNode, Subscript};
-use mo_lookup::enter_component;
-use mo_names::{Found, walk_of};
+use mo_lookup::{enter_component, walk_of};
+use mo_names::Found;
 use mo_scope::{Declares, Member, Scopes, Sort, copied};
 use mo_syntax::{
     Broken, ClassId, Kind, List, NoMemory, Place, Reference, Stop, Vary, broken, rules,

@@ -18,9 +18,9 @@ ghost use Rattle.mo_instance.specs.steps.Walks.{IsWalkOrNone, walk_or_none};
 
 use crate::first_pass::first_pass;
 use crate::profile::{in_profile, is_partial_short, replaces_inherited, whole_class};
-use mo_lookup::first_base;
+use mo_lookup::{first_base, walk_of};
 use mo_mods::merge;
-use mo_names::{Walk, walk_of};
+use mo_names::Walk;
 use mo_redeclare::check_redeclared;
 use mo_scope::Scopes;
 use mo_syntax::{FrameId, List, Place, Stop};

@@ -5,3 +5,5 @@ pub mod Owners
 pub mod Paths
 pub mod TypeSizes
 pub mod Written
+mod OwnedWalks
+mod Settling

@@ -11,7 +11,7 @@ ghost use Rattle.mo_scope.specs.Worlds.{Grows, IsFrame, frame_at, table_in};
 ghost use Rattle.mo_lookup.specs.steps.Leaves.{base_if_leaf as leaf_if_leaf};
 ghost use Rattle.mo_lookup.specs.Bases.{IsLeafBase, first_base_at};
 
-use mo_names::{base_of, walk_of};
+use crate::element_list::{base_of, walk_of};
 use mo_scope::{Part, Scopes};
 use mo_syntax::{FrameId, NoMemory, Stop};
 use std::alloc::Global;

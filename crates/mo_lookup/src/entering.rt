@@ -13,9 +13,8 @@ ghost use Rattle.mo_names.specs.Children.{IsChild, class_child as child_of_class
 ghost use Rattle.mo_names.specs.Sights.{IsMember};
 ghost use Rattle.mo_names.specs.Calls.{element_child_at, named_child_at, IsComponentFrame, component_entered_at};
 
-use mo_names::{
-    Child, Reached, class_named_at, entered_class, find_element, name_copied, names_copied,
-};
+use crate::free::{class_named_at, find_element};
+use mo_names::{Child, Reached, entered_class, name_copied, names_copied};
 use mo_scope::{Declares, Member, Redeclaration, ScopeAt, Scopes, Sort};
 use mo_syntax::{
     Component, FrameId, InstancePath, List, NoMemory, Place, Stop, Text, pushed, rules, stop,

@@ -9,8 +9,9 @@ ghost use Rattle.mo_scope.specs.Sights.{scope_at};
 ghost use Rattle.mo_names.specs.Sights.{IsFound, found_at};
 ghost use Rattle.mo_names.specs.Calls.{first_found_at, first_declared_at};
 
+use crate::free::first_at;
 use crate::outer::stands_for;
-use mo_names::{Found, first_at};
+use mo_names::Found;
 use mo_scope::{ScopeAt, Scopes, is_constant};
 use mo_syntax::{Place, Stop, Text, rules, stop};
 use std::alloc::Global;

@@ -13,7 +13,8 @@ ghost use Rattle.mo_names.specs.Children.{IsComponent, component_seen, first_inn
 ghost use Rattle.mo_names.specs.Sights.{IsFound, IsInherited, IsMember, inherited_seen, found_at};
 ghost use Rattle.mo_names.specs.Calls.{inner_component_at};
 
-use mo_names::{Found, Inherited, elements_kept_at};
+use crate::free::elements_kept_at;
+use mo_names::{Found, Inherited};
 use mo_scope::{Member, MemberTable, Scopes, is_class, is_same_path};
 use mo_syntax::{FrameId, Place, Stop, rules, stop};
 use std::alloc::Global;

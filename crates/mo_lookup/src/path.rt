@@ -11,9 +11,10 @@ ghost use Rattle.mo_names.specs.Sights.{IsFound, IsMember, found_at};
 ghost use Rattle.mo_names.specs.Calls.{next_found_at, found_path_at};
 
 use crate::entering::enter_component;
+use crate::free::{behind_class_at, class_named_at, find_element};
 use crate::lookup::{find_first, taken};
 use crate::outer::stands_for;
-use mo_names::{Found, Reached, behind_class_at, class_named_at, find_element};
+use mo_names::{Found, Reached};
 use mo_scope::{Member, ScopeAt, Scopes, is_class};
 use mo_syntax::{FrameId, Part, Place, Reference, Stop, Text, rules, stop};
 use std::alloc::Global;

@@ -11,13 +11,11 @@ pub mod Listing
 pub mod MembersExist
 pub mod Naming
 pub mod Outcomes
-pub mod OwnedWalks
 pub mod OwnElements
 pub mod OwnFirst
 pub mod OwnNamed
 pub mod Reading
 pub mod Redeclaring
-pub mod Settling
 pub mod Tables
 pub mod Twins
 pub mod Walking

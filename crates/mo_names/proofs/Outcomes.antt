@@ -1,5 +1,6 @@
 -- Outcomes, one after another, and answers that are told of them.
 use Rattle.std.proofs.Common.{◌≡◌, Result, Ok, Err, sym, subst, ◌∙◌}
+use Rattle.std.specs.Prelude.{IfOk, IsErrAnd}
 use Rattle.mo_syntax.specs.Outcome.{Outcome, and_then}
 use Rattle.mo_syntax.specs.declared.place.Stop.{Stop}
 use Rattle.mo_scope.specs.Outcome.{Gives}
@@ -17,3 +18,8 @@ gives_same view r o all same value = subst (Gives view r) same value
 -- what follows from a value
 pub then_same_ok : {A B : Type 0} (o o' : Outcome A) (f : A → Outcome B) (a : A) (all : Outcome B) → o ≡ o' → and_then o' f ≡ all → o ≡ Ok a → f a ≡ all
 then_same_ok o o' f a all same is ok = then_ok o' f a all is (sym same ∙ ok)
+
+-- an exit tells nothing of a value
+pub at_exit : {T E : Type 0} (P : T → Type 0) (Q : E → Type 0) (r : Result T E) → IsErrAnd r Q → IfOk r P
+at_exit P Q (Ok x) h = absurd h
+at_exit P Q (Err e) h = tt

@@ -3,5 +3,4 @@ pub mod Bases
 pub mod Joins
 pub mod Lookup
 pub mod Parts
-pub mod Settled
 pub mod Twins

@@ -100,7 +100,7 @@ fn found_near<'t>(
 
 /// The first identifier of a name; a leading dot starts at the top.
 #[cycle(names)]
-pub(crate) fn found_first<'t>(
+pub fn found_first<'t>(
     alloc: Global,
     s: &mut Scopes<'t>,
     ask: &Ask,
@@ -253,7 +253,7 @@ fn class_behind(
 
 /// The class that the name of a type, a base or a constraining class finds.
 #[cycle(names)]
-pub(crate) fn class_named(
+pub fn class_named(
     alloc: Global,
     s: &mut Scopes,
     ask: &Ask,
@@ -307,7 +307,7 @@ fn base_class(
 
 /// The base frame of an extends clause.
 #[cycle(names)]
-pub(crate) fn base_found<'t>(
+pub fn base_found<'t>(
     alloc: Global,
     s: &mut Scopes<'t>,
     ask: &Ask,

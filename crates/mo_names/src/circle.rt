@@ -30,7 +30,7 @@ use std::alloc::Global;
 
 /// The elements of a frame. A class whose bases are being found breaks rule 18 where they are asked for again.
 #[cycle(names)]
-pub(crate) fn walked<'t>(
+pub fn walked<'t>(
     alloc: Global,
     s: &mut Scopes<'t>,
     ask: &Ask,
@@ -79,7 +79,7 @@ pub(crate) fn walked_and_kept<'t>(
 /// What a name reaches: among the elements of a frame the own ones come first, and its bases are found only where none of them
 /// has the name.
 #[cycle(names)]
-pub(crate) fn reached<'t>(
+pub fn reached<'t>(
     alloc: Global,
     s: &mut Scopes<'t>,
     ask: &Ask,
@@ -170,7 +170,7 @@ fn counted_given<'t>(
 
 /// What stands behind a class.
 #[cycle(names)]
-pub(crate) fn behind_class<'t>(
+pub fn behind_class<'t>(
     alloc: Global,
     s: &mut Scopes<'t>,
     ask: &Ask,

@@ -56,7 +56,7 @@ pub struct Classed {
 /// How the elements of frames are asked: how many classes may still have their bases found, the classes whose bases are being
 /// found, the place that asks, and how deep the calls stand.
 #[derive(Clone, Copy)]
-pub(crate) struct Ask<'a> {
+pub struct Ask<'a> {
     pub left: usize,
     pub busy: &'a [u32],
     pub place: Place,

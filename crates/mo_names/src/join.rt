@@ -50,7 +50,7 @@ pub(crate) fn with_member<'t>(
 }
 
 /// A list from its end.
-pub(crate) fn turned<T: Drop>(list: List<T>) -> List<T>
+pub fn turned<T: Drop>(list: List<T>) -> List<T>
     ensures { result ≡ reverse list }
 {
     let mut items = list.into_vec();
@@ -256,7 +256,7 @@ fn all_sections(
 
 /// What a base adds to the elements before: elements, bases, sections, and a leaf as those of a walk.
 #[derive(Drop)]
-pub(crate) struct Added<'t> {
+pub struct Added<'t> {
     pub members: List<Inherited<'t>>,
     pub bases: List<List<FrameId>>,
     pub sections: List<List<FrameId>>,
@@ -341,7 +341,7 @@ fn with_added<'t>(s: &Scopes<'t>, added: Added<'t>, so_far: &mut Walk<'t>) -> Re
 }
 
 /// The elements of a walk without their names.
-pub(crate) fn without_names<'t>(walk: Walk<'t>) -> Added<'t>
+pub fn without_names<'t>(walk: Walk<'t>) -> Added<'t>
     ensures is { (frames : Seq Frame) → added_seen frames result ≡ walk_seen frames walk.entry }
     ensures stand { (world : World) → IsWalk world walk.entry → IsAdded world result }
 {
@@ -361,7 +361,7 @@ pub(crate) fn without_names<'t>(walk: Walk<'t>) -> Added<'t>
 }
 
 /// The elements of a base behind those before. A base that is met again counts once, with all that it inherits.
-pub(crate) fn with_elements<'t>(
+pub fn with_elements<'t>(
     alloc: Global,
     s: &Scopes<'t>,
     hidden: bool,

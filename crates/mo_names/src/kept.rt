@@ -128,10 +128,7 @@ pub(crate) fn kept_package(s: &Scopes, ask: &Ask, frame: FrameId) -> Option<bool
 }
 
 /// The elements that are held, without the base frames on the way to them.
-pub(crate) fn members_held<'t>(
-    alloc: Global,
-    held: &[Inherited<'t>],
-) -> Result<List<Member<'t>>, NoMemory>
+pub fn members_held<'t>(alloc: Global, held: &[Inherited<'t>]) -> Result<List<Member<'t>>, NoMemory>
     ensures { IfOk result (λ made. made ≡ map (λ inherited. inherited.member) held.now) }
 {
     let mut made = List::new(alloc);
@@ -153,7 +150,7 @@ fn table_of<'t>(alloc: Global, members: &[Member<'t>]) -> Result<MemberTable<'t>
 }
 
 /// Keeps the elements of a frame.
-pub(crate) fn elements_kept<'t>(
+pub fn elements_kept<'t>(
     alloc: Global,
     s: &mut Scopes<'t>,
     frame: FrameId,
@@ -170,7 +167,7 @@ pub(crate) fn elements_kept<'t>(
 
 /// Keeps the elements of a frame that a walk has found, where these are those that it has where no class is having its bases found, and none
 /// are kept.
-pub(crate) fn walk_kept<'t>(
+pub fn walk_kept<'t>(
     alloc: Global,
     s: &mut Scopes<'t>,
     ask: &Ask,

@@ -16,7 +16,7 @@ use mo_syntax::{FrameId, List, Stop};
 use std::alloc::Global;
 
 /// An element of its own that the class of a frame declares, put behind those before.
-pub(crate) fn own_walked<'t>(
+pub fn own_walked<'t>(
     alloc: Global,
     s: &Scopes<'t>,
     frame: FrameId,

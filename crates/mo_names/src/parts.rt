@@ -11,20 +11,20 @@ use mo_syntax::ClassId;
 
 /// A part of a class, with its place among the parts.
 #[derive(Clone, Copy)]
-pub(crate) struct NumberedPart<'t> {
+pub struct NumberedPart<'t> {
     pub at: usize,
     pub part: Part<'t>,
 }
 
 /// An extends clause, with its place among the parts of its class.
 #[derive(Clone, Copy)]
-pub(crate) struct NumberedClause<'t> {
+pub struct NumberedClause<'t> {
     pub at: usize,
     pub clause: Clause<'t>,
 }
 
 /// How many parts a class has, none where it is predefined.
-pub(crate) fn part_count(s: &Scopes, class: ClassId) -> usize
+pub fn part_count(s: &Scopes, class: ClassId) -> usize
     ensures { result ≡ length (parts_of (row_at (table_in s.now) class.0)) }
 {
     match s.row(class) {
@@ -34,7 +34,7 @@ pub(crate) fn part_count(s: &Scopes, class: ClassId) -> usize
 }
 
 /// The part of a class with so many before it.
-pub(crate) fn part_at<'t>(s: &Scopes<'t>, class: ClassId, at: usize) -> NumberedPart<'t>
+pub fn part_at<'t>(s: &Scopes<'t>, class: ClassId, at: usize) -> NumberedPart<'t>
     requires { at < length (parts_of (row_at (table_in s.now) class.0)) }
     ensures at { result.at ≡ at }
     ensures is { slice_get (parts_of (row_at (table_in s.now) class.0)) at ≡ Some (part_seen result.part) }

@@ -351,7 +351,7 @@ pub(crate) fn iteration(iterations: &[(Text, i64)], name: &Text) -> Option<i64>
 }
 
 /// Whether the class of a frame is encapsulated.
-pub(crate) fn is_closed(s: &Scopes, frame: FrameId) -> bool
+pub fn is_closed(s: &Scopes, frame: FrameId) -> bool
     requires { IsFrame s.now frame.0 }
     ensures { result ≡ is_closed_frame (table_in s.now) (frame_at s.now frame.0) }
 {

@@ -117,7 +117,7 @@ fn nothing<'t>(alloc: Global, leaf: Option<FrameId>) -> Result<Walk<'t>, NoMemor
 }
 
 /// What the elements of a frame begin with.
-pub(crate) fn started<'t>(alloc: Global, s: &Scopes<'t>, frame: FrameId) -> Result<Walk<'t>, Stop>
+pub fn started<'t>(alloc: Global, s: &Scopes<'t>, frame: FrameId) -> Result<Walk<'t>, Stop>
     requires { IsFrame s.now frame.0 }
     ensures value { Gives (walk_at s.now) result (walk_started (frame_at s.now frame.0) (row_of_frame s.now frame.0)) }
     ensures stand { IfOk result (IsWalk s.now) }
@@ -148,7 +148,7 @@ fn elements_checked(s: &Scopes, _leaf: FrameId, walk: &Walk) -> Result<(), Stop>
 }
 
 /// Asks that no leaf type has elements.
-pub(crate) fn leaf_checked(s: &Scopes, walk: &Walk) -> Result<(), Stop>
+pub fn leaf_checked(s: &Scopes, walk: &Walk) -> Result<(), Stop>
     ensures { Gives (λ _. walk_at s.now walk.now) result (checked_leaf (walk_at s.now walk.now)) }
 {
     match walk.leaf {
@@ -195,7 +195,7 @@ pub fn name_copied(alloc: Global, name: &Text, index: &[u32]) -> Result<(Text, L
 }
 
 /// A copy of the path of a frame.
-pub(crate) fn path_copied(
+pub fn path_copied(
     alloc: Global,
     path: Option<&InstancePath>,
 ) -> Result<Option<InstancePath>, NoMemory>
@@ -208,7 +208,7 @@ pub(crate) fn path_copied(
 }
 
 /// The frame that owns what is a base of a frame: that frame, if it has a path or an owner.
-pub(crate) fn owner_of(s: &Scopes, frame: FrameId) -> Option<FrameId>
+pub fn owner_of(s: &Scopes, frame: FrameId) -> Option<FrameId>
     requires { IsFrame s.now frame.0 }
     ensures is { frame_at_or_top s.now result ≡ owner_of_base (frame_at s.now frame.0) }
     ensures exists { IsFrameOrNone s.now (option_map number_of result) }
@@ -223,7 +223,7 @@ pub(crate) fn owner_of(s: &Scopes, frame: FrameId) -> Option<FrameId>
 }
 
 /// Whether a frame has no path and no owner.
-pub(crate) fn is_unowned(s: &Scopes, frame: FrameId) -> bool
+pub fn is_unowned(s: &Scopes, frame: FrameId) -> bool
     requires { IsFrame s.now frame.0 }
     ensures path { result ≡ true → at_of (frame_at s.now frame.0) ≡ None }
     ensures owner { result ≡ true → owner_of_base (frame_at s.now frame.0) ≡ Top }

@@ -42,7 +42,7 @@ pub fn type_name(class: ClassId) -> Option<&'static str>
 }
 
 /// The frame of a class that is only looked up.
-pub(crate) fn looked_up_class<'t>(
+pub fn looked_up_class<'t>(
     alloc: Global,
     s: &mut Scopes<'t>,
     class: ClassId,

@@ -20,5 +20,5 @@ pub struct Walk<'t> {
     pub sections: List<List<FrameId>>,
     pub leaf: Option<FrameId>,
     /// The names of the elements. They are held apart, since walks inside one another stand on the stack.
-    pub(crate) names: Box<Names<'t>>,
+    pub names: Box<Names<'t>>,
 }

@@ -14,7 +14,8 @@ ghost use Rattle.mo_redeclare.specs.Calls.{compatible_at};
 
 use crate::entering::entered_matching;
 use crate::known::{is_open_component, named, open_components};
-use mo_names::{Inherited, Walk, walk_of};
+use mo_lookup::walk_of;
+use mo_names::{Inherited, Walk};
 use mo_scope::{Member, MemberTable, Scopes, extend};
 use mo_syntax::{FrameId, List, NoMemory, Place, Stop, rules, stop};
 use std::alloc::Global;

@@ -1,6 +1,6 @@
 -- The world grows with the frame of the class.
 use Rattle.mo_names.proofs.Later.{is_frame_later}
-use Rattle.mo_names.proofs.OwnedWalks.{at_exit}
+use Rattle.mo_names.proofs.Outcomes.{at_exit}
 use Rattle.mo_lookup.proofs.entering.class_child.Goals as goal
 
 pub entered_class-requires : goal.entered_class-requires

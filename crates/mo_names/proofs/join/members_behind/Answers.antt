@@ -2,7 +2,7 @@
 use Rattle.std.proofs.Common.{sym, subst}
 use Rattle.mo_names.specs.Sights.{AreThrough, IsInherited}
 use Rattle.mo_names.proofs.Joining.{every_turned}
-use Rattle.mo_names.proofs.OwnedWalks.{at_exit}
+use Rattle.mo_names.proofs.Outcomes.{at_exit}
 use Rattle.mo_names.proofs.join.members_behind.Goals as goal
 
 pub inherited_through-requires-clause-inherited : goal.inherited_through-requires-clause-inherited

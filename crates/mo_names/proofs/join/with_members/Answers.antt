@@ -4,7 +4,7 @@ use Rattle.mo_scope.specs.Lookup.{with_members}
 use Rattle.mo_scope.specs.Worlds.{frames_of}
 use Rattle.mo_names.specs.Sights.{IsInherited, inherited_seen, walk_at}
 use Rattle.mo_names.proofs.Joining.{every_turned, members_go_on}
-use Rattle.mo_names.proofs.OwnedWalks.{at_exit}
+use Rattle.mo_names.proofs.Outcomes.{at_exit}
 use Rattle.mo_names.proofs.join.with_members.Goals as goal
 
 pub loop-next-init : goal.loop-next-init

@@ -1,6 +1,0 @@
--- The frames grow by the calls on the way.
-use Rattle.mo_names.proofs.Later.{grows_refl}
-use Rattle.mo_names.proofs.free.elements_by_walk.Goals as goal
-
-pub returns-in_err-class_count-clause-grows : goal.returns-in_err-class_count-clause-grows
-returns-in_err-class_count-clause-grows c = grows_refl _
